@@ -1,0 +1,5 @@
+pub mod ChainSteps
+pub mod Checksums
+pub mod Decisions
+pub mod KeyTexts
+pub mod Paths

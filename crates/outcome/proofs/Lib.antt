@@ -1,0 +1,2 @@
+pub mod ByteLists
+pub mod Steps

@@ -1,0 +1,58 @@
+-- The words by which contracts speak of refusals.
+-- A call is compared with what is expected of it: a function on lists, which has no memory to run out of.
+-- `memory` is the variant of the call's faults that says that memory ran out.
+use Rattle.std.specs.Prelude.{◌≡◌, ◌⊎◌, Result, Ok, Err}
+
+-- ---- what is expected
+
+-- One step, and then another on its value: the first fault ends the sequence.
+infixl 10 ◌>>=◌
+abbrev pub ◌>>=◌ : {A B E : Type 0} → Result A E → (A → Result B E) → Result B E
+(Ok x) >>= f = f x
+(Err e) >>= f = Err e
+
+-- The same value, or a lower crate's fault under its name in an upper crate.
+abbrev pub told_as : {A E F : Type 0} → (E → F) → Result A E → Result A F
+told_as tell (Ok x) = Ok x
+told_as tell (Err e) = Err (tell e)
+
+-- ---- what a call did
+
+-- The fault is the expected one, unless it says that memory ran out.
+abbrev pub Fails : {Y E : Type 0} → E → E → Result Y E → Type 0
+Fails memory e expected = (e ≡ memory) ⊎ (expected ≡ Err e)
+
+-- The call returned, seen by view, the expected value or fault, unless memory ran out.
+abbrev pub Gives : {X Y E : Type 0} → E → (X → Y) → Result X E → Result Y E → Type 0
+Gives memory view (Ok x) expected = expected ≡ Ok (view x)
+Gives memory view (Err e) expected = Fails memory e expected
+
+-- The call left the expected state; or it refused with the expected fault, unless memory ran out, and left the old state.
+abbrev pub Leaves : {X Y E : Type 0} → E → Result X E → Y → Y → Result Y E → Type 0
+Leaves memory (Ok x) old new expected = expected ≡ Ok new
+Leaves memory (Err e) old new expected = (new ≡ old) × Fails memory e expected
+
+-- The call took the expected value, seen by view, off the front of what a reader had, and the reader has the rest left;
+-- or it refused with the expected fault, unless memory ran out.
+abbrev pub Took : {X Y Rest E : Type 0} → E → (X → Y) → Result X E → Rest → Result (Y × Rest) E → Type 0
+Took memory view (Ok x) left expected = expected ≡ Ok (view x, left)
+Took memory view (Err e) left expected = Fails memory e expected
+
+-- As Took, for a call that takes no memory: its fault is the expected one, and the reader's place is then unchanged.
+abbrev pub Reads : {X Y Rest E : Type 0} → (X → Y) → Result X E → Rest → Rest → Result (Y × Rest) E → Type 0
+Reads view (Ok x) old new expected = expected ≡ Ok (view x, new)
+Reads view (Err e) old new expected = (expected ≡ Err e) × (new ≡ old)
+
+-- ---- laws of the words, which `laws` proves
+
+-- A step that fails makes the whole sequence fail in the same way.
+abbrev pub FaultsEndSequences : (A B E : Type 0) → Type 0
+FaultsEndSequences A B E = (memory e : E) (step : Result A E) (next : A → Result B E) → Fails memory e step → Fails memory e (step >>= next)
+
+-- A fault fails in the same way under its upper name, where the two names of "out of memory" agree.
+abbrev pub FaultsAreTold : (A E F : Type 0) → Type 0
+FaultsAreTold A E F = (tell : E → F) (low : E) (memory : F) (e : E) (step : Result A E) → tell low ≡ memory → Fails low e step → Fails memory (tell e) (told_as tell step)
+
+-- A sequence has a value only where each of its steps has one.
+abbrev pub ValuesComeOfValues : (A B E : Type 0) → Type 0
+ValuesComeOfValues A B E = (step : Result A E) (next : A → Result B E) (y : B) → (step >>= next) ≡ Ok y → (x : A) × (step ≡ Ok x) × (next x ≡ Ok y)

@@ -1,0 +1,10 @@
+//! The error of a refused allocation, and the words by which contracts speak of refusals.
+//!
+//! `specs/Outcome.antt` has the words. A call that can run out of memory is compared by them with a function on
+//! lists that cannot: "the answer is the expected one, unless memory ran out" is one word in every crate.
+#![tactic(auto)]
+
+pub use laws::{faults_are_told, faults_end_sequences, values_come_of_values};
+pub use std::alloc::AllocError as Memory;
+
+mod laws;
