@@ -1,0 +1,3 @@
+pub mod DirectoryTexts
+pub mod ReadNodes
+pub mod Statements

@@ -1,0 +1,18 @@
+//! Directories of nodes with their public keys, and the statements that nodes sign.
+//!
+//! [`Directory::from_bytes`] reads exactly the texts of directories, and tells the leftmost fault of all others.
+//! [`Authenticator::is_valid`] answers true exactly where the node is listed and its key verifies the statement.
+#![tactic(auto)]
+
+pub use authenticator::Authenticator;
+pub use directory::Directory;
+pub use fault::DirectoryFault;
+pub use node::NodeId;
+
+mod authenticator;
+mod directory;
+mod fault;
+pub mod laws;
+mod node;
+#[cfg(test)]
+mod tests;
