@@ -1,5 +1,10 @@
 pub mod ChainSteps
 pub mod Checksums
 pub mod Decisions
+pub mod Joined
+pub mod JoinedEnds
 pub mod KeyTexts
+pub mod NodeHashes
+pub mod OrderedChains
 pub mod Paths
+pub mod SignedTexts

@@ -1,15 +1,11 @@
-//! Chains of hashes, and the one-time public key of their ends (RFC 8554, sections 4.3 and 4.6).
+//! One chain of hashes (RFC 8554, section 4.3).
 
 ghost use Rattle.std.specs.Prelude.{◌≡◌, ◌-◌, ◌*◌, ◌≤◌, length, take, drop};
-ghost use Rattle.lms_sign.specs.OneTimeSignature.{chain, chain_ends, chain_place, key_hash};
-ghost use Rattle.lms_sign.specs.Parameters.{chain_count};
+ghost use Rattle.lms_sign.specs.OneTimeSignature.{chain_place};
+ghost use Rattle.sha256_lanes.specs.HashChain.{chain};
 
-use crate::coefficients::coefficient;
-use crate::text::{hash_at, put};
-use crate::types::OtsType;
+use crate::text::put;
 use sha2::{Digest, Sha256};
-
-const D_PBLC: [u8; 2] = [0x80, 0x80];
 
 /// The text that each step hashes: 16 bytes of I, 4 of q, 2 of i, one of the step, 32 of the value.
 /// It is one block of SHA-256, and it is updated in place.
@@ -29,7 +25,14 @@ fn run_chain(text: &mut [u8; STEP_LEN], from: u8, to: u8)
 }
 
 /// The value after the steps from `from` to before `to` of chain `i`, in the last 32 bytes.
-fn chain_text(id: &[u8; 16], q: u32, i: u16, from: u8, to: u8, value: &[u8]) -> [u8; STEP_LEN]
+pub(crate) fn chain_text(
+    id: &[u8; 16],
+    q: u32,
+    i: u16,
+    from: u8,
+    to: u8,
+    value: &[u8],
+) -> [u8; STEP_LEN]
     requires order { from ≤ to }
     requires len { length value.now ≡ 32 }
     ensures { drop 23 result ≡ chain (chain_place id.now q i) from (to - from) value.now }
@@ -41,29 +44,4 @@ fn chain_text(id: &[u8; 16], q: u32, i: u16, from: u8, to: u8, value: &[u8]) -> 
     put(&mut text, 20, &i.to_be_bytes());
     run_chain(&mut text, from, to);
     text
-}
-
-/// K of a signature's chains, where `text` is the digest and its checksum and `ys` begins with the chains' values.
-#[tactic(auto, unfolding(crate::specs::OneTimeSignature::chain_ends))]
-pub(crate) fn key_of_chains(
-    id: &[u8; 16],
-    q: u32,
-    ots: OtsType,
-    text: &[u8; 34],
-    ys: &[u8],
-) -> [u8; 32]
-    requires { 32 * chain_count ots ≤ length ys.now }
-    ensures { result ≡ key_hash id.now q (chain_ends ots id.now q text.now ys.now (chain_count ots)) }
-{
-    let mut hasher = Sha256::new();
-    hasher.update(id);
-    hasher.update(q.to_be_bytes());
-    hasher.update(D_PBLC);
-    for i in 0..ots.chain_count() {
-        let start = coefficient(text, i, ots);
-        let value = hash_at(ys, 32 * usize::from(i));
-        let end = chain_text(id, q, i, start, ots.last_step(), value);
-        hasher.update(&end[23..]);
-    }
-    hasher.finalize()
 }

@@ -1,18 +1,27 @@
 //! LMS signatures (RFC 8554) with SHA-256 and hashes of 32 bytes.
 //!
 //! [`verify`] answers true exactly where the bytes are a signature of the message under the key, as RFC 8554 defines
-//! it, for any bytes at all. [`PublicKey::from_bytes`] reads exactly the 56-byte texts of keys.
+//! it, for any bytes at all. [`PublicKey::from_bytes`] reads exactly the 56-byte texts of keys. [`SecretKey`] is made of
+//! a seed and signs: a signature is the RFC's text by a leaf that has not signed yet, and it verifies under the public
+//! key.
 //! `specs/` has the definitions, in the RFC's terms.
 #![tactic(auto)]
 
 pub use key::{KeyFault, PublicKey};
+pub use secret_key::{MakeFault, SecretKey, SignFault};
 pub use types::{LmsType, OtsType};
 pub use verification::verify;
 
+mod chain_ends;
+mod chain_groups;
+mod chain_order;
 mod chains;
 mod coefficients;
 mod key;
 pub mod laws;
+mod making;
+mod secret_key;
+mod signature_text;
 #[cfg(test)]
 mod tests;
 mod text;

@@ -1,5 +1,5 @@
 use Rattle.std.proofs.Common.{◌≡◌, ◌-◌, take, drop}
-use Rattle.lms_sign.specs.OneTimeSignature.{chain}
+use Rattle.sha256_lanes.specs.HashChain.{chain}
 use Rattle.lms_sign.proofs.chains.run_chain.Given as goal
 
 abbrev pub invariant-loop-j : goal.invariant-loop-j
