@@ -1,8 +1,7 @@
 -- Spellings and readings, put together part by part: what is read is spelled so, and what is spelled so is read.
 -- `IsField at text Fits` says both of one part of a format. The kinds of field of `FieldReader` stand in `FieldKinds`,
 -- lists of parts in `ListFields`, and formats that take all of the bytes in `WholeTexts`.
-use Rattle.std.proofs.Common.{◌≡◌, ℕ, Bool, true, false, cond, List, [], ◌∷◌, ◌++◌, Result, Ok, Err, refl, sym, ap, subst, ◌∙◌, append_assoc}
-use Rattle.std.proofs.lemmas.List.{append-nil}
+use Rattle.std.proofs.Common.{◌≡◌, ℕ, Bool, false, cond, List, ◌++◌, Result, Ok, Err, refl, sym, ap, subst, ◌∙◌, append_assoc}
 use Rattle.outcome.specs.Bytes.{IsBytes}
 use Rattle.outcome.specs.Outcome.{◌>>=◌, told_as}
 use Rattle.outcome.proofs.Steps.{bind_ok, told_ok, guard_false, Ok-inj}

@@ -99,7 +99,7 @@ bytes_taken most bytes text rest fits e =
     let joined = Takes-then bytes (to_be_bytes w32 a.0.0) a.0.1 text rest n.0 b.taken in
     (subst (λ (k : ℕ). Takes bytes (to_be_bytes w32 k ++ text) rest) (sym b.fits.count) joined, record { each = b.fits.each; count = rw b.fits.count below })
 
-bytes_again : (most : ℕ) (text rest : List ℕ) → most < 2 ^ 32 → length text ≤ most → bytes_at most (bytes_text text ++ rest) ≡ Ok (text, rest)
+pub bytes_again : (most : ℕ) (text rest : List ℕ) → most < 2 ^ 32 → length text ≤ most → bytes_at most (bytes_text text ++ rest) ≡ Ok (text, rest)
 bytes_again most text rest small le =
     let below : ltb most (length text) ≡ false = le-ltb _ _ le in
     let lt : length text < 2 ^ 32 = omega arith in

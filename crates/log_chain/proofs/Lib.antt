@@ -1,5 +1,9 @@
+pub mod Chains
 pub mod Codec
 pub mod FieldKinds
+pub mod Finds
 pub mod ListFields
+pub mod OneReading
 pub mod PartsLoop
+pub mod Rises
 pub mod WholeTexts

@@ -1,6 +1,6 @@
 -- Parts of one kind read one after the other, as a loop reads them.
 -- The invariant of such a loop over i of count parts is `with_front front (parts_at at (count - i) bytes) ≡ total`.
-use Rattle.std.proofs.Common.{◌≡◌, ℕ, suc, ◌-◌, ◌+◌, ◌≤◌, ◌<◌, List, [], ◌∷◌, ◌++◌, Result, Ok, Err, refl, sym, ap, ◌∙◌, append_assoc, arith, inl, inr}
+use Rattle.std.proofs.Common.{◌≡◌, ℕ, suc, ◌-◌, ◌+◌, ◌≤◌, ◌<◌, List, [], ◌∷◌, ◌++◌, Ok, Err, refl, sym, ap, ◌∙◌, append_assoc, arith, inl, inr}
 use Rattle.std.proofs.lemmas.List.{append-nil}
 use Rattle.outcome.specs.Outcome.{◌>>=◌, Fails}
 use Rattle.log_chain.specs.Fields.{Read, parts_at}

@@ -1,5 +1,5 @@
 -- Formats that take all of the bytes, and what a contract says of a call that reads one.
-use Rattle.std.proofs.Common.{◌≡◌, ℕ, Bool, true, false, cond, eqb, List, [], ◌++◌, length, Result, Ok, Err, refl, sym, ap, subst, ◌∙◌}
+use Rattle.std.proofs.Common.{◌≡◌, ℕ, cond, eqb, List, [], ◌++◌, length, Result, Ok, Err, sym, ap, subst, ◌∙◌}
 use Rattle.std.specs.Prelude.{IfOk}
 use Rattle.std.proofs.lemmas.Bool.{eqb-true}
 use Rattle.std.proofs.lemmas.List.{append-nil, nil_from_length}
@@ -7,7 +7,7 @@ use Rattle.outcome.specs.Bytes.{IsBytes}
 use Rattle.outcome.specs.Outcome.{◌>>=◌, Gives}
 use Rattle.outcome.proofs.Steps.{bind_ok, guard_true, Ok-inj}
 use Rattle.log_chain.specs.Fields.{Read}
-use Rattle.log_chain.proofs.Codec.{Takes, IsField}
+use Rattle.log_chain.proofs.Codec.{IsField}
 
 -- A format of whole texts: what is read is spelled so, and what fits and is spelled so is read.
 pub record IsWhole {Y E : Type 0} (read : List ℕ → Result Y E) (text : Y → List ℕ) (Fits : Y → Type 0) : Type 0 where
@@ -49,3 +49,29 @@ found_of whole memory view (Err f) bytes fits e = tt
 pub only_of : {X Y E : Type 0} {read : List ℕ → Result Y E} {text : Y → List ℕ} {Fits : Y → Type 0} → IsWhole read text Fits → (memory : E) (view : X → Y) (result : Result X E) (bytes : List ℕ) (y : Y)
     → Fits y → bytes ≡ text y → Gives memory view result (read bytes) → Gives memory view result (Ok y)
 only_of {E = E} {read = read} whole memory view result bytes y fits is e = subst (Gives memory view result) (ap read is ∙ whole.again y fits) e
+
+-- a value that is made of all that is read
+abbrev pub made_of : {P Y E : Type 0} → (P → Y) → (List ℕ → Result P E) → List ℕ → Result Y E
+made_of {P} {Y} {E} make read bytes = read bytes >>= λ p. let made : Result Y E = Ok (make p) in made
+
+-- A struct of its parts, as `struct_of` for a format of whole texts.
+pub whole_struct_of : {P Y E : Type 0} {read_parts : List ℕ → Result P E} {text_parts : P → List ℕ} {FitsParts : P → Type 0}
+    (read : List ℕ → Result Y E) (text : Y → List ℕ) (Fits : Y → Type 0) (make : P → Y) (parts : Y → P)
+    → ((p : P) → parts (make p) ≡ p) → ((y : Y) → make (parts y) ≡ y)
+    → ((bytes : List ℕ) → read bytes ≡ made_of make read_parts bytes) → ((y : Y) → text_parts (parts y) ≡ text y)
+    → ((y : Y) → FitsParts (parts y) → Fits y) → ((y : Y) → Fits y → FitsParts (parts y))
+    → IsWhole read_parts text_parts FitsParts → IsWhole read text Fits
+whole_struct_of {P = P} {Y = Y} {E = E} {read_parts = read_parts} {text_parts = text_parts} {FitsParts = FitsParts} read text Fits make parts there back reads spells to from whole = record {
+  takes = λ bytes y fits e.
+      let a = bind_ok (read_parts bytes) (λ p. let made : Result Y E = Ok (make p) in made) y (sym (reads bytes) ∙ e) in
+      let t = whole.takes bytes a.0 fits a.1 in
+      let is : a.0 ≡ parts (make a.0) = sym (there a.0) in
+      let front : bytes ≡ text (make a.0) = t.0 ∙ ap text_parts is ∙ spells (make a.0) in
+      let fit : Fits (make a.0) = to (make a.0) (subst FitsParts is t.1) in
+      subst (λ (z : Y). (bytes ≡ text z) × Fits z) (Ok-inj {E = E} (make a.0) y a.2) (front, fit);
+  again = λ y fits.
+      ap read (sym (spells y))
+      ∙ reads (text_parts (parts y))
+      ∙ ap (λ (r : Result P E). r >>= λ p. let made : Result Y E = Ok (make p) in made) (whole.again (parts y) (from y fits))
+      ∙ ap (λ (z : Y). Ok z) (back y);
+}

@@ -18,6 +18,11 @@ bytes_text bytes = to_be_bytes w32 (length bytes) ++ bytes
 abbrev pub counted_text : {A : Type 0} → (A → List ℕ) → List A → List ℕ
 counted_text text xs = to_be_bytes w32 (length xs) ++ flat_map text xs
 
+-- A call wrote the text behind what was written before; or memory ran out, and what was written is as it was.
+abbrev pub Writes : {A E : Type 0} → Result A E → List ℕ → List ℕ → List ℕ → Type 0
+Writes (Ok done) old new text = new ≡ old ++ text
+Writes (Err memory) old new text = new ≡ old
+
 -- ---- what has a spelling
 
 -- A text of so many bytes.

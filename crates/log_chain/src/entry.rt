@@ -1,33 +1,68 @@
-//! Entries and their hashes.
+//! Entries of a log, and their hashes.
 
-ghost use Rattle.std.specs.Prelude.{◌≡◌};
-ghost use Rattle.log_chain.specs.Chain.{chain_end, entry_hash};
+ghost use Rattle.std.specs.Prelude.{◌≡◌, ◌+◌, ◌≤◌, ◌++◌, IfOk, length, take};
+ghost use Rattle.log_chain.specs.Chain.{chain_end, entry_hash, entry_text};
 
 use crate::byte_string::ByteString;
 use crate::hash::Hash;
+use outcome::Memory;
 use sha2::{Digest, Sha256};
+use std::alloc::Global;
 
 /// An entry of a log.
 #[derive(Debug, Drop, PartialEq, Eq)]
 pub struct Entry {
+    /// Its number. The numbers of a log rise strictly; there may be gaps.
     pub seq: u64,
+    /// What its content is: 1 INIT, 2 SEND, 3 RECV, 4 TIMER, 5 CHECKPOINT. The chain takes any byte.
     pub kind: u8,
+    /// Its content.
     pub content: ByteString,
 }
 
-/// The hash of an entry after a hash.
+impl Entry {
+    /// A copy.
+    pub fn try_clone(&self, alloc: Global) -> Result<Entry, Memory>
+        ensures { IfOk result (λ e. e ≡ self.now) }
+    {
+        let content = self.content.try_clone(alloc)?;
+        Ok(Entry {
+            seq: self.seq,
+            kind: self.kind,
+            content,
+        })
+    }
+}
+
+/// Writes the bytes into a text from a place on.
+fn put(text: &mut [u8], place: usize, bytes: &[u8])
+    requires { place + length bytes.now ≤ length text.old }
+    ensures { take (place + length bytes.now) text.new ≡ take place text.old ++ bytes.now }
+{
+    text[place..place + bytes.len()].copy_from_slice(bytes);
+}
+
+/// The text that is hashed for an entry. Of the content only its digest is taken.
+pub(crate) fn hashed_text(prev: Hash, entry: &Entry) -> [u8; 73]
+    ensures { result ≡ entry_text prev entry.now }
+{
+    let digest = Sha256::digest(entry.content.as_slice());
+    let mut text = [0u8; 73];
+    put(&mut text, 0, &prev.0);
+    put(&mut text, 32, &entry.seq.to_be_bytes());
+    put(&mut text, 40, &[entry.kind]);
+    put(&mut text, 41, &digest);
+    text
+}
+
+/// The hash of an entry after the hash before it: one digest of its content, and one of 73 bytes. It takes no memory.
 pub fn entry_hash(prev: Hash, entry: &Entry) -> Hash
     ensures { result ≡ entry_hash prev entry.now }
 {
-    let mut hasher = Sha256::new();
-    hasher.update(prev.0);
-    hasher.update(entry.seq.to_be_bytes());
-    hasher.update([entry.kind]);
-    hasher.update(Sha256::digest(entry.content.as_slice()));
-    Hash(hasher.finalize())
+    Hash(Sha256::digest(hashed_text(prev, entry)))
 }
 
-/// The hash of the last entry, or `prev` where there is none.
+/// The hash of the last entry after the hash `prev` before the first, or `prev` where there is none. It takes no memory.
 pub fn chain_end(prev: Hash, entries: &[Entry]) -> Hash
     ensures { result ≡ chain_end prev entries.now }
 {

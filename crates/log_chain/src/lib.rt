@@ -1,16 +1,33 @@
-//! The fields of the binary formats, and the chain of hashes of a log (PeerReview, SOSP 2007).
+//! The fields of the binary formats, the chain of hashes of a log, and logs that keep it (PeerReview, SOSP 2007).
+//!
+//! - `FieldReader` reads a field as `specs/Fields.antt` says, and a refusal leaves its place. `FieldWriter` writes the
+//!   fields' texts one behind the other. `proofs/Codec.antt` and the files beside it put both together for formats.
+//! - `entry_hash` and `chain_end` are those of `specs/Chain.antt`; `laws` has what follows of the definitions alone.
+//! - `SecureHistory` keeps each entry's hash, takes only numbers that rise, and cuts segments.
 #![tactic(auto)]
 
 pub use byte_string::ByteString;
 pub use entry::{Entry, chain_end, entry_hash};
-pub use fault::FieldFault;
+pub use entry_list::EntryList;
+pub use fault::{AppendFault, FieldFault, SegmentFault};
 pub use field_reader::FieldReader;
+pub use field_writer::FieldWriter;
 pub use hash::{Hash, base_hash};
+pub use laws::{
+    chains_go_on, chains_grow, entry_texts_have_one_reading, equal_lists_end_alike,
+    fields_read_back, hashes_are_whole, parts_rise,
+};
+pub use secure_history::{AppendRefused, SecureHistory};
 
 mod byte_string;
 mod entry;
+mod entry_list;
 mod fault;
 mod field_reader;
+mod field_writer;
+mod finding;
 mod hash;
+mod laws;
+mod secure_history;
 #[cfg(test)]
 mod tests;

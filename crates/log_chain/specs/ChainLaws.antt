@@ -1,0 +1,41 @@
+-- Laws of the chain of hashes. `laws` proves each.
+use Rattle.std.specs.Prelude.{◌≡◌, ℕ, ◌<◌, ◌^◌, List, [], ◌∷◌, ◌++◌, length}
+use Rattle.sha2.specs.Sha256.{sha256}
+use Rattle.log_chain.specs.declared.entry.Entry.{Entry}
+use Rattle.log_chain.specs.Chain.{entry_text, entry_hash, hashes, chain_end, Rising}
+
+-- The chain of a list that is cut in two goes on from the end of the first part.
+abbrev pub ChainsGoOn : Type 0
+ChainsGoOn = (prev : List ℕ) (front back : List Entry)
+    → (chain_end prev (front ++ back) ≡ chain_end (chain_end prev front) back)
+    × (hashes prev (front ++ back) ≡ hashes prev front ++ hashes (chain_end prev front) back)
+
+-- The end of a list with one entry more is that entry's hash after the end of the list.
+abbrev pub ChainsGrow : Type 0
+ChainsGrow = (prev : List ℕ) (es : List Entry) (e : Entry) → chain_end prev (es ++ e ∷ []) ≡ entry_hash (chain_end prev es) e
+
+-- A hash has 32 bytes, and so has an end after 32 bytes; each entry has one hash.
+abbrev pub HashesAreWhole : Type 0
+HashesAreWhole = (prev : List ℕ) (es : List Entry)
+    → ((e : Entry) → length (entry_hash prev e) ≡ 32)
+    × (length prev ≡ 32 → length (chain_end prev es) ≡ 32)
+    × (length (hashes prev es) ≡ length es)
+
+-- Equal lists after equal hashes have equal ends.
+abbrev pub EqualListsEndAlike : Type 0
+EqualListsEndAlike = (prev prev' : List ℕ) (es es' : List Entry) → prev ≡ prev' → es ≡ es' → chain_end prev es ≡ chain_end prev' es'
+
+-- Each part of a list whose numbers rise has numbers that rise.
+abbrev pub PartsRise : Type 0
+PartsRise = (front back : List Entry) → Rising (front ++ back) → Rising front × Rising back
+
+-- Two entries have the same number and kind, contents with one digest, and the same hash before them.
+pub record SameStamp (p q : List ℕ) (e f : Entry) : Type 0 where
+  pub prev : p ≡ q
+  pub seq : e.seq ≡ f.seq
+  pub kind : e.kind ≡ f.kind
+  pub content : sha256 e.content ≡ sha256 f.content
+
+-- The text that is hashed for an entry has one reading.
+abbrev pub EntryTextsHaveOneReading : Type 0
+EntryTextsHaveOneReading = (p q : List ℕ) (e f : Entry) → length p ≡ 32 → length q ≡ 32 → e.seq < 2 ^ 64 → f.seq < 2 ^ 64 → entry_text p e ≡ entry_text q f → SameStamp p q e f

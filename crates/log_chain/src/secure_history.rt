@@ -1,0 +1,182 @@
+//! Secure histories.
+
+ghost use Rattle.std.specs.Prelude.{◌≡◌, ◌≢◌, ◌<◌, ◌≤◌, [], IfErr, IfOk, IsOk, None, Ok, OnErr, OnOk, length, take};
+ghost use Rattle.outcome.specs.Outcome.{Fails, Gives};
+ghost use Rattle.log_chain.specs.declared.fault.AppendFault.TheVariants as refusal;
+ghost use Rattle.log_chain.specs.declared.fault.SegmentFault.TheVariants as fault;
+ghost use Rattle.log_chain.specs.Chain.{Rising, base, chain_end};
+ghost use Rattle.log_chain.specs.History.{append_fault, appended, grown, hash_at, last_stamp, roomy, segment_of};
+
+use crate::byte_string::ByteString;
+use crate::entry::{Entry, entry_hash};
+use crate::entry_list::EntryList;
+use crate::fault::{AppendFault, SegmentFault};
+use crate::finding::{append_fault, place_of, segment_places, stands_at};
+use crate::hash::{Hash, base_hash};
+use outcome::Memory;
+use std::alloc::Global;
+use std::marker::Model;
+
+/// A log that only grows, with the hash of each entry beside it.
+///
+/// A contract sees the hash before the first entry, the entries, and for how many more entries there is room.
+#[derive(Debug, Drop)]
+pub struct SecureHistory {
+    alloc: Global,
+    prev: Hash,
+    entries: Vec<Entry>,
+    hashes: Vec<Hash>,
+    room: usize,
+}
+
+impl Model for SecureHistory {
+    ghost use Rattle.log_chain.specs.History.{History};
+
+    ghost Value = { History };
+
+    ghost use Rattle.log_chain.specs.Keeping.{IsKept, seen};
+
+    ghost view = { seen };
+
+    ghost invariant = { IsKept };
+}
+
+/// A refused entry: why, and the content that was to be its.
+#[derive(Debug, Drop)]
+pub struct AppendRefused {
+    pub fault: AppendFault,
+    pub content: ByteString,
+}
+
+impl SecureHistory {
+    /// A history with no entry, after the base hash. It takes no memory.
+    pub fn new(alloc: Global) -> SecureHistory
+        ensures { result ≡ record { prev = base; entries = []; room = 0 } }
+    {
+        SecureHistory {
+            alloc,
+            prev: base_hash(),
+            entries: Vec::new(alloc),
+            hashes: Vec::new(alloc),
+            room: 0,
+        }
+    }
+
+    /// Makes room, so that the next `n` appends find memory.
+    pub fn reserve(&mut self, n: usize) -> Result<(), Memory>
+        ensures ok { OnOk result (self.new ≡ roomy self.old n) }
+        ensures err { OnErr result (self.new ≡ self.old) }
+        ensures held { n ≤ self.old.room → IsOk result }
+    {
+        self.entries.reserve(n)?;
+        self.hashes.reserve(n)?;
+        if self.room < n {
+            self.room = n;
+        }
+        Ok(())
+    }
+
+    /// For how many more entries there is room for certain. Where it is above 0, an append does not run out of
+    /// memory, and lowers it by one.
+    pub fn spare(&self) -> usize
+        ensures { result ≡ self.now.room }
+    {
+        self.room
+    }
+
+    /// The entries, whose numbers rise.
+    pub fn entries(&self) -> &[Entry]
+        ensures entries { result.now ≡ self.now.entries }
+        ensures rising { Rising self.now.entries }
+    {
+        self.entries.as_slice()
+    }
+
+    /// The last entry's number and hash.
+    pub fn last(&self) -> Option<(u64, Hash)>
+        ensures { result ≡ last_stamp self.now }
+    {
+        let last = self.entries.last()?;
+        Some((last.seq, self.end()))
+    }
+
+    /// The hash of the entry with the number, if there is one. It is looked up by binary search, and no hash is
+    /// computed.
+    pub fn hash_at(&self, seq: u64) -> Option<Hash>
+        ensures { result ≡ hash_at self.now seq }
+    {
+        let place = place_of(&self.entries, seq);
+        if !stands_at(&self.entries, seq, place) {
+            return None;
+        }
+        Some(self.hash_before(place + 1))
+    }
+
+    /// The hash before the entry numbered `from`, and copies of the entries from there up to the one numbered `to`.
+    /// They are looked up by binary search, and no hash is computed.
+    pub fn segment(&self, from: u64, to: u64) -> Result<(Hash, EntryList), SegmentFault>
+        ensures { Gives fault.Memory (λ x. x) result (segment_of self.now from to) }
+    {
+        let (start, end) = segment_places(&self.entries, from, to)?;
+        let entries = EntryList::from_slice(self.alloc, &self.entries[start..end])?;
+        Ok((self.hash_before(start), entries))
+    }
+
+    /// Adds an entry at the end, and gives its hash. A refusal gives the content back.
+    pub fn append(&mut self, seq: u64, kind: u8, content: ByteString) -> Result<Hash, AppendRefused>
+        ensures appended { OnOk result (appended self.old (record { seq = seq; kind = kind; content = content }) ≡ Ok self.new) }
+        ensures hash { IfOk result (λ hash. hash ≡ chain_end self.new.prev self.new.entries) }
+
+        // A refusal changes nothing. Where there is room, it is not for want of memory.
+        ensures refused { IfErr result (λ r. Fails refusal.Memory r.fault (appended self.old (record { seq = seq; kind = kind; content = content }))) }
+        ensures content { IfErr result (λ r. r.content ≡ content) }
+        ensures unchanged { OnErr result (self.new ≡ self.old) }
+        ensures room { 0 < self.old.room → IfErr result (λ r. r.fault ≢ refusal.Memory) }
+    {
+        let entry = Entry { seq, kind, content };
+        if let Some(fault) = append_fault(&self.entries, &entry) {
+            let content = entry.content;
+            return Err(AppendRefused { fault, content });
+        }
+        if self.reserve(1).is_err() {
+            let content = entry.content;
+            return Err(AppendRefused {
+                fault: AppendFault::Memory,
+                content,
+            });
+        }
+        Ok(self.push(entry))
+    }
+
+    /// Adds an entry that is allowed, in room that is there.
+    fn push(&mut self, entry: Entry) -> Hash
+        requires room { 0 < self.old.room }
+        requires allowed { append_fault self.old.entries entry ≡ None }
+        ensures grown { self.new ≡ grown self.old entry }
+        ensures hash { result ≡ chain_end self.new.prev self.new.entries }
+    {
+        let hash = entry_hash(self.end(), &entry);
+        self.entries.push_reserved(entry);
+        self.hashes.push_reserved(hash);
+        self.room -= 1;
+        hash
+    }
+
+    /// The hash before the entry at a place.
+    fn hash_before(&self, place: usize) -> Hash
+        requires { place ≤ length self.now.entries }
+        ensures { result ≡ chain_end self.now.prev (take place self.now.entries) }
+    {
+        if place == 0 {
+            return self.prev;
+        }
+        self.hashes[place - 1]
+    }
+
+    /// The hash of the last entry, or the one before the first.
+    fn end(&self) -> Hash
+        ensures { result ≡ chain_end self.now.prev self.now.entries }
+    {
+        self.hash_before(self.entries.len())
+    }
+}
