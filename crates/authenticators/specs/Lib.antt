@@ -1,3 +1,4 @@
 pub mod Directory
 pub mod DirectoryText
 pub mod Statement
+pub mod StatementSet

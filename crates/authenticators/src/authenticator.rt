@@ -27,19 +27,26 @@ fn statement_text(seq: u64, hash: Hash) -> [u8; 40]
     text
 }
 
+impl Directory {
+    /// Whether the node is listed and its key verifies `sig` as a signature of the 40 bytes of number and hash. It takes no
+    /// memory, and the signature may be lent from a longer text.
+    pub fn verifies(&self, node: NodeId, seq: u64, hash: Hash, sig: &[u8]) -> bool
+        ensures exact { IsTrue result ↔ Signed self.now node seq hash sig.now }
+        ensures test { result ≡ is_signed self.now node seq hash sig.now }
+    {
+        match self.key_of(node) {
+            None => false,
+            Some(key) => verify(key, &statement_text(seq, hash), sig),
+        }
+    }
+}
+
 impl Authenticator {
     /// Whether the node is listed and its key verifies the signature of the 40 bytes of number and hash. It takes no memory.
     pub fn is_valid(&self, directory: &Directory) -> bool
         ensures exact { IsTrue result ↔ Signed directory.now self.now.node self.now.seq self.now.hash self.now.sig }
         ensures test { result ≡ is_signed directory.now self.now.node self.now.seq self.now.hash self.now.sig }
     {
-        match directory.key_of(self.node) {
-            None => false,
-            Some(key) => verify(
-                key,
-                &statement_text(self.seq, self.hash),
-                self.sig.as_slice(),
-            ),
-        }
+        directory.verifies(self.node, self.seq, self.hash, self.sig.as_slice())
     }
 }

@@ -2,17 +2,22 @@
 //!
 //! [`Directory::from_bytes`] reads exactly the texts of directories, and tells the leftmost fault of all others.
 //! [`Authenticator::is_valid`] answers true exactly where the node is listed and its key verifies the statement.
+//! [`AuthenticatorStore`] keeps a set of statements, and finds those of a node by number and two that are in conflict.
 #![tactic(auto)]
 
 pub use authenticator::Authenticator;
+pub use authenticator_store::{AuthenticatorStore, InsertRefused};
 pub use directory::Directory;
 pub use fault::DirectoryFault;
 pub use node::NodeId;
 
 mod authenticator;
+mod authenticator_store;
 mod directory;
 mod fault;
 pub mod laws;
 mod node;
+#[cfg(test)]
+mod store_tests;
 #[cfg(test)]
 mod tests;

@@ -1,4 +1,4 @@
-use Rattle.std.proofs.Common.{◌≡◌, ◌-◌, ◌+◌, [], ℕ, List, sym, subst, ◌∙◌, Result, arith}
+use Rattle.std.proofs.Common.{◌-◌, ◌+◌, ℕ, List, sym, subst, ◌∙◌, Result}
 use Rattle.std.proofs.lemmas.Result.{err_from_is_err_and}
 use Rattle.lms_sign.specs.declared.key.PublicKey.{PublicKey}
 use Rattle.authenticators.specs.declared.fault.DirectoryFault.{DirectoryFault}

@@ -1,0 +1,151 @@
+//! A set of statements.
+
+ghost use Rattle.std.specs.Prelude.{◌≡◌, ◌↔◌, ◌⊎◌, false, [], IfOk, IfErr, OnOk, OnErr, IfNone, IfSome, Contains, ◌==◌, ◌&&◌, ◌||◌, nat_lt, nat_le};
+ghost use Rattle.authenticators.specs.declared.authenticator.Authenticator.{Authenticator};
+ghost use Rattle.authenticators.specs.StatementSet.{Conflict, IsAscending, IsAt, IsInRange, IsPart, NoConflict, NoConflictOf};
+
+use crate::authenticator::Authenticator;
+use crate::node::NodeId;
+use std::alloc::Global;
+use std::marker::Model;
+
+/// A statement that could not be put into a store, since a growth was refused.
+#[derive(Debug, Drop)]
+pub struct InsertRefused(pub Authenticator);
+
+/// A set of statements. A contract sees the list of those that are held, each once; callers need no more of it than which
+/// statements it contains.
+///
+/// The statements stand in one vector, ascending by node, number, hash and signature. A look-up is a binary search. An
+/// insert finds its place so too, and then moves what stands behind it: it takes time that grows with the number of
+/// statements held.
+#[derive(Drop)]
+pub struct AuthenticatorStore {
+    held: Vec<Authenticator>,
+}
+
+impl Model for AuthenticatorStore {
+    ghost use Rattle.std.specs.Prelude.{List};
+    ghost use Rattle.authenticators.specs.declared.authenticator.Authenticator.{Authenticator};
+    ghost use Rattle.authenticators.specs.StatementSet.{IsAscending};
+
+    ghost Value = { List Authenticator };
+
+    ghost view = { λ s. s.held.items };
+
+    ghost invariant = { λ s. IsAscending s.held.items };
+}
+
+impl AuthenticatorStore {
+    /// A store with no statement. It takes no memory.
+    pub fn new(alloc: Global) -> AuthenticatorStore
+        ensures { result ≡ [] }
+    {
+        AuthenticatorStore {
+            held: Vec::new(alloc),
+        }
+    }
+
+    /// Puts a statement into the set, and answers whether it is new. It checks no signature. Where a growth is refused, and
+    /// only there, the statement is given back and the store is as it was.
+    pub fn insert(&mut self, authenticator: Authenticator) -> Result<bool, InsertRefused>
+        ensures told { IfOk result (λ new. (new ≡ false) ↔ Contains self.old authenticator) }
+        ensures added { OnOk result ((x : Authenticator) → Contains self.new x ↔ (Contains self.old x ⊎ (x ≡ authenticator))) }
+        ensures given_back { IfErr result (λ refused. refused.0 ≡ authenticator) }
+        ensures unchanged { OnErr result (self.new ≡ self.old) }
+    {
+        insert(&mut self.held, authenticator)
+    }
+
+    /// The statements of the node with this number, ascending by hash and signature. It takes no memory.
+    pub fn at(&self, node: NodeId, seq: u64) -> &[Authenticator]
+        ensures { IsPart (IsAt node seq) self.now result.now }
+    {
+        self.range(node, seq, seq)
+    }
+
+    /// The statements of the node with the numbers `from` to `to`, both included, ascending by number, hash and signature:
+    /// none where `from` is above `to`. It takes no memory.
+    pub fn range(&self, node: NodeId, from: u64, to: u64) -> &[Authenticator]
+        ensures { IsPart (IsInRange node from to) self.now result.now }
+    {
+        range(&self.held, node, from, to)
+    }
+
+    /// Two statements of the node with one number and two hashes, where there are such: the node keeps more than one log, if
+    /// the two are valid. It looks once at each statement of the node, and takes no memory.
+    pub fn conflict(&self, node: NodeId) -> Option<(&Authenticator, &Authenticator)>
+        ensures none { IfNone result (NoConflictOf node self.now) }
+        ensures two { IfSome result (λ pair. Contains self.now pair.0.now × Contains self.now pair.1.now × (pair.0.now.node ≡ node) × Conflict pair.0.now pair.1.now) }
+    {
+        first_conflict(of_node(&self.held, node))
+    }
+}
+
+fn insert(
+    held: &mut Vec<Authenticator>,
+    authenticator: Authenticator,
+) -> Result<bool, InsertRefused>
+    requires { IsAscending held.old.items }
+    ensures told { IfOk result (λ new. (new ≡ false) ↔ Contains held.old.items authenticator) }
+    ensures added { OnOk result ((x : Authenticator) → Contains held.new.items x ↔ (Contains held.old.items x ⊎ (x ≡ authenticator))) }
+    ensures given_back { IfErr result (λ refused. refused.0 ≡ authenticator) }
+    ensures unchanged { OnErr result (held.new.items ≡ held.old.items) }
+    ensures ascending { IsAscending held.new.items }
+{
+    let Err(place) = held.binary_search(&authenticator) else {
+        return Ok(false);
+    };
+    if let Err(refused) = held.insert(place, authenticator) {
+        return Err(InsertRefused(refused.value));
+    }
+    Ok(true)
+}
+
+/// Whether the statement stands before all of the node with this number.
+fn is_before(a: &Authenticator, node: NodeId, seq: u64) -> bool
+    ensures { result ≡ (nat_lt a.now.node node || ((a.now.node == node) && nat_lt a.now.seq seq)) }
+{
+    a.node < node || (a.node == node && a.seq < seq)
+}
+
+/// Whether the statement stands before all of the node with a greater number.
+fn is_up_to(a: &Authenticator, node: NodeId, seq: u64) -> bool
+    ensures { result ≡ (nat_lt a.now.node node || ((a.now.node == node) && nat_le a.now.seq seq)) }
+{
+    a.node < node || (a.node == node && a.seq <= seq)
+}
+
+fn range(held: &[Authenticator], node: NodeId, from: u64, to: u64) -> &[Authenticator]
+    requires { IsAscending held.now }
+    ensures { IsPart (IsInRange node from to) held.now result.now }
+{
+    let start = held.partition_point(|a| is_before(a, node, from));
+    let end = held.partition_point(|a| is_up_to(a, node, to));
+    &held[start..end.max(start)]
+}
+
+fn of_node(held: &[Authenticator], node: NodeId) -> &[Authenticator]
+    requires { IsAscending held.now }
+    ensures { IsPart (λ x. x.node ≡ node) held.now result.now }
+{
+    let start = held.partition_point(|a| a.node < node);
+    let end = held.partition_point(|a| a.node <= node);
+    &held[start..end.max(start)]
+}
+
+fn first_conflict(held: &[Authenticator]) -> Option<(&Authenticator, &Authenticator)>
+    requires ascending { IsAscending held.now }
+    requires one_node { (a b : Authenticator) → Contains held.now a → Contains held.now b → a.node ≡ b.node }
+    ensures none { IfNone result (NoConflict held.now) }
+    ensures two { IfSome result (λ pair. Contains held.now pair.0.now × Contains held.now pair.1.now × Conflict pair.0.now pair.1.now) }
+{
+    for i in 1..held.len() {
+        let a = &held[i - 1];
+        let b = &held[i];
+        if a.seq == b.seq && a.hash != b.hash {
+            return Some((a, b));
+        }
+    }
+    None
+}
