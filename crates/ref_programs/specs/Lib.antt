@@ -1,0 +1,4 @@
+pub mod Counters
+pub mod ProgramLaws
+pub mod RelayMeaning
+pub mod TallyMeaning

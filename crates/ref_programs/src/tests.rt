@@ -1,0 +1,157 @@
+//! Steps of the two programs, called through the trait's bound.
+
+use crate::{Relay, Tally};
+use authenticators::NodeId;
+use replay_verifier::{Input, Output, Program, Step};
+use std::alloc::Global;
+use std::test::Fail;
+
+/// A step of any program.
+fn step_of<P: Program>(
+    alloc: Global,
+    program: &P,
+    me: u32,
+    state: &P::State,
+    input: &Input,
+) -> Result<Step<P::State>, Fail> {
+    Ok(program.step(alloc, NodeId(me), state, input)?)
+}
+
+/// Whether the outputs are one message to the node, or none where `to` is 0.
+fn are_to(outputs: &[Output], to: u32, payload: &[u8]) -> bool {
+    match outputs {
+        [] => to == 0,
+        [output] => output.to == NodeId(to) && output.payload.as_slice() == payload,
+        _ => false,
+    }
+}
+
+/// The state in which a program begins, after it was written down and read back.
+fn start_read_back<P: Program<State = u64>>(
+    alloc: Global,
+    program: &P,
+) -> Result<Option<u64>, Fail> {
+    let state = program.start(alloc, NodeId(2))?;
+    let text = program.encode(alloc, &state)?;
+    Ok(program.decode(alloc, &text)?)
+}
+
+/// What a program makes of a number in bytes: the number, and the bytes written again.
+fn state_of<P: Program<State = u64>>(
+    alloc: Global,
+    program: &P,
+    bytes: &[u8],
+) -> Result<Option<(u64, Vec<u8>)>, Fail> {
+    match program.decode(alloc, bytes)? {
+        Some(state) => Ok(Some((state, program.encode(alloc, &state)?))),
+        None => Ok(None),
+    }
+}
+
+#[test]
+fn tally_adds_and_tells_the_sender(rt: HostRuntime) -> Result<(), Fail> {
+    for (total, payload, after, to, told) in [
+        (
+            0,
+            b"A\x00\x00\x00\x00\x00\x00\x00\x05".as_slice(),
+            5,
+            1,
+            b"T\x00\x00\x00\x00\x00\x00\x00\x05".as_slice(),
+        ),
+        (
+            u64::MAX,
+            b"A\x00\x00\x00\x00\x00\x00\x00\x01",
+            u64::MAX,
+            1,
+            b"T\xff\xff\xff\xff\xff\xff\xff\xff",
+        ),
+        (
+            0x0102,
+            b"A\x01\x00\x00\x00\x00\x00\x01\x00",
+            0x0100_0000_0000_0202,
+            1,
+            b"T\x01\x00\x00\x00\x00\x00\x02\x02",
+        ),
+        (7, b"A\x00\x00\x00\x00\x00\x00\x00\x05\x00", 7, 0, b""),
+        (7, b"A\x00\x00\x00\x00\x00\x00\x05", 7, 0, b""),
+        (7, b"B\x00\x00\x00\x00\x00\x00\x00\x05", 7, 0, b""),
+        (7, b"", 7, 0, b""),
+    ] {
+        let input = Input::Recv {
+            from: NodeId(1),
+            payload,
+        };
+        let step = step_of(rt.alloc(), &Tally, 2, &total, &input)?;
+        assert_eq!(rt; step.state, after);
+        assert!(rt; are_to(step.outputs.as_slice(), to, told));
+    }
+    Ok(())
+}
+
+#[test]
+fn relay_counts_and_passes_on(rt: HostRuntime) -> Result<(), Fail> {
+    for (me, count, payload, after, to) in [
+        (1, 0, b"X".as_slice(), 1, 2),
+        (1, 1, b"", 2, 2),
+        (2, u64::MAX, b"XY", u64::MAX, 3),
+        (u32::MAX, 5, b"X", 6, 0),
+    ] {
+        let input = Input::Recv {
+            from: NodeId(2),
+            payload,
+        };
+        let step = step_of(rt.alloc(), &Relay, me, &count, &input)?;
+        assert_eq!(rt; step.state, after);
+        assert!(rt; are_to(step.outputs.as_slice(), to, payload));
+    }
+    Ok(())
+}
+
+#[test]
+fn timers_send_to_the_next_node(rt: HostRuntime) -> Result<(), Fail> {
+    let alloc = rt.alloc();
+    let input = Input::Timer { moment: 10 };
+    for (me, to) in [(1, 2), (u32::MAX - 1, u32::MAX), (u32::MAX, 0)] {
+        let step = step_of(alloc, &Tally, me, &4, &input)?;
+        assert_eq!(rt; step.state, 4);
+        assert!(rt;
+            are_to(
+                step.outputs.as_slice(),
+                to,
+                b"A\x00\x00\x00\x00\x00\x00\x00\x0a"
+            )
+        );
+        let step = step_of(alloc, &Relay, me, &4, &input)?;
+        assert_eq!(rt; step.state, 4);
+        assert!(rt;
+            are_to(
+                step.outputs.as_slice(),
+                to,
+                b"\x00\x00\x00\x00\x00\x00\x00\x0a"
+            )
+        );
+    }
+    Ok(())
+}
+
+#[test]
+fn states_are_numbers_in_eight_bytes(rt: HostRuntime) -> Result<(), Fail> {
+    let alloc = rt.alloc();
+    assert_eq!(rt; start_read_back(alloc, &Tally)?, Some(0));
+    assert_eq!(rt; start_read_back(alloc, &Relay)?, Some(0));
+    let text = b"\x01\x02\x03\x04\x05\x06\x07\x08\x09";
+    for len in [0, 7, 8, 9] {
+        for found in [
+            state_of(alloc, &Tally, &text[..len])?,
+            state_of(alloc, &Relay, &text[..len])?,
+        ] {
+            let Some((state, again)) = found else {
+                assert!(rt; len != 8);
+                continue;
+            };
+            assert_eq!(rt; state, 0x0102_0304_0506_0708);
+            assert!(rt; again.as_slice() == &text[..8]);
+        }
+    }
+    Ok(())
+}

@@ -1,0 +1,2 @@
+pub mod QuoteTexts
+pub mod Runs

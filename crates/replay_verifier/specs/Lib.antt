@@ -1,0 +1,4 @@
+pub mod Conforming
+pub mod Meaning
+pub mod Quotes
+pub mod Sending
