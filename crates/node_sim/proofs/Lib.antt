@@ -1,0 +1,7 @@
+pub mod Contradictions
+pub mod Items
+pub mod LineFeeds
+pub mod Neighbours
+pub mod Nodes
+pub mod Parsing
+pub mod Refused

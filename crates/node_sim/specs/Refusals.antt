@@ -1,0 +1,75 @@
+-- The number and the name of each refusal, and the names of lower crates' refusals here.
+use Rattle.std.specs.Prelude.{ℕ, List, codes}
+use Rattle.log_chain.specs.declared.fault.FieldFault.{FieldFault}
+use Rattle.log_chain.specs.declared.fault.FieldFault.TheVariants as field
+use Rattle.authenticators.specs.declared.fault.DirectoryFault.{DirectoryFault}
+use Rattle.authenticators.specs.declared.fault.DirectoryFault.TheVariants as listing
+use Rattle.node_sim.specs.declared.fault.Fault.{Fault}
+use Rattle.node_sim.specs.declared.fault.Fault.TheVariants as fault
+
+-- The number that is told.
+abbrev pub number_of : Fault → ℕ
+number_of fault.UnknownLmsType = 2
+number_of fault.UnknownOtsType = 3
+number_of fault.DuplicateNode = 20
+number_of fault.DuplicateKey = 21
+number_of fault.TooManyNodes = 22
+number_of fault.DirectoryMagic = 23
+number_of fault.DirectoryTruncated = 24
+number_of fault.DirectoryTrailing = 25
+number_of fault.Truncated = 40
+number_of fault.BadTag = 41
+number_of fault.TooLong = 42
+number_of fault.Trailing = 43
+number_of fault.UnknownNode = 44
+number_of fault.BadSignature = 49
+number_of fault.BadMagic = 60
+number_of fault.NotAscending = 61
+number_of fault.Memory = 99
+number_of fault.ReadFailed = 100
+number_of fault.InputTooLong = 101
+number_of fault.WriteFailed = 102
+number_of fault.BadHex = 103
+number_of fault.LineCount = 104
+
+-- The name that is told.
+abbrev pub name_of : Fault → List ℕ
+name_of fault.UnknownLmsType = codes "UnknownLmsType"
+name_of fault.UnknownOtsType = codes "UnknownOtsType"
+name_of fault.DuplicateNode = codes "DuplicateNode"
+name_of fault.DuplicateKey = codes "DuplicateKey"
+name_of fault.TooManyNodes = codes "TooManyNodes"
+name_of fault.DirectoryMagic = codes "BadMagic"
+name_of fault.DirectoryTruncated = codes "Truncated"
+name_of fault.DirectoryTrailing = codes "Trailing"
+name_of fault.Truncated = codes "Truncated"
+name_of fault.BadTag = codes "BadTag"
+name_of fault.TooLong = codes "TooLong"
+name_of fault.Trailing = codes "Trailing"
+name_of fault.UnknownNode = codes "UnknownNode"
+name_of fault.BadSignature = codes "BadSignature"
+name_of fault.BadMagic = codes "BadMagic"
+name_of fault.NotAscending = codes "NotAscending"
+name_of fault.Memory = codes "Memory"
+name_of fault.ReadFailed = codes "ReadFailed"
+name_of fault.InputTooLong = codes "InputTooLong"
+name_of fault.WriteFailed = codes "WriteFailed"
+name_of fault.BadHex = codes "BadHex"
+name_of fault.LineCount = codes "LineCount"
+
+-- A field's refusal, in a store.
+abbrev pub of_field : FieldFault → Fault
+of_field field.Truncated = fault.Truncated
+of_field field.TooLong = fault.TooLong
+
+-- A directory's refusal.
+abbrev pub of_directory : DirectoryFault → Fault
+of_directory listing.BadMagic = fault.DirectoryMagic
+of_directory listing.Truncated = fault.DirectoryTruncated
+of_directory listing.Trailing = fault.DirectoryTrailing
+of_directory listing.UnknownLmsType = fault.UnknownLmsType
+of_directory listing.UnknownOtsType = fault.UnknownOtsType
+of_directory listing.DuplicateNode = fault.DuplicateNode
+of_directory listing.DuplicateKey = fault.DuplicateKey
+of_directory listing.TooManyNodes = fault.TooManyNodes
+of_directory listing.Memory = fault.Memory

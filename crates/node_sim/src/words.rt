@@ -1,0 +1,62 @@
+//! The words of the command line, read by `clap`.
+
+use crate::fault::Fault;
+use clap::error::ErrorKind;
+use clap::{Arg, ArgAction, Command, Error};
+use std::alloc::Global;
+use std::io;
+
+/// What the words ask for.
+pub enum Asked {
+    Status,
+    /// Memory ran out while the words were read.
+    Refused(Fault),
+    /// A fault of the words, or a request for help: clap's text is on standard error.
+    Other,
+}
+
+/// Reads the words of the command line.
+pub fn read_words(rt: &HostRuntime) -> Asked {
+    let alloc = rt.alloc();
+    let words = match words_of(rt) {
+        Ok(words) => words,
+        Err(error) if error.kind() == io::ErrorKind::OutOfMemory => {
+            return Asked::Refused(Fault::Memory);
+        }
+        Err(error) => {
+            let _ = eprintln!(rt; "error: the words of the command line: {error}");
+            return Asked::Other;
+        }
+    };
+    match parsed(alloc, words.as_slice()) {
+        Ok(()) => Asked::Status,
+        Err(error) if error.kind() == ErrorKind::OutOfMemory => Asked::Refused(Fault::Memory),
+        Err(error) => {
+            let _ = eprint!(rt; "{error}");
+            Asked::Other
+        }
+    }
+}
+
+fn words_of(rt: &HostRuntime) -> io::Result<Vec<String>> {
+    let words = std::env::args(rt)?.collect(rt.alloc())?;
+    Ok(words)
+}
+
+/// The only command is `status`, so words that clap takes ask for it.
+fn parsed(alloc: Global, words: &[String]) -> Result<(), Error> {
+    let relay = Arg::new(alloc, "relay")
+        .long("relay")
+        .action(ArgAction::SetTrue)
+        .help("The nodes run the program Relay, in place of Tally");
+    let status = Command::new(alloc, "status")
+        .about("Reads a directory and a store, and writes what each node is")
+        .arg(relay)?;
+    let command = Command::new(alloc, "node_sim")
+        .about("What evidence says of the nodes of a directory")
+        .subcommand_required(true)
+        .arg_required_else_help(true)
+        .subcommand(status)?;
+    command.try_get_matches_from(words)?;
+    Ok(())
+}
