@@ -1,8 +1,10 @@
 //! Secure histories.
 
-ghost use Rattle.std.specs.Prelude.{◌≡◌, ◌≢◌, ◌<◌, ◌≤◌, [], IfErr, IfOk, IsOk, None, Ok, OnErr, OnOk, length, take};
+ghost use Rattle.std.specs.Prelude.{◌≡◌, ◌≢◌, ◌<◌, ◌≤◌, [], Err, IfErr, IfOk, IsErrAnd, IsOk, None, Ok, OnErr, OnOk, length, take};
 ghost use Rattle.outcome.specs.Outcome.{Fails, Gives};
+ghost use Rattle.log_chain.specs.declared.fault.AppendFault.{AppendFault};
 ghost use Rattle.log_chain.specs.declared.fault.AppendFault.TheVariants as refusal;
+ghost use Rattle.log_chain.specs.declared.fault.SegmentFault.{SegmentFault};
 ghost use Rattle.log_chain.specs.declared.fault.SegmentFault.TheVariants as fault;
 ghost use Rattle.log_chain.specs.Chain.{Rising, base, chain_end};
 ghost use Rattle.log_chain.specs.History.{append_fault, appended, grown, hash_at, last_stamp, roomy, segment_of};
@@ -115,7 +117,9 @@ impl SecureHistory {
     /// The hash before the entry numbered `from`, and copies of the entries from there up to the one numbered `to`.
     /// They are looked up by binary search, and no hash is computed.
     pub fn segment(&self, from: u64, to: u64) -> Result<(Hash, EntryList), SegmentFault>
-        ensures { Gives fault.Memory (λ x. x) result (segment_of self.now from to) }
+        ensures given { Gives fault.Memory (λ x. x) result (segment_of self.now from to) }
+        // Why there is none is told before memory is asked for.
+        ensures none { (e : SegmentFault) → segment_of self.now from to ≡ Err e → result ≡ Err e }
     {
         let (start, end) = segment_places(&self.entries, from, to)?;
         let entries = EntryList::from_slice(self.alloc, &self.entries[start..end])?;
@@ -129,6 +133,8 @@ impl SecureHistory {
 
         // A refusal changes nothing. Where there is room, it is not for want of memory.
         ensures refused { IfErr result (λ r. Fails refusal.Memory r.fault (appended self.old (record { seq = seq; kind = kind; content = content }))) }
+        // What forbids the entry is told before memory is asked for.
+        ensures forbidden { (e : AppendFault) → appended self.old (record { seq = seq; kind = kind; content = content }) ≡ Err e → IsErrAnd result (λ r. r.fault ≡ e) }
         ensures content { IfErr result (λ r. r.content ≡ content) }
         ensures unchanged { OnErr result (self.new ≡ self.old) }
         ensures room { 0 < self.old.room → IfErr result (λ r. r.fault ≢ refusal.Memory) }
