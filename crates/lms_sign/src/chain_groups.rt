@@ -7,7 +7,7 @@ ghost use Rattle.lms_sign.specs.LeafChains.{end_of, place_of, IsEntry};
 use crate::chain_order::{MAX_CHAINS, sort_chains};
 use sha256_lanes::four_chains;
 
-// What each text of chain `i` begins with.
+/// What each text of chain `i` begins with.
 fn place(leaf: &[u8; 20], i: u16) -> [u8; 22]
     ensures { result ≡ place_of leaf.now i }
 {
@@ -19,7 +19,7 @@ fn place(leaf: &[u8; 20], i: u16) -> [u8; 22]
     ]
 }
 
-// The ends of four chains, each given by its start and its number.
+/// The ends of four chains, each given by its start and its number.
 fn group(
     leaf: &[u8; 20],
     to: u8,
@@ -33,14 +33,10 @@ fn group(
     requires b { b.1 < length values.now }
     requires c { c.1 < length values.now }
     requires d { d.1 < length values.now }
-    ensures a { slice_index_or result 0 []
-        ≡ chain (place_of leaf.now a.1) a.0 (to - a.0) (slice_index_or values.now a.1 []) }
-    ensures b { slice_index_or result 1 []
-        ≡ chain (place_of leaf.now b.1) b.0 (to - b.0) (slice_index_or values.now b.1 []) }
-    ensures c { slice_index_or result 2 []
-        ≡ chain (place_of leaf.now c.1) c.0 (to - c.0) (slice_index_or values.now c.1 []) }
-    ensures d { slice_index_or result 3 []
-        ≡ chain (place_of leaf.now d.1) d.0 (to - d.0) (slice_index_or values.now d.1 []) }
+    ensures a { slice_index_or result 0 [] ≡ chain (place_of leaf.now a.1) a.0 (to - a.0) (slice_index_or values.now a.1 []) }
+    ensures b { slice_index_or result 1 [] ≡ chain (place_of leaf.now b.1) b.0 (to - b.0) (slice_index_or values.now b.1 []) }
+    ensures c { slice_index_or result 2 [] ≡ chain (place_of leaf.now c.1) c.0 (to - c.0) (slice_index_or values.now c.1 []) }
+    ensures d { slice_index_or result 3 [] ≡ chain (place_of leaf.now d.1) d.0 (to - d.0) (slice_index_or values.now d.1 []) }
 {
     let places = [
         place(leaf, a.1),
@@ -57,7 +53,7 @@ fn group(
     four_chains(&places, [a.0, b.0, c.0, d.0], to, &four)
 }
 
-// Writes the end of chain `at`.
+/// Writes the end of chain `at`.
 fn store(ends: &mut [[u8; 32]], at: u16, end: [u8; 32])
     requires { at < length ends.old }
     ensures { ends.new ≡ slice_set ends.old at end }
@@ -65,8 +61,8 @@ fn store(ends: &mut [[u8; 32]], at: u16, end: [u8; 32])
     ends[usize::from(at)] = end;
 }
 
-// Writes the ends of the chains that `order` lists. Where the last group has fewer than four
-// chains, the last chain stands in for those that are missing.
+/// Writes the ends of the chains that `order` lists. Where the last group has fewer than four chains, the last chain
+/// stands in for those that are missing.
 fn run_in_order(
     leaf: &[u8; 20],
     starts: &[u8],
@@ -80,11 +76,10 @@ fn run_in_order(
     requires count { length order.now ≤ MAX_CHAINS }
     requires entries { All (IsEntry starts.now) order.now }
     ensures len { length ends.new ≡ length starts.now }
-    ensures ends { All (λ x. slice_index_or ends.new x.1 []
-        ≡ end_of leaf.now starts.now to values.now x.1) order.now }
+    ensures ends { All (λ x. slice_index_or ends.new x.1 [] ≡ end_of leaf.now starts.now to values.now x.1) order.now }
 {
     let count = order.len();
-    'groups: for g in 0..(count + 3) / 4 {
+    for g in 0..(count + 3) / 4 {
         let a = order[4 * g];
         let b = order[(4 * g + 1).min(count - 1)];
         let c = order[(4 * g + 2).min(count - 1)];
@@ -97,19 +92,21 @@ fn run_in_order(
     }
 }
 
-/// Writes the ends of the chains of a leaf, in their own order: chain `i` takes the steps from
-/// `starts[i]` to before `to` on `values[i]`. `leaf` is the key pair's identifier `I` and then `q`,
-/// high byte first.
-///
-/// `to` is the last step of the type: 255 for LMOTS_SHA256_N32_W8, which has 34 chains, and 15 for
-/// LMOTS_SHA256_N32_W4, which has 67.
-pub fn all_ends(leaf: &[u8; 20], starts: &[u8], to: u8, values: &[[u8; 32]], ends: &mut [[u8; 32]])
+/// Writes the ends of the chains of a leaf, in their own order: chain `i` takes the steps from `starts[i]` to before `to`
+/// on `values[i]`. `leaf` is the key pair's identifier `I` and then `q`, high byte first, and `to` is the type's last step:
+/// the chains of each of the four types run four at a time, from the 34 of W8 to the 265 of W1.
+pub(crate) fn all_ends(
+    leaf: &[u8; 20],
+    starts: &[u8],
+    to: u8,
+    values: &[[u8; 32]],
+    ends: &mut [[u8; 32]],
+)
     requires count { length starts.now ≤ MAX_CHAINS }
     requires values { length values.now ≡ length starts.now }
     requires ends { length ends.old ≡ length starts.now }
     ensures len { length ends.new ≡ length starts.now }
-    ensures ends { (i : ℕ) → i < length starts.now
-        → slice_index_or ends.new i [] ≡ end_of leaf.now starts.now to values.now i }
+    ensures ends { (i : ℕ) → i < length starts.now → slice_index_or ends.new i [] ≡ end_of leaf.now starts.now to values.now i }
 {
     let mut numbers = [(0u8, 0u16); MAX_CHAINS];
     let order = &mut numbers[..starts.len()];

@@ -3,5 +3,5 @@ use Rattle.lms_sign.specs.LeafChains.{end_of}
 use Rattle.lms_sign.proofs.OrderedChains.{Held}
 use Rattle.lms_sign.proofs.chain_groups.run_in_order.Given as goal
 
-abbrev pub invariant-groups : goal.invariant-groups
-invariant-groups l = Held (λ i. end_of l.fn.leaf l.fn.starts l.fn.to l.fn.values i) l.fn.order (length l.fn.starts) l.ends (4 * l.g)
+abbrev pub invariant-loop-g : goal.invariant-loop-g
+invariant-loop-g l = Held (λ i. end_of l.fn.leaf l.fn.starts l.fn.to l.fn.values i) l.fn.order (length l.fn.starts) l.ends (4 * l.g)
