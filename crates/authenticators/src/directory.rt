@@ -1,6 +1,6 @@
 //! The directory: which nodes there are, and the public key of each.
 
-ghost use Rattle.std.specs.Prelude.{◌≡◌, ◌↔◌, [], IfOk, IsTrue, is_some, nat_eq, List, Ok, map, option_copied, ℕ};
+ghost use Rattle.std.specs.Prelude.{◌≡◌, ◌↔◌, [], Err, IfOk, IsTrue, is_some, nat_eq, List, Ok, map, option_copied, ℕ};
 ghost use Rattle.lms_sign.specs.declared.key.PublicKey.{PublicKey};
 ghost use Rattle.std.proofs.Common.{rules};
 ghost use Rattle.std.specs.Cmp.Lexicographic.{pointwise};
@@ -9,6 +9,7 @@ ghost use Rattle.std.specs.Ordering.{eq_of_both, on};
 ghost use Rattle.lms_sign.specs.contracts.key.PublicKeyPartialEq.TheImpl.Laws.{laws-law as key_laws};
 ghost use Rattle.lms_sign.specs.contracts.key.PublicKeyEq.TheImpl.Laws.{laws-law as key_equiv};
 ghost use Rattle.outcome.specs.Outcome.{Gives, Leaves, Took};
+ghost use Rattle.authenticators.specs.declared.fault.DirectoryFault.{DirectoryFault};
 ghost use Rattle.authenticators.specs.declared.fault.DirectoryFault.TheVariants.{Memory};
 ghost use Rattle.authenticators.specs.Directory.{added, has_key, key_at, same_key};
 ghost use Rattle.authenticators.specs.DirectoryText.{IsDirectory, directory_of, directory_text, node_at, nodes_at};
@@ -81,7 +82,9 @@ impl Directory {
     /// Adds a node at the end, unless its number (20) or its key (21) is listed already or 1,024 nodes are (22): the first
     /// of these is told. A refused call leaves the directory as it was.
     pub fn add(&mut self, node: NodeId, key: PublicKey) -> Result<(), DirectoryFault>
-        ensures { Leaves Memory result self.old self.new (added self.old node key) }
+        ensures added { Leaves Memory result self.old self.new (added self.old node key) }
+        // What forbids the node is told before memory is asked for.
+        ensures forbidden { (e : DirectoryFault) → added self.old node key ≡ Err e → result ≡ Err e }
     {
         if self.contains(node) {
             return Err(DirectoryFault::DuplicateNode);

@@ -13,7 +13,7 @@ use Rattle.authenticators.proofs.directory.read_nodes.Goals as goal
 pub loop-preserved : goal.loop-preserved
 loop-preserved c =
     let one = one_more c.args.count c.loop.counter c.loop.directory c.loop.reader c.loop-test.true in
-    sym (rw (c.in_ok-node.ensures, c.in_ok-add.ensures) at one) ∙ c.loop.invariant
+    sym (rw (c.in_ok-node.ensures, c.in_ok-add.ensures.added) at one) ∙ c.loop.invariant
 
 pub returns-in_err-node : goal.returns-in_err-node
 returns-in_err-node c =
@@ -29,7 +29,7 @@ returns-in_err-add c =
     let one = rw c.in_ok-node.ensures at (one_more c.args.count c.loop.counter c.loop.directory c.loop.reader c.loop-test.true) in
     let rest = λ (more : List (ℕ × PublicKey)). nodes_at (c.args.count - (c.loop.counter + 1)) more c.read_node.new.reader in
     rw (p.1, p.2) (subst (λ (r : Result (List (ℕ × PublicKey) × List ℕ) DirectoryFault). Fails Memory c.in_err-add.field-0.0 r) (sym one ∙ c.loop.invariant)
-    (Fails-then Memory c.in_err-add.field-0.0 (added c.loop.directory c.in_ok-node.node c.in_ok-node.key) rest c.in_err-add.ensures.1))
+    (Fails-then Memory c.in_err-add.field-0.0 (added c.loop.directory c.in_ok-node.node c.in_ok-node.key) rest c.in_err-add.ensures.added.1))
 
 pub returns : goal.returns
 returns c = sym c.loop.invariant ∙ no_more c.args.count c.loop.counter c.loop.directory c.loop.reader c.loop-test.false
