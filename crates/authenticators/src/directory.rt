@@ -22,6 +22,7 @@ use log_chain::FieldReader;
 use std::alloc::{AllocError, Global};
 use std::marker::Model;
 
+/// The greatest number of nodes in a directory.
 const MOST_NODES: usize = 1024;
 
 const MAGIC: [u8; 8] = *b"PRDIRECT";
@@ -166,7 +167,7 @@ fn read_directory(alloc: Global, bytes: &[u8]) -> Result<Directory, DirectoryFau
         return Err(DirectoryFault::BadMagic);
     }
     let count = reader.u32()?;
-    if count > 1024 {
+    if count as usize > MOST_NODES {
         return Err(DirectoryFault::TooManyNodes);
     }
     let directory = read_nodes(alloc, count, &mut reader)?;
