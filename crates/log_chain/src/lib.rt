@@ -13,10 +13,6 @@ pub use fault::{AppendFault, FieldFault, SegmentFault};
 pub use field_reader::FieldReader;
 pub use field_writer::FieldWriter;
 pub use hash::{Hash, base_hash};
-pub use laws::{
-    chains_go_on, chains_grow, entry_texts_have_one_reading, equal_lists_end_alike,
-    fields_read_back, hashes_are_whole, parts_rise,
-};
 pub use secure_history::{AppendRefused, SecureHistory};
 
 mod byte_string;
@@ -27,7 +23,7 @@ mod field_reader;
 mod field_writer;
 mod finding;
 mod hash;
-mod laws;
+pub mod laws;
 mod secure_history;
 #[cfg(test)]
 mod tests;

@@ -4,7 +4,6 @@
 //! lists that cannot: "the answer is the expected one, unless memory ran out" is one word in every crate.
 #![tactic(auto)]
 
-pub use laws::{faults_are_told, faults_end_sequences, values_come_of_values};
 pub use std::alloc::AllocError as Memory;
 
-mod laws;
+pub mod laws;
