@@ -27,7 +27,7 @@ pub enum DirectoryFault {
     Truncated,
     /// 25: there are bytes after the last node.
     Trailing,
-    /// 99: a growth was refused.
+    /// 99: a growth of memory was refused.
     Memory,
 }
 

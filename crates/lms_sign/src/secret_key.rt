@@ -57,7 +57,7 @@ pub struct SecretKey {
 pub enum MakeFault {
     /// 4: the tree is higher than 10.
     HeightTooLarge,
-    /// Memory ran out.
+    /// 99: a growth of memory was refused.
     Memory,
 }
 
@@ -66,7 +66,7 @@ pub enum MakeFault {
 pub enum SignFault {
     /// 5: each leaf of the key has signed.
     KeySpent,
-    /// Memory ran out.
+    /// 99: a growth of memory was refused.
     Memory,
 }
 

@@ -21,7 +21,7 @@ pub enum AppendFault {
     SeqNotRising,
     /// 11: the content has more than 131,072 bytes.
     ContentTooLong,
-    /// No memory was left.
+    /// 99: a growth of memory was refused.
     Memory,
 }
 
@@ -32,7 +32,7 @@ pub enum SegmentFault {
     NoEntry,
     /// 13: there are more than 4,096 entries.
     SegmentTooLong,
-    /// No memory was left.
+    /// 99: a growth of memory was refused.
     Memory,
 }
 

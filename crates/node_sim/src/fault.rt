@@ -36,6 +36,7 @@ pub enum Fault {
     /// The store does not begin as one.
     BadMagic,
     NotAscending,
+    /// A growth of memory was refused.
     Memory,
     ReadFailed,
     InputTooLong,
