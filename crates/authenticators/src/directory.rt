@@ -84,7 +84,7 @@ impl Directory {
     /// of these is told. A refused call leaves the directory as it was.
     pub fn add(&mut self, node: NodeId, key: PublicKey) -> Result<(), DirectoryFault>
         ensures added { Leaves Memory result self.old self.new (added self.old node key) }
-        // What forbids the node is told before memory is asked for.
+        // What forbids the node is told, whether there is memory or not.
         ensures forbidden { (e : DirectoryFault) → added self.old node key ≡ Err e → result ≡ Err e }
     {
         if self.contains(node) {

@@ -118,7 +118,7 @@ impl SecureHistory {
     /// They are looked up by binary search, and no hash is computed.
     pub fn segment(&self, from: u64, to: u64) -> Result<(Hash, EntryList), SegmentFault>
         ensures given { Gives fault.Memory (λ x. x) result (segment_of self.now from to) }
-        // Why there is none is told before memory is asked for.
+        // Why there is none is told, whether there is memory or not.
         ensures none { (e : SegmentFault) → segment_of self.now from to ≡ Err e → result ≡ Err e }
     {
         let (start, end) = segment_places(&self.entries, from, to)?;
@@ -133,7 +133,7 @@ impl SecureHistory {
 
         // A refusal changes nothing. Where there is room, it is not for want of memory.
         ensures refused { IfErr result (λ r. Fails refusal.Memory r.fault (appended self.old (record { seq = seq; kind = kind; content = content }))) }
-        // What forbids the entry is told before memory is asked for.
+        // What forbids the entry is told, whether there is memory or not.
         ensures forbidden { (e : AppendFault) → appended self.old (record { seq = seq; kind = kind; content = content }) ≡ Err e → IsErrAnd result (λ r. r.fault ≡ e) }
         ensures content { IfErr result (λ r. r.content ≡ content) }
         ensures unchanged { OnErr result (self.new ≡ self.old) }
