@@ -6,6 +6,7 @@ use crate::{
     SecureHistory, SegmentFault, base_hash, chain_end, entry_hash,
 };
 use std::alloc::{AllocError, Global};
+use std::hash::{DefaultHasher, Hash as _, Hasher};
 use std::test::*;
 
 #[test]
@@ -62,6 +63,16 @@ fn byte_strings_are_their_bytes(rt: HostRuntime) -> Result<(), Fail> {
     let bytes = copy.into_vec();
     assert!(rt; bytes.as_slice() == b"abc".as_slice());
     assert!(rt; ByteString::from_vec(bytes) == text);
+    Ok(())
+}
+
+#[test]
+fn a_byte_string_hashes_as_its_slice(rt: HostRuntime) -> Result<(), Fail> {
+    let text = ByteString::from_slice(rt.alloc(), b"abc")?;
+    let mut hasher = DefaultHasher::new();
+    text.hash(&mut hasher);
+    // SipHash-1-3 under a key of zeros, of the length in eight bytes and the text: Python's `hash` under PYTHONHASHSEED=0.
+    assert_eq!(rt; hasher.finish(), 0x4aa3_e4b3_4416_e6c9);
     Ok(())
 }
 
