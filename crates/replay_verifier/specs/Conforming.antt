@@ -12,7 +12,7 @@
 --     order, exactly the outputs that are sent (`outs`) of the program's step on what came in; or
 --   - a CHECKPOINT whose content is the encoding of the node's state.
 --   Only the last block may lack SEND entries, those at its end: the list may break off while outputs are still awaited.
-use Rattle.std.specs.Prelude.{◌≡◌, ◌≢◌, ℕ, ◌<◌, ◌&&◌, nat_le, Bool, IsTrue, List, [], ◌∷◌, ◌++◌, length, map, Some, ◌⊎◌}
+use Rattle.std.specs.Prelude.{◌≡◌, ◌≢◌, ℕ, ◌&&◌, nat_le, Bool, IsTrue, List, [], ◌∷◌, ◌++◌, length, map, Some, ◌⊎◌}
 use Rattle.std.specs.List.{AllByRecursion}
 use Rattle.std.specs.Int.{w32, w64, to_be_bytes, from_be_bytes}
 use Rattle.lms_sign.specs.declared.key.PublicKey.{PublicKey}
@@ -122,8 +122,34 @@ abbrev pub Conforms : {S : Type 0} → Setting S → List ℕ → List Entry →
 Conforms z prev [] = Unit {0}
 Conforms {S} z prev (e ∷ log) = Rising (e ∷ log) × (s : S) × Begins z prev (act e) s × (y : Stand S) × Leads z (at_rest s) log y
 
--- ---- a law, which `laws` proves
+-- ---- laws, which `laws` proves
 
 -- Each prefix of a list that conforms conforms.
 abbrev pub PrefixesConform : Type 0 → Type 0
 PrefixesConform S = (z : Setting S) (prev : List ℕ) (front back : List Entry) → Conforms z prev (front ++ back) → Conforms z prev front
+
+-- The entries after the hash prev conform, and leave the node at rest in the state s: no output is awaited.
+pub record Rests {S : Type 0} (z : Setting S) (prev : List ℕ) (log : List Entry) (s : S) : Type 0 where
+  pub first : Entry
+  pub rest : List Entry
+  pub parts : log ≡ first ∷ rest
+  pub rising : Rising log
+  pub start : S
+  pub begins : Begins z prev (act first) start
+  pub leads : Leads z (at_rest start) rest (at_rest s)
+
+-- A log at rest is not empty, and conforms.
+abbrev pub RestingLogsConform : Type 0 → Type 0
+RestingLogsConform S =
+    (z : Setting S) (prev : List ℕ) (log : List Entry) (s : S) → Rests z prev log s → (log ≢ []) × Conforms z prev log
+
+-- A log begins at rest with INIT, in the start state.
+abbrev pub LogsBegin : Type 0 → Type 0
+LogsBegin S = (z : Setting S) (e : Entry) → act e ≡ init_act z.me → Rests z base (e ∷ []) (z.program.start z.me)
+
+-- A log at rest grows by a whole block: what comes first in it, and its outputs as SEND entries, with numbers that rise.
+abbrev pub LogsGrow : Type 0 → Type 0
+LogsGrow S =
+    (z : Setting S) (prev : List ℕ) (log : List Entry) (s : S) (b : Block) (e : Entry) (sends : List Entry)
+    → Rests z prev log s → IsProper z b → act e ≡ head_act z s b → map act sends ≡ map send_act (sent_by z s b)
+    → Rising (log ++ e ∷ sends) → Rests z prev (log ++ e ∷ sends) (step_of z s b).state
