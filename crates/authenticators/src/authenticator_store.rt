@@ -1,6 +1,6 @@
 //! A set of statements.
 
-ghost use Rattle.std.specs.Prelude.{◌≡◌, ◌↔◌, ◌⊎◌, false, [], IfOk, IfErr, OnOk, OnErr, IfNone, IfSome, Contains, ◌==◌, ◌&&◌, ◌||◌, nat_lt, nat_le};
+ghost use Rattle.std.specs.Prelude.{◌≡◌, ◌↔◌, ◌⊎◌, false, [], Ok, IfOk, IfErr, OnOk, OnErr, IfNone, IfSome, Contains, ◌==◌, ◌&&◌, ◌||◌, nat_lt, nat_le};
 ghost use Rattle.authenticators.specs.declared.authenticator.Authenticator.{Authenticator};
 ghost use Rattle.authenticators.specs.StatementSet.{Conflict, IsAscending, IsAt, IsInRange, IsPart, NoConflict, NoConflictOf};
 
@@ -50,6 +50,8 @@ impl AuthenticatorStore {
     /// only there, the statement is given back and the store is as it was.
     pub fn insert(&mut self, authenticator: Authenticator) -> Result<bool, InsertRefused>
         ensures told { IfOk result (λ new. (new ≡ false) ↔ Contains self.old authenticator) }
+        // That a statement is held already is told, whether there is memory or not.
+        ensures held { Contains self.old authenticator → result ≡ Ok false }
         ensures added { OnOk result ((x : Authenticator) → Contains self.new x ↔ (Contains self.old x ⊎ (x ≡ authenticator))) }
         ensures given_back { IfErr result (λ refused. refused.0 ≡ authenticator) }
         ensures unchanged { OnErr result (self.new ≡ self.old) }
@@ -88,6 +90,7 @@ fn insert(
 ) -> Result<bool, InsertRefused>
     requires { IsAscending held.old.items }
     ensures told { IfOk result (λ new. (new ≡ false) ↔ Contains held.old.items authenticator) }
+    ensures held { Contains held.old.items authenticator → result ≡ Ok false }
     ensures added { OnOk result ((x : Authenticator) → Contains held.new.items x ↔ (Contains held.old.items x ⊎ (x ≡ authenticator))) }
     ensures given_back { IfErr result (λ refused. refused.0 ≡ authenticator) }
     ensures unchanged { OnErr result (held.new.items ≡ held.old.items) }
