@@ -5,6 +5,9 @@
 //! in the module `status`, whose function `run` carries the theorem; here words are read, and its answer is told.
 #![tactic(auto)]
 
+ghost use Rattle.std.specs.Prelude.{◌≡◌, OnErr, OnOk};
+ghost use Rattle.std.specs.Process.{exit_status};
+
 pub mod device;
 pub mod fault;
 pub mod indication;
@@ -39,7 +42,10 @@ fn run_status(rt: &HostRuntime) -> Result<(), Fault> {
 }
 
 /// Tells a refusal on standard error. Where that cannot be written, the exit status alone tells it.
-fn told(rt: &HostRuntime, done: Result<(), Fault>) -> ExitCode {
+fn told(rt: &HostRuntime, done: Result<(), Fault>) -> ExitCode
+    ensures done { OnOk done (exit_status result ≡ 0) }
+    ensures refused { OnErr done (exit_status result ≡ 1) }
+{
     match done {
         Ok(()) => ExitCode::SUCCESS,
         Err(fault) => {

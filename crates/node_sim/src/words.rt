@@ -1,5 +1,10 @@
 //! The words of the command line, read by `clap`.
 
+ghost use Rattle.std.specs.Prelude.{◌≡◌};
+ghost use Rattle.node_sim.specs.declared.fault.Fault.{Fault};
+ghost use Rattle.node_sim.specs.declared.fault.Fault.TheVariants.{Memory};
+ghost use Rattle.node_sim.specs.declared.words.Asked.TheVariants.{Refused};
+
 use crate::fault::Fault;
 use clap::error::ErrorKind;
 use clap::{Arg, ArgAction, Command, Error};
@@ -16,7 +21,9 @@ pub enum Asked {
 }
 
 /// Reads the words of the command line.
-pub fn read_words(rt: &HostRuntime) -> Asked {
+pub fn read_words(rt: &HostRuntime) -> Asked
+    ensures { (f : Fault) → result ≡ Refused f → f ≡ Memory }
+{
     let alloc = rt.alloc();
     let words = match words_of(rt) {
         Ok(words) => words,
