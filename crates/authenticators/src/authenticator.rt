@@ -18,7 +18,8 @@ pub struct Authenticator {
     pub sig: ByteString,
 }
 
-fn statement_text(seq: u64, hash: Hash) -> [u8; 40]
+/// The 40 bytes that a node signs for an entry of its log: its number in 8 bytes, and its hash.
+pub fn statement_text(seq: u64, hash: Hash) -> [u8; 40]
     ensures { result ≡ statement_text seq hash }
 {
     let mut text = [0u8; 40];

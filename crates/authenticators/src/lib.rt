@@ -5,7 +5,7 @@
 //! [`AuthenticatorStore`] keeps a set of statements, and finds those of a node by number and two that are in conflict.
 #![tactic(auto)]
 
-pub use authenticator::Authenticator;
+pub use authenticator::{Authenticator, statement_text};
 pub use authenticator_store::{AuthenticatorStore, InsertRefused};
 pub use directory::Directory;
 pub use fault::DirectoryFault;

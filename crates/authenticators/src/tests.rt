@@ -1,4 +1,4 @@
-use crate::{Authenticator, Directory, DirectoryFault, NodeId};
+use crate::{Authenticator, Directory, DirectoryFault, NodeId, statement_text};
 use lms_sign::PublicKey;
 use log_chain::{ByteString, Hash};
 use std::alloc::Global;
@@ -170,6 +170,15 @@ fn a_thousand_and_twenty_four_nodes_fit(rt: HostRuntime) -> Result<(), Fail> {
         assert_eq!(rt; directory.add(NodeId(node), numbered_key(key)?), Err(fault));
         assert!(rt; directory == full);
     }
+    Ok(())
+}
+
+#[test]
+fn a_statement_is_number_and_hash(rt: HostRuntime) -> Result<(), Fail> {
+    let text = statement_text(1000, Hash([1; 32]));
+    let (number, hash) = text.split_at(8);
+    assert_eq!(rt; number, [0, 0, 0, 0, 0, 0, 0x03, 0xe8].as_slice());
+    assert_eq!(rt; hash, [1; 32].as_slice());
     Ok(())
 }
 

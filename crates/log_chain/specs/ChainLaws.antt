@@ -1,5 +1,5 @@
 -- Laws of the chain of hashes. `laws` proves each.
-use Rattle.std.specs.Prelude.{◌≡◌, ℕ, ◌<◌, ◌^◌, List, [], ◌∷◌, ◌++◌, length}
+use Rattle.std.specs.Prelude.{◌≡◌, ℕ, ◌+◌, ◌<◌, ◌^◌, List, [], ◌∷◌, ◌++◌, length, slice_index_or}
 use Rattle.sha2.specs.Sha256.{sha256}
 use Rattle.log_chain.specs.declared.entry.Entry.{Entry}
 use Rattle.log_chain.specs.Chain.{entry_text, entry_hash, hashes, chain_end, Rising}
@@ -28,6 +28,10 @@ EqualListsEndAlike = (prev prev' : List ℕ) (es es' : List Entry) → prev ≡ 
 -- Each part of a list whose numbers rise has numbers that rise.
 abbrev pub PartsRise : Type 0
 PartsRise = (front back : List Entry) → Rising (front ++ back) → Rising front × Rising back
+
+-- Numbers that rise still rise with one entry more whose number is above the last one.
+abbrev pub RisingListsGrow : Type 0
+RisingListsGrow = (es : List Entry) (e : Entry) → Rising es → ((k : ℕ) (d : Entry) → k + 1 ≡ length es → (slice_index_or es k d).seq < e.seq) → Rising (es ++ e ∷ [])
 
 -- Two entries have the same number and kind, contents with one digest, and the same hash before them.
 pub record SameStamp (p q : List ℕ) (e f : Entry) : Type 0 where

@@ -1,7 +1,7 @@
 //! Laws over the definitions. Each is a function that does nothing: its contract is the law.
 
 ghost use Rattle.log_chain.specs.FieldLaws.{FieldsReadBack};
-ghost use Rattle.log_chain.specs.ChainLaws.{ChainsGoOn, ChainsGrow, EntryTextsHaveOneReading, EqualListsEndAlike, HashesAreWhole, PartsRise};
+ghost use Rattle.log_chain.specs.ChainLaws.{ChainsGoOn, ChainsGrow, EntryTextsHaveOneReading, EqualListsEndAlike, HashesAreWhole, PartsRise, RisingListsGrow};
 
 /// The chain of a list that is cut in two goes on from the end of the first part.
 pub fn chains_go_on()
@@ -26,6 +26,11 @@ pub fn equal_lists_end_alike()
 /// Each part of a list whose numbers rise has numbers that rise.
 pub fn parts_rise()
     ensures { PartsRise }
+{}
+
+/// Numbers that rise still rise with one entry more whose number is above the last one.
+pub fn rising_lists_grow()
+    ensures { RisingListsGrow }
 {}
 
 /// What is written as a field is read as that field.
