@@ -1,0 +1,12 @@
+mod Appending
+mod Entries
+mod Grown
+mod NodeCalls
+mod NodeGrowth
+mod Placed
+mod Ready
+mod Receipts
+mod SameKeys
+mod SentAll
+mod SentOutputs
+mod Valid
