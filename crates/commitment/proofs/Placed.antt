@@ -1,5 +1,5 @@
 -- The next entry of an account, as the log takes it and the key signs it.
-use Rattle.std.proofs.Common.{◌≡◌, ℕ, ◌+◌, ◌-◌, ◌||◌, Bool, true, false, List, [], ◌∷◌, ◌++◌, refl, ap, ◌∙◌, subst, Some, None, cond}
+use Rattle.std.proofs.Common.{◌≡◌, ℕ, ◌+◌, ◌-◌, Bool, true, false, List, [], ◌∷◌, ◌++◌, refl, ap, ◌∙◌, subst, Some, None, cond}
 use Rattle.std.specs.Map.{lookup}
 use Rattle.lms_sign.specs.LmsSignature.{Verifies}
 use Rattle.lms_sign.specs.Signing.{PrivateKey, key_after, public_key, signature}
@@ -56,11 +56,6 @@ signed_thrice a c x seq hash key s k n h is =
     is ∙ ap (λ (k : PrivateKey). all_of (signature k c (statement_text seq hash))) k
     ∙ ap (λ (n : ℕ). all_of (signature a.key c (statement_text n hash))) n
     ∙ ap (λ (h : List ℕ). all_of (signature a.key c (statement_text (next_seq a.entries) h))) h
-
--- neither of two tests
-pub neither : (p q : Bool) → (p || q) ≡ false → (p ≡ false) × (q ≡ false)
-neither false q is = (refl, is)
-neither true q is = cc
 
 -- the account after the receipt of a message, field by field
 pub received_is : (a : Account) (c : List ℕ) (n : ℕ) (content : List ℕ) (key : PrivateKey) (entries : List Entry) (signed : List Authenticator) (acks : List (List ℕ × Ack))

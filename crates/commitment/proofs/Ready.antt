@@ -1,6 +1,6 @@
 -- What fits is ready to be logged.
 use Rattle.std.proofs.Common.{◌≡◌, ℕ, ◌+◌, ◌-◌, ◌≤◌, ◌^◌, ◌||◌, ltb, Bool, true, false, cond, Some, None, List, length, map, max, refl, sym, ap, ◌∙◌, subst, arith}
-use Rattle.std.proofs.lemmas.Bool.{ltb-false}
+use Rattle.std.proofs.lemmas.Bool.{ltb-false, or_parts}
 use Rattle.std.proofs.lemmas.List.{length-map}
 use Rattle.std.specs.List.{All}
 use Rattle.lms_sign.specs.Signing.{PrivateKey, key_after, remaining}
@@ -12,7 +12,6 @@ use Rattle.commitment.specs.Accounts.{Account, logged, next_entry, next_seq, rec
 use Rattle.commitment.specs.Drafts.{CanSend, IsSending, output_of, sig_len}
 use Rattle.commitment.specs.Limits.{most_logged, room_fault}
 use Rattle.commitment.proofs.Entries.{next-push}
-use Rattle.commitment.proofs.Placed.{neither}
 
 -- There are as many leaves and numbers, and there is as much room.
 pub record Fits (a : Account) (n m : ℕ) : Type 0 where
@@ -29,7 +28,7 @@ fits a leaves entries none = go (ltb (remaining a.key) leaves) (ltb most_logged 
     go true q p_is q_is told = absurd cc
     go false true p_is q_is told = absurd cc
     go false false p_is q_is told =
-        let both = neither _ _ q_is in
+        let both = or_parts _ _ q_is in
         record { leaves = ltb-false _ _ p_is; entries = ltb-false _ _ both.0; numbers = ltb-false _ _ both.1 }
 
 -- once an unsigned entry is logged, the outputs can be sent

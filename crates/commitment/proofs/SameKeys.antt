@@ -1,6 +1,6 @@
 -- The test of two public keys tells whether they are the same.
 use Rattle.std.proofs.Common.{◌≡◌, ◌==◌, ◌&&◌, Bool, true, false, cond, Some, None, Option, refl, sym, ap, ◌∙◌}
-use Rattle.std.proofs.lemmas.Bool.{eqb-true}
+use Rattle.std.proofs.lemmas.Bool.{and_parts, eqb-true}
 use Rattle.std.proofs.lemmas.Slice.Eq.{bytes_eq-Decides}
 use Rattle.commitment.specs.declared.fault.NewFault.TheVariants.{WrongKey}
 use Rattle.lms_sign.specs.declared.types.LmsType.{LmsType}
@@ -32,15 +32,11 @@ same_lms s t h = let e = sym (lms_again s) ∙ ap lms_type_of h ∙ lms_again t 
 same_ots : (s t : OtsType) → ots_typecode s ≡ ots_typecode t → s ≡ t
 same_ots s t h = let e = sym (ots_again s) ∙ ap ots_type_of h ∙ ots_again t in cc
 
-both : (p q : Bool) → (p && q) ≡ true → (p ≡ true) × (q ≡ true)
-both true q h = (refl, h)
-both false q h = cc
-
 pub same_keys : (a b : PublicKey) → same_key a b ≡ true → a ≡ b
 same_keys a b h =
-    let root = both _ _ h in
-    let id = both _ _ root.0 in
-    let types = both _ _ id.0 in
+    let root = and_parts _ _ h in
+    let id = and_parts _ _ root.0 in
+    let types = and_parts _ _ id.0 in
     let l = same_lms a.lms_type b.lms_type (eqb-true _ _ types.0) in
     let o = same_ots a.ots_type b.ots_type (eqb-true _ _ types.1) in
     let i = (bytes_eq-Decides a.id b.id).0 id.1 in

@@ -1,7 +1,7 @@
 -- What is sent of a step's outputs fits.
-use Rattle.std.proofs.Common.{◌≡◌, ℕ, ◌≤◌, ◌&&◌, Bool, true, false, cond, List, [], ◌∷◌, length, filter, refl}
+use Rattle.std.proofs.Common.{◌≡◌, ℕ, ◌≤◌, Bool, true, false, cond, List, [], ◌∷◌, length, filter, refl}
 use Rattle.std.specs.List.{All}
-use Rattle.std.proofs.lemmas.Bool.{leb-true}
+use Rattle.std.proofs.lemmas.Bool.{and_parts, leb-true}
 use Rattle.std.proofs.lemmas.List.Elements.{All-cons, All-nil, All-take}
 use Rattle.lms_sign.specs.declared.key.PublicKey.{PublicKey}
 use Rattle.replay_verifier.specs.declared.output.Output.{Output}
@@ -10,16 +10,12 @@ use Rattle.replay_verifier.specs.Sending.{is_sent, outs}
 abbrev pub IsShort : Output → Type 0
 IsShort o = length o.payload ≤ 65536
 
-second : (p q : Bool) → (p && q) ≡ true → q ≡ true
-second true q h = h
-second false q h = cc
-
 passed : (ds : List (ℕ × PublicKey)) (me : ℕ) (os : List Output) → All IsShort (filter (is_sent ds me) os)
 passed ds me [] = All-nil IsShort
 passed ds me (o ∷ os) = go (is_sent ds me o) refl (passed ds me os)
   where
     go : (b : Bool) → is_sent ds me o ≡ b → All IsShort (filter (is_sent ds me) os) → All IsShort (cond b (o ∷ filter (is_sent ds me) os) (filter (is_sent ds me) os))
-    go true h rest = All-cons IsShort o (filter (is_sent ds me) os) (leb-true _ _ (second _ _ h)) rest
+    go true h rest = All-cons IsShort o (filter (is_sent ds me) os) (leb-true _ _ (and_parts _ _ h).1) rest
     go false h rest = rest
 
 pub outs_short : (ds : List (ℕ × PublicKey)) (me : ℕ) (os : List Output) → All IsShort (outs ds me os)

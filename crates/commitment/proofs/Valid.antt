@@ -1,7 +1,7 @@
 -- What a node signs is valid, and what it sends is logged.
-use Rattle.std.proofs.Common.{◌≡◌, ◌≢◌, ℕ, ◌+◌, ◌==◌, ◌&&◌, Bool, true, false, List, [], ◌∷◌, ◌++◌, map, refl, sym, ap, ◌∙◌, subst, append_assoc, append-nil}
+use Rattle.std.proofs.Common.{◌≡◌, ◌≢◌, ℕ, ◌+◌, ◌==◌, Bool, true, false, List, [], ◌∷◌, ◌++◌, map, refl, sym, ap, ◌∙◌, subst, append_assoc, append-nil}
 use Rattle.std.specs.Prelude.{not}
-use Rattle.std.proofs.lemmas.Bool.{eq-eqb}
+use Rattle.std.proofs.lemmas.Bool.{and_parts, eq-eqb}
 use Rattle.lms_sign.specs.declared.key.PublicKey.{PublicKey}
 use Rattle.lms_sign.proofs.SignedTexts.{signed_verifies}
 use Rattle.log_chain.specs.declared.entry.Entry.{Entry}
@@ -19,14 +19,6 @@ next_signed : (ds : List (ℕ × PublicKey)) (a : Account) (c : List ℕ) (x : A
 next_signed ds a c x can =
     subst (λ k. VerifiesUnder k (statement_text (next_seq a.entries) (next_hash a x)) (next_signature a c x)) (sym can.listed) (signed_verifies a.key c (statement_text (next_seq a.entries) (next_hash a x)) can.leaf can.randomizer)
 
-second : (p q : Bool) → (p && q) ≡ true → q ≡ true
-second true q h = h
-second false q h = cc
-
-first : (p q : Bool) → (p && q) ≡ true → p ≡ true
-first true q h = refl
-first false q h = cc
-
 -- two numbers for which the test does not hold differ
 other : (m n : ℕ) → not (m == n) ≡ true → n ≢ m
 other m n h same = go (m == n) (eq-eqb m n (sym same)) h
@@ -37,8 +29,9 @@ other m n h same = go (m == n) (eq-eqb m n (sym same)) h
 
 pub valid_messages : MessagesAreValid
 valid_messages ds a c o can sent =
-    let here = first _ _ sent in
-    record { listed = first _ _ here; genuine = record { other = other o.to a.me (second _ _ here); signed = next_signed ds a c (send_act o) can } }
+    let fits = and_parts _ _ sent in
+    let goes = and_parts _ _ fits.0 in
+    record { listed = goes.0; genuine = record { other = other o.to a.me goes.1; signed = next_signed ds a c (send_act o) can } }
 
 pub valid_acks : AcksAreValid
 valid_acks ds a c m can to from = record {

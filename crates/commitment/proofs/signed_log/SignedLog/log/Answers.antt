@@ -1,11 +1,12 @@
 use Rattle.std.proofs.Common.{◌≡◌, ◌==◌, List, sym, ap, subst, refl, arith}
+use Rattle.std.proofs.lemmas.Bool.{or_parts}
 use Rattle.log_chain.specs.declared.entry.Entry.{Entry}
 use Rattle.replay_verifier.specs.Conforming.{Act}
 use Rattle.outcome.specs.Bytes.{IsBytes}
 use Rattle.commitment.specs.Accounts.{Kept, IsAccount, IsLogged, next_entry, next_seq}
 use Rattle.commitment.specs.Keeping.{account_of}
 use Rattle.commitment.proofs.Grown.{account_logged}
-use Rattle.commitment.proofs.Placed.{is_next, neither}
+use Rattle.commitment.proofs.Placed.{is_next}
 use Rattle.commitment.proofs.signed_log.SignedLog.log.Goals as goal
 
 pub invariant_of-self : goal.invariant_of-self
@@ -14,7 +15,7 @@ invariant_of-self c =
     let a = account_of i in
     let x : Act = record { kind = c.args.kind; content = c.args.content } in
     let next = is_next a x i.history c.push.new.history c.next_place-seq.result c.self.invariant.base refl c.next_place-seq.ensures c.push.ensures.grown in
-    let other = neither (c.args.kind == 2) (c.args.kind == 3) c.requires.unsigned in
+    let other = or_parts (c.args.kind == 2) (c.args.kind == 3) c.requires.unsigned in
     let later = next.next in
     let room = next.room in
     let had : i.room ≡ c.args.self.now.room = ap (λ (k : Kept). k.room) c.self.view_is in
