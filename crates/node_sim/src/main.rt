@@ -13,6 +13,8 @@ pub mod fault;
 pub mod indication;
 pub mod input;
 pub mod lines;
+#[cfg(test)]
+mod node_tests;
 pub mod report;
 pub mod statement;
 pub mod status;
