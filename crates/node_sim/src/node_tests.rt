@@ -2,7 +2,7 @@
 
 mod fixtures;
 
-use commitment::{Message, Node, NodeFault};
+use commitment::{Ack, Message, Node, NodeFault};
 use fixtures::{
     Seen, begin, feed_ack, feed_message, feed_messages, feed_signed, is_hash, key_of, message_to_2,
 };
@@ -12,36 +12,47 @@ use sha2::{Digest, Sha256};
 use std::alloc::Global;
 use std::test::Fail;
 
-/// The node receives the message. Feeds what it gives. Where a growth was refused the call is made again, and has to give the
-/// same: a refused call changes nothing.
+/// The node receives the message. A call that is refused for want of memory changes nothing: it is made again.
+fn received(
+    node: &mut Node<Tally>,
+    message: &Message,
+    entropy: u8,
+) -> Result<(Ack, Vec<Message>), NodeFault> {
+    match node.receive(message, [entropy; 32]) {
+        Err(NodeFault::Memory) => node.receive(message, [entropy; 32]),
+        given => given,
+    }
+}
+
+/// The node receives the message. Feeds what it gives.
 fn receive(
     node: &mut Node<Tally>,
     message: &Message,
     entropy: u8,
     digest: &mut Sha256,
 ) -> Result<(), NodeFault> {
-    let given = match node.receive(message, [entropy; 32]) {
-        Err(NodeFault::Memory) => node.receive(message, [entropy; 32]),
-        given => given,
-    };
-    let (ack, answers) = given?;
+    let (ack, answers) = received(node, message, entropy)?;
     feed_ack(digest, &ack);
     feed_messages(digest, &answers);
     Ok(())
 }
 
-/// The node's timer ticks. Feeds what it gives. A refused call is made again.
+/// The node's timer ticks. A refused call is made again.
+fn ticked(node: &mut Node<Tally>, moment: u64, entropy: u8) -> Result<Vec<Message>, NodeFault> {
+    match node.timer(moment, [entropy; 32]) {
+        Err(NodeFault::Memory) => node.timer(moment, [entropy; 32]),
+        given => given,
+    }
+}
+
+/// The node's timer ticks. Feeds what it gives.
 fn tick(
     node: &mut Node<Tally>,
     moment: u64,
     entropy: u8,
     digest: &mut Sha256,
 ) -> Result<(), NodeFault> {
-    let given = match node.timer(moment, [entropy; 32]) {
-        Err(NodeFault::Memory) => node.timer(moment, [entropy; 32]),
-        given => given,
-    };
-    feed_messages(digest, &given?);
+    feed_messages(digest, &ticked(node, moment, entropy)?);
     Ok(())
 }
 
@@ -138,7 +149,7 @@ fn deliver(
         return Err(NodeFault::BadAck);
     };
     feed_message(digest, message);
-    let (ack, _) = receiver.receive(message, [entropy; 32])?;
+    let (ack, _) = received(receiver, message, entropy)?;
     feed_ack(digest, &ack);
     sender.accept_ack(&ack)
 }
@@ -151,7 +162,7 @@ fn exchange(
 ) -> Result<(), NodeFault> {
     for round in 0..16 {
         let done = u64::from(round);
-        let _ = asking.timer(done + 1, [round; 32])?;
+        let _ = ticked(asking, done + 1, round)?;
         deliver(asking, answering, 3 * done + 3, round | 64, digest)?;
         deliver(answering, asking, 2 * done + 3, round | 128, digest)?;
     }
