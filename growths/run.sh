@@ -17,7 +17,7 @@ for name in $("$tests" --list | sed -n 's/^\(node_tests::.*\): test$/\1/p'); do
   for ((growth = 1; growth <= all; growth++)); do
     if REFUSED=$growth LD_PRELOAD=$work/refuse.so "$tests" "$name" > "$work/told" 2>&1; then
       passed=$((passed + 1))
-    elif grep -qE '^error: (Memory|OutOfMemory|AllocFailed)' "$work/told"; then
+    elif grep -qE '^error: (Memory|OutOfMemory|AllocError|AllocFailed)' "$work/told"; then
       own=$((own + 1))
     else
       faults=$((faults + 1))
