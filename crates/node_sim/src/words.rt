@@ -1,6 +1,9 @@
 //! The words of the command line, read by `clap`.
 
-ghost use Rattle.std.specs.Prelude.{◌≡◌};
+ghost use Rattle.std.specs.Prelude.{◌≡◌, IfErr, IfOk, map};
+ghost use Rattle.std.specs.String.{string_bytes};
+ghost use Rattle.clap.specs.Words.{FailsBy, app_of, kind_of};
+ghost use Rattle.node_sim.specs.CommandLine.{IsStatusLine, program, word_faults};
 ghost use Rattle.node_sim.specs.declared.fault.Fault.{Fault};
 ghost use Rattle.node_sim.specs.declared.fault.Fault.TheVariants.{Memory};
 ghost use Rattle.node_sim.specs.declared.words.Asked.TheVariants.{Refused};
@@ -8,7 +11,7 @@ ghost use Rattle.node_sim.specs.declared.words.Asked.TheVariants.{Refused};
 use crate::fault::Fault;
 use clap::error::ErrorKind;
 use clap::{Arg, ArgAction, Command, Error};
-use std::alloc::Global;
+use std::alloc::{AllocError, Global};
 use std::io;
 
 /// What the words ask for.
@@ -50,8 +53,10 @@ fn words_of(rt: &HostRuntime) -> io::Result<Vec<String>> {
     Ok(words)
 }
 
-/// The only command is `status`, so words that clap takes ask for it.
-fn parsed(alloc: Global, words: &[String]) -> Result<(), Error> {
+/// The program's command.
+fn command<'a>(alloc: Global) -> Result<Command<'a>, AllocError>
+    ensures { IfOk result (λ c. app_of c ≡ program) }
+{
     let relay = Arg::new(alloc, "relay")
         .long("relay")
         .action(ArgAction::SetTrue)
@@ -59,11 +64,18 @@ fn parsed(alloc: Global, words: &[String]) -> Result<(), Error> {
     let status = Command::new(alloc, "status")
         .about("Reads a directory and a store, and writes what each node is")
         .arg(relay)?;
-    let command = Command::new(alloc, "node_sim")
+    Command::new(alloc, "node_sim")
         .about("What evidence says of the nodes of a directory")
         .subcommand_required(true)
         .arg_required_else_help(true)
-        .subcommand(status)?;
-    command.try_get_matches_from(words)?;
+        .subcommand(status)
+}
+
+/// The only command is `status`, so words that clap takes ask for it.
+fn parsed(alloc: Global, words: &[String]) -> Result<(), Error>
+    ensures faults { FailsBy (word_faults (map string_bytes words.now)) result }
+    ensures status { IsStatusLine (map string_bytes words.now) → IfErr result (λ e. kind_of e ≡ ErrorKind.OutOfMemory) }
+{
+    command(alloc)?.try_get_matches_from(words)?;
     Ok(())
 }

@@ -1,7 +1,6 @@
-use Rattle.std.proofs.Common.{◌≡◌, ◌-◌, ◌+◌, [], ◌∷◌, ◌++◌, ℕ, List, Result, Err, sym, ap, ◌∙◌, inr}
+use Rattle.std.proofs.Common.{◌-◌, ◌+◌, [], ◌∷◌, ◌++◌, ℕ, List, Result, sym, ap, ◌∙◌, inr}
 use Rattle.std.proofs.lemmas.Result.{err_from_is_err_and}
 use Rattle.log_chain.specs.declared.fault.FieldFault.{FieldFault}
-use Rattle.log_chain.specs.Fields.{bytes_at}
 use Rattle.outcome.specs.Outcome.{◌>>=◌, told_as}
 use Rattle.node_sim.specs.declared.fault.Fault.{Fault}
 use Rattle.node_sim.specs.declared.statement.Statement.{Statement}

@@ -1,0 +1,53 @@
+use Rattle.std.proofs.Common.{◌≡◌, ◌∙◌, ap, inl, inr, refl, rules, subst, sym, true, List, [], ◌∷◌, codes}
+use Rattle.clap.proofs.OnLiterals.{clap_on_literals}
+use Rattle.clap.specs.Words.{App, HasKind, Kinds, Text, fault_of, is_simple_and_free, kind_of}
+use Rattle.clap.specs.declared.error.Error.{Error}
+use Rattle.clap.specs.declared.error.ErrorKind.TheVariants.{OutOfMemory}
+use Rattle.node_sim.specs.CommandLine.{IsStatusLine, program, word_faults}
+use Rattle.node_sim.proofs.words.parsed.Goals as goal
+
+is_simple : is_simple_and_free program ≡ true
+unfolding clap_on_literals
+is_simple = refl
+
+of_program : (a : App) (words : List Text) → a ≡ program → fault_of a words ≡ word_faults words
+unfolding word_faults
+of_program a words is = ap (λ (a : App). fault_of a words) is
+
+status_taken : (name : Text) → word_faults (name ∷ codes "status" ∷ []) ≡ []
+unfolding clap_on_literals word_faults
+status_taken name = refl
+
+relay_taken : (name : Text) → word_faults (name ∷ codes "status" ∷ codes "--relay" ∷ []) ≡ []
+unfolding clap_on_literals word_faults
+relay_taken name = refl
+
+taken : (words : List Text) → IsStatusLine words → word_faults words ≡ []
+taken words (name, inl is) = ap word_faults is ∙ status_taken name
+taken words (name, inr is) = ap word_faults is ∙ relay_taken name
+
+want_of_memory : (ks : Kinds) (e : Error) → HasKind ks e → ks ≡ [] → kind_of e ≡ OutOfMemory
+want_of_memory ks e (inl is) none = is
+want_of_memory [] e (inr h) none = absurd h
+want_of_memory (k ∷ ks) e (inr h) none = cc
+
+told : (a : App) (words : List Text) (e : Error) → a ≡ program → HasKind (fault_of a words) e → HasKind (word_faults words) e
+told a words e is h = subst (λ (ks : Kinds). HasKind ks e) (of_program a words is) h
+
+pub returns-in_err-try_get_matches_from-clause-faults : goal.returns-in_err-try_get_matches_from-clause-faults
+returns-in_err-try_get_matches_from-clause-faults c =
+    let is = c.in_ok-command.ensures in
+    let kinds = told _ _ c.in_err-try_get_matches_from.field-0.0 is (c.in_err-try_get_matches_from.ensures.kinds (ap is_simple_and_free is ∙ is_simple)) in
+    search rules
+
+pub returns-in_err-try_get_matches_from-clause-status : goal.returns-in_err-try_get_matches_from-clause-status
+returns-in_err-try_get_matches_from-clause-status c =
+    let is = c.in_ok-command.ensures in
+    let kinds = told _ _ c.in_err-try_get_matches_from.field-0.0 is (c.in_err-try_get_matches_from.ensures.kinds (ap is_simple_and_free is ∙ is_simple)) in
+    λ line. let spent = want_of_memory _ c.in_err-try_get_matches_from.field-0.0 kinds (taken _ line) in search rules
+
+pub returns-clause-faults : goal.returns-clause-faults
+returns-clause-faults c =
+    let is = c.in_ok-command.ensures in
+    let kinds = c.in_ok-try_get_matches_from.ensures.kinds (ap is_simple_and_free is ∙ is_simple) in
+    sym (of_program _ _ is) ∙ kinds
