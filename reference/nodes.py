@@ -1,0 +1,227 @@
+#!/usr/bin/env python3
+"""Computes, over Python's hashlib alone, the values that the tests of messages and of nodes hold, and looks for each in its file.
+
+It shares no code with the crates: LMS with H5 (RFC 8554), the hash chain of a log, and nodes under Tally are written here again,
+from the formats (docs/FORMATS.md) and the RFC. A node's key has the identifier and the seed that end in the node's number.
+"""
+
+import hashlib
+import os
+import struct
+import sys
+
+HEIGHT = 5
+LEAVES = 1 << HEIGHT
+# of a typecode of LM-OTS: the width of a digit in bits, the number of chains, the shift of the checksum
+OTS = {3: (4, 67, 4), 4: (8, 34, 0)}
+
+
+def sha256(*texts):
+    return hashlib.sha256(b"".join(texts)).digest()
+
+
+def u8(number):
+    return bytes([number])
+
+
+def u16(number):
+    return struct.pack(">H", number)
+
+
+def u32(number):
+    return struct.pack(">I", number)
+
+
+def u64(number):
+    return struct.pack(">Q", number)
+
+
+class Key:
+    """A secret key of RFC 8554, appendix A, with its whole tree."""
+
+    def __init__(self, node, ots_type):
+        self.identifier, self.seed = bytes(12) + u32(node), bytes(28) + u32(node)
+        self.ots_type, self.next_leaf = ots_type, 0
+        self.width, self.chains, self.shift = OTS[ots_type]
+        self.tree = {LEAVES + leaf: self.leaf_hash(leaf) for leaf in range(LEAVES)}
+        for r in range(LEAVES - 1, 0, -1):
+            self.tree[r] = sha256(self.identifier, u32(r), u16(0x8383), self.tree[2 * r], self.tree[2 * r + 1])
+
+    def leaf_hash(self, leaf):
+        ends = [self.chain(leaf, i, self.start(leaf, i), (1 << self.width) - 1) for i in range(self.chains)]
+        public = sha256(self.identifier, u32(leaf), u16(0x8080), *ends)
+        return sha256(self.identifier, u32(LEAVES + leaf), u16(0x8282), public)
+
+    def start(self, leaf, i):
+        return sha256(self.identifier, u32(leaf), u16(i), u8(0xFF), self.seed)
+
+    def chain(self, leaf, i, value, steps):
+        for j in range(steps):
+            value = sha256(self.identifier, u32(leaf), u16(i), u8(j), value)
+        return value
+
+    def digits(self, text):
+        return [(byte >> (8 - self.width * (k + 1))) & ((1 << self.width) - 1) for byte in text for k in range(8 // self.width)]
+
+    def sign(self, message, c):
+        leaf, self.next_leaf = self.next_leaf, self.next_leaf + 1
+        assert leaf < LEAVES
+        digest = sha256(self.identifier, u32(leaf), u16(0x8181), c, message)
+        checksum = sum((1 << self.width) - 1 - digit for digit in self.digits(digest)) << self.shift
+        digits = self.digits(digest + u16(checksum))[: self.chains]
+        values = [self.chain(leaf, i, self.start(leaf, i), digit) for i, digit in enumerate(digits)]
+        path = [self.tree[((LEAVES + leaf) >> level) ^ 1] for level in range(HEIGHT)]
+        return b"".join([u32(leaf), u32(self.ots_type), c, *values, u32(HEIGHT), *path])
+
+
+def entry_hash(before, seq, kind, content):
+    return sha256(before, u64(seq), u8(kind), sha256(content))
+
+
+class Message:
+    def __init__(self, sender, receiver, seq, before, signature, payload):
+        self.sender, self.receiver, self.seq, self.before, self.signature, self.payload = sender, receiver, seq, before, signature, payload
+
+    def quote(self):
+        """The content of the receiver's RECV entry."""
+        return u32(self.sender) + u64(self.seq) + self.before + u32(len(self.signature)) + self.signature + self.payload
+
+    def fed(self):
+        """What the tests feed to a digest."""
+        head = u32(self.sender) + u32(self.receiver) + u64(self.seq) + self.before
+        return head + u64(len(self.signature)) + self.signature + u64(len(self.payload)) + self.payload
+
+
+class Ack:
+    def __init__(self, sender, send_seq, seq, before, signature):
+        self.sender, self.send_seq, self.seq, self.before, self.signature = sender, send_seq, seq, before, signature
+
+    def fed(self):
+        return u32(self.sender) + u64(self.send_seq) + u64(self.seq) + self.before + u64(len(self.signature)) + self.signature
+
+
+class Node:
+    """A node under Tally in the directory of the nodes 1, 2 and 3."""
+
+    def __init__(self, number, first_seq):
+        self.number, self.key, self.next_seq, self.end = number, Key(number, 3), first_seq, sha256()
+        self.total, self.entries, self.signed, self.sent, self.acks, self.awaited = 0, 0, [], {}, {}, []
+        self.log(1, u32(number))
+
+    def log(self, kind, content):
+        """Logs an entry, and gives its number and the hash before it."""
+        place = self.next_seq, self.end
+        self.end = entry_hash(self.end, self.next_seq, kind, content)
+        self.next_seq, self.entries = self.next_seq + 1, self.entries + 1
+        return place
+
+    def sign(self, entropy, k):
+        """Signs the last entry as the signature number k of a call."""
+        seq = self.next_seq - 1
+        signature = self.key.sign(u64(seq) + self.end, sha256(entropy, u32(k)))
+        self.signed.append(u32(self.number) + u64(seq) + self.end + u64(len(signature)) + signature)
+        return signature
+
+    def send(self, outputs, entropy, k):
+        messages = []
+        for receiver, payload in outputs:
+            if receiver != self.number and receiver in (1, 2, 3):
+                seq, before = self.log(2, u32(receiver) + payload)
+                self.sent[seq] = Message(self.number, receiver, seq, before, self.sign(entropy, k + len(messages)), payload)
+                self.awaited.append(seq)
+                messages.append(self.sent[seq])
+        return messages
+
+    def timer(self, moment, entropy):
+        self.log(4, u64(moment))
+        return self.send([(self.number + 1, b"A" + u64(moment))], entropy, 0)
+
+    def receive(self, message, entropy):
+        content = message.quote()
+        if content in self.acks:
+            return self.acks[content], []
+        seq, before = self.log(3, content)
+        ack = self.acks[content] = Ack(self.number, message.seq, seq, before, self.sign(entropy, 0))
+        if len(message.payload) != 9 or message.payload[:1] != b"A":
+            return ack, []
+        self.total = min(2**64 - 1, self.total + int.from_bytes(message.payload[1:], "big"))
+        return ack, self.send([(message.sender, b"T" + u64(self.total))], entropy, 1)
+
+    def checkpoint(self):
+        return self.log(5, u64(self.total))[0]
+
+    def accept(self, ack):
+        self.awaited.remove(ack.send_seq)
+
+
+def message_to_2(key, seq, number):
+    """Node 1's message that adds the number, after 32 zero bytes in its log."""
+    before, payload = bytes(32), b"A" + u64(number)
+    statement = u64(seq) + entry_hash(before, seq, 2, u32(2) + payload)
+    return Message(1, 2, seq, before, key.sign(statement, bytes([9]) * 32), payload)
+
+
+def of_call(number):
+    return bytes([number]) * 32
+
+
+def spent():
+    node, key, digest = Node(2, 1), Key(1, 3), hashlib.sha256()
+    for message in node.timer(9, of_call(1)):
+        digest.update(message.fed())
+    for seq in range(2, 17):
+        message = message_to_2(key, seq, 1)
+        for entropy in (seq, seq | 64):
+            ack, answers = node.receive(message, of_call(entropy))
+            digest.update(ack.fed() + b"".join(answer.fed() for answer in answers))
+    assert (node.entries, len(node.signed), len(node.awaited), LEAVES - node.key.next_leaf) == (33, 31, 16, 1)
+    return [digest.digest(), node.end]
+
+
+def exchange():
+    asking, answering, digest = Node(1, 1), Node(2, 1), hashlib.sha256()
+    for turn in range(16):
+        (ask,) = asking.timer(turn + 1, of_call(turn))
+        ack, (answer,) = answering.receive(ask, of_call(turn | 64))
+        asking.accept(ack)
+        second_ack, none = asking.receive(answer, of_call(turn | 128))
+        answering.accept(second_ack)
+        assert (ask.seq, answer.seq, none) == (3 * turn + 3, 2 * turn + 3, [])
+        digest.update(ask.fed() + ack.fed() + answer.fed() + second_ack.fed())
+    for node, entries in (asking, 49), (answering, 33):
+        assert (node.entries, len(node.signed), node.awaited, node.key.next_leaf) == (entries, LEAVES, [], LEAVES)
+    return [digest.digest(), asking.end, answering.end]
+
+
+def checkpoint():
+    node, digest = Node(2, 5), hashlib.sha256()
+    ack, (answer,) = node.receive(message_to_2(Key(1, 3), 2, 7), of_call(1))
+    assert node.checkpoint() == 8
+    (told,) = node.timer(10, of_call(2))
+    assert node.awaited == [7, 10] and (node.entries, len(node.signed)) == (6, 3)
+    digest.update(ack.fed() + 3 * (answer.fed() + told.fed()) + b"".join(node.signed))
+    return [digest.digest(), node.end]
+
+
+def messages():
+    sent = entry_hash(bytes([0x55]) * 32, 7, 2, u32(2) + b"hello")
+    signature = Key(1, 4).sign(u64(7) + sent, bytes([9]) * 32)
+    quote = Message(1, 2, 7, bytes([0x55]) * 32, signature, b"hello").quote()
+    received = entry_hash(bytes([0x66]) * 32, 11, 3, quote)
+    return [sent, sha256(signature), received, sha256(Key(2, 4).sign(u64(11) + received, bytes([8]) * 32))]
+
+
+def main():
+    crates = os.path.join(os.path.dirname(os.path.abspath(__file__)), "..", "crates")
+    missing = 0
+    for path, values in ("commitment/src/tests.rt", messages()), ("node_sim/src/node_tests.rt", spent() + exchange() + checkpoint()):
+        with open(os.path.join(crates, path), encoding="utf-8") as file:
+            text = file.read()
+        for value in values:
+            stands = value.hex() in text
+            missing += not stands
+            print(value.hex(), "stands in" if stands else "is not in", path)
+    sys.exit(missing != 0)
+
+
+main()
