@@ -23,7 +23,7 @@ use std::alloc::{AllocError, Global};
 use std::marker::Model;
 
 /// The greatest number of nodes in a directory.
-const MOST_NODES: usize = 1024;
+pub const MOST_NODES: usize = 1024;
 
 const MAGIC: [u8; 8] = *b"PRDIRECT";
 

@@ -7,7 +7,7 @@
 
 pub use authenticator::{Authenticator, statement_text};
 pub use authenticator_store::{AuthenticatorStore, InsertRefused};
-pub use directory::Directory;
+pub use directory::{Directory, MOST_NODES};
 pub use fault::DirectoryFault;
 pub use node::NodeId;
 

@@ -9,7 +9,7 @@
 
 pub use key::{KeyFault, PublicKey};
 pub use secret_key::{MakeFault, SecretKey, SignFault};
-pub use types::{LmsType, OtsType};
+pub use types::{LONGEST_SIGNATURE, LmsType, OtsType};
 pub use verification::verify;
 
 mod chain_ends;

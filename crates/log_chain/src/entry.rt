@@ -1,7 +1,9 @@
 //! Entries of a log, and their hashes.
 
-ghost use Rattle.std.specs.Prelude.{◌≡◌, ◌+◌, ◌≤◌, ◌++◌, IfOk, length, take};
-ghost use Rattle.log_chain.specs.Chain.{chain_end, entry_hash, entry_text};
+ghost use Rattle.std.specs.Prelude.{◌≡◌, ◌+◌, ◌≤◌, ◌++◌, ◌∷◌, ℕ, IfOk, List, length, take};
+ghost use Rattle.std.specs.Int.{to_be_bytes, w64};
+ghost use Rattle.sha2.specs.Sha256.{sha256};
+ghost use Rattle.log_chain.specs.Chain.{chain_end, entry_hash};
 
 use crate::byte_string::ByteString;
 use crate::hash::Hash;
@@ -42,24 +44,34 @@ fn put(text: &mut [u8], place: usize, bytes: &[u8])
     text[place..place + bytes.len()].copy_from_slice(bytes);
 }
 
-/// The text that is hashed for an entry. Of the content only its digest is taken.
-pub(crate) fn hashed_text(prev: Hash, entry: &Entry) -> [u8; 73]
-    ensures { result ≡ entry_text prev entry.now }
+/// The text that is hashed for an entry, of whose content only the digest is taken.
+pub(crate) fn hashed_text(prev: Hash, seq: u64, kind: u8, digest: [u8; 32]) -> [u8; 73]
+    ensures { result ≡ prev ++ to_be_bytes w64 seq ++ kind ∷ digest }
 {
-    let digest = Sha256::digest(entry.content.as_slice());
     let mut text = [0u8; 73];
     put(&mut text, 0, &prev.0);
-    put(&mut text, 32, &entry.seq.to_be_bytes());
-    put(&mut text, 40, &[entry.kind]);
+    put(&mut text, 32, &seq.to_be_bytes());
+    put(&mut text, 40, &[kind]);
     put(&mut text, 41, &digest);
     text
+}
+
+/// The hash of an entry whose content has this SHA-256 digest, after the hash before it: one digest of 73 bytes. So whoever
+/// has a content in pieces, or its digest alone, need not put it together. It takes no memory.
+#[tactic(auto, unfolding(crate::specs::Chain::entry_text))]
+pub fn entry_hash_of_digest(prev: Hash, seq: u64, kind: u8, digest: [u8; 32]) -> Hash
+    ensures text { result ≡ sha256 (prev ++ to_be_bytes w64 seq ++ kind ∷ digest) }
+    ensures entry { (content : List ℕ) → digest ≡ sha256 content → result ≡ entry_hash prev (record { seq = seq; kind = kind; content = content }) }
+{
+    Hash(Sha256::digest(hashed_text(prev, seq, kind, digest)))
 }
 
 /// The hash of an entry after the hash before it: one digest of its content, and one of 73 bytes. It takes no memory.
 pub fn entry_hash(prev: Hash, entry: &Entry) -> Hash
     ensures { result ≡ entry_hash prev entry.now }
 {
-    Hash(Sha256::digest(hashed_text(prev, entry)))
+    let digest = Sha256::digest(entry.content.as_slice());
+    entry_hash_of_digest(prev, entry.seq, entry.kind, digest)
 }
 
 /// The hash of the last entry after the hash `prev` before the first, or `prev` where there is none. It takes no memory.

@@ -7,12 +7,13 @@
 #![tactic(auto)]
 
 pub use byte_string::ByteString;
-pub use entry::{Entry, chain_end, entry_hash};
+pub use entry::{Entry, chain_end, entry_hash, entry_hash_of_digest};
 pub use entry_list::EntryList;
 pub use fault::{AppendFault, FieldFault, SegmentFault};
 pub use field_reader::FieldReader;
 pub use field_writer::FieldWriter;
 pub use hash::{Hash, base_hash};
+pub use limits::{LONGEST_CONTENT, MOST_ENTRIES};
 pub use secure_history::{AppendRefused, SecureHistory};
 
 mod byte_string;
@@ -23,7 +24,9 @@ mod field_reader;
 mod field_writer;
 mod finding;
 mod hash;
+pub mod kind;
 pub mod laws;
+mod limits;
 mod secure_history;
 #[cfg(test)]
 mod tests;

@@ -3,8 +3,9 @@
 use crate::entry::hashed_text;
 use crate::{
     AppendFault, ByteString, Entry, EntryList, FieldFault, FieldReader, FieldWriter, Hash,
-    SecureHistory, SegmentFault, base_hash, chain_end, entry_hash,
+    SecureHistory, SegmentFault, base_hash, chain_end, entry_hash, entry_hash_of_digest, kind,
 };
+use sha2::{Digest, Sha256};
 use std::alloc::{AllocError, Global};
 use std::hash::{DefaultHasher, Hash as _, Hasher};
 use std::test::*;
@@ -108,6 +109,7 @@ const THIRD: Hash = Hash([
 #[test]
 fn an_entry_is_hashed_behind_the_hash_before_it(rt: HostRuntime) -> Result<(), Fail> {
     let abc = entry(rt.alloc(), 7, 2, b"abc")?;
+    let digest = Sha256::digest(b"abc");
     let text = [
         0xe3, 0xb0, 0xc4, 0x42, 0x98, 0xfc, 0x1c, 0x14, 0x9a, 0xfb, 0xf4, 0xc8, 0x99, 0x6f, 0xb9,
         0x24, 0x27, 0xae, 0x41, 0xe4, 0x64, 0x9b, 0x93, 0x4c, 0xa4, 0x95, 0x99, 0x1b, 0x78, 0x52,
@@ -120,8 +122,9 @@ fn an_entry_is_hashed_behind_the_hash_before_it(rt: HostRuntime) -> Result<(), F
         0xb0, 0x4c, 0xf4, 0x50, 0xa6, 0xe1, 0x57, 0x9b, 0xeb, 0xdf, 0x73, 0x6f, 0xa6, 0x84, 0xd0,
         0x31, 0xe6,
     ]);
-    assert!(rt; hashed_text(base_hash(), &abc) == text);
+    assert!(rt; hashed_text(base_hash(), 7, kind::SEND, digest) == text);
     assert!(rt; entry_hash(base_hash(), &abc) == hash);
+    assert!(rt; entry_hash_of_digest(base_hash(), 7, kind::SEND, digest) == hash);
     Ok(())
 }
 

@@ -5,11 +5,13 @@
 //! `specs/Conforming.antt` defines which logs a node that follows its program can have.
 #![tactic(auto)]
 
+pub use limits::{LONGEST_PAYLOAD, LONGEST_STATE, MOST_OUTPUTS};
 pub use output::{Output, OutputList, outs};
 pub use program::{Input, Program, Step};
 pub use receipt::Receipt;
 
 pub mod laws;
+mod limits;
 mod output;
 mod program;
 mod receipt;

@@ -3,14 +3,11 @@
 ghost use Rattle.std.specs.Prelude.{◌≡◌, [], filter};
 ghost use Rattle.replay_verifier.specs.Sending.{is_sent, outs};
 
+use crate::limits::{LONGEST_PAYLOAD, MOST_OUTPUTS};
 use authenticators::{Directory, NodeId};
 use log_chain::ByteString;
 use std::alloc::Global;
 use std::marker::Model;
-
-const MOST_OUTPUTS: usize = 16;
-
-const LONGEST_PAYLOAD: usize = 65536;
 
 /// A message that a step puts out, before it is known whether it is sent.
 #[derive(Debug, Drop, PartialEq, Eq)]
