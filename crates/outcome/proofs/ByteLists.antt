@@ -1,10 +1,20 @@
 -- Parts of texts of bytes, and numbers spelled in four or eight bytes.
-use Rattle.std.proofs.Common.{◌≡◌, ℕ, ◌+◌, ◌^◌, ◌<◌, List, length, take, drop, refl, arith, inl, inr}
+use Rattle.std.proofs.Common.{◌≡◌, ℕ, zero, suc, ◌+◌, ◌^◌, ◌<◌, List, [], ◌∷◌, length, take, drop, refl, arith, inl, inr}
 use Rattle.std.specs.Int.{Width, w32, w64, byte_len, from_be_bytes, to_be_bytes}
 use Rattle.std.proofs.lemmas.Bool.{cases_lt}
 use Rattle.std.proofs.lemmas.List.{length-take, get_or-drop, get_or-take, get_or_past}
 use Rattle.std.proofs.lemmas.Nat.{be_bytes_4, be_bytes_8, from_be_bytes-to_be_bytes_4, from_be_bytes-to_be_bytes_8}
 use Rattle.outcome.specs.Bytes.{IsBytes}
+
+pub IsBytes-cons : (byte : ℕ) (text : List ℕ) → byte < 256 → IsBytes text → IsBytes (byte ∷ text)
+IsBytes-cons byte text first others zero = first
+IsBytes-cons byte text first others (suc i) = others i
+
+pub IsBytes-rest : (byte : ℕ) (text : List ℕ) → IsBytes (byte ∷ text) → IsBytes text
+IsBytes-rest byte text h i = h (suc i)
+
+pub IsBytes-none : IsBytes []
+IsBytes-none i = omega arith
 
 pub IsBytes-drop : (n : ℕ) (bytes : List ℕ) → IsBytes bytes → IsBytes (drop n bytes)
 IsBytes-drop n bytes h i = rw get_or-drop (h (n + i))

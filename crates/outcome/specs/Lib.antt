@@ -1,2 +1,3 @@
 pub mod Bytes
+pub mod Equality
 pub mod Outcome

@@ -1,7 +1,7 @@
 -- The words by which contracts speak of refusals.
 -- A call is compared with what is expected of it: a function on lists, which has no memory to run out of.
 -- `memory` is the variant of the call's faults that says that memory ran out.
-use Rattle.std.specs.Prelude.{◌≡◌, ◌⊎◌, Result, Ok, Err}
+use Rattle.std.specs.Prelude.{◌≡◌, ◌⊎◌, ◌↔◌, Result, Ok, Err}
 
 -- ---- what is expected
 
@@ -56,3 +56,38 @@ FaultsAreTold A E F = (tell : E → F) (low : E) (memory : F) (e : E) (step : Re
 -- A sequence has a value only where each of its steps has one.
 abbrev pub ValuesComeOfValues : (A B E : Type 0) → Type 0
 ValuesComeOfValues A B E = (step : Result A E) (next : A → Result B E) (y : B) → (step >>= next) ≡ Ok y → (x : A) × (step ≡ Ok x) × (next x ≡ Ok y)
+
+-- ---- what each word excludes, which `laws` proves too
+
+-- Where a value is expected, no fault but the want of memory; where a fault is expected, that one or the want of memory.
+pub record FailsAsExpected (Y E : Type 0) : Type 0 where
+  pub of_value : (memory e : E) (y : Y) → Fails memory e (Ok y) ↔ (e ≡ memory)
+  pub of_fault : (memory e f : E) → Fails {Y = Y} memory e (Err f) ↔ ((e ≡ memory) ⊎ (f ≡ e))
+
+-- Each value is the expected one, and where a fault is expected there is none; each fault is as FailsAsExpected tells.
+pub record GivesAsExpected (X Y E : Type 0) : Type 0 where
+  pub value : (memory : E) (view : X → Y) (x : X) (y : Y) → Gives memory view (Ok x) (Ok y) ↔ (y ≡ view x)
+  pub no_value : (memory f : E) (view : X → Y) (x : X) → Gives memory view (Ok x) (Err f) → ⊥
+  pub of_value : (memory e : E) (view : X → Y) (y : Y) → Gives memory view (Err e) (Ok y) ↔ (e ≡ memory)
+  pub of_fault : (memory e f : E) (view : X → Y) → Gives memory view (Err e) (Err f) ↔ ((e ≡ memory) ⊎ (f ≡ e))
+
+-- The state that is left is the expected one, and none is left where a fault is expected; with a fault the old one stays.
+pub record LeavesAsExpected (X Y E : Type 0) : Type 0 where
+  pub value : (memory : E) (x : X) (old new y : Y) → Leaves memory (Ok x) old new (Ok y) ↔ (y ≡ new)
+  pub no_value : (memory f : E) (x : X) (old new : Y) → Leaves memory (Ok x) old new (Err f) → ⊥
+  pub of_value : (memory e : E) (old new y : Y) → Leaves {X = X} memory (Err e) old new (Ok y) ↔ ((new ≡ old) × (e ≡ memory))
+  pub of_fault : (memory e f : E) (old new : Y) → Leaves {X = X} memory (Err e) old new (Err f) ↔ ((new ≡ old) × ((e ≡ memory) ⊎ (f ≡ e)))
+
+-- What is taken is the expected value, and what is left the expected rest; each fault is as FailsAsExpected tells.
+pub record TookAsExpected (X Y Rest E : Type 0) : Type 0 where
+  pub value : (memory : E) (view : X → Y) (x : X) (y : Y) (left rest : Rest) → Took memory view (Ok x) left (Ok (y, rest)) ↔ ((y ≡ view x) × (rest ≡ left))
+  pub no_value : (memory f : E) (view : X → Y) (x : X) (left : Rest) → Took memory view (Ok x) left (Err f) → ⊥
+  pub of_value : (memory e : E) (view : X → Y) (y : Y) (left rest : Rest) → Took memory view (Err e) left (Ok (y, rest)) ↔ (e ≡ memory)
+  pub of_fault : (memory e f : E) (view : X → Y) (left : Rest) → Took memory view (Err e) left (Err f) ↔ ((e ≡ memory) ⊎ (f ≡ e))
+
+-- What is read is the expected value, and what is left the expected rest; a fault is the expected one, and leaves the place.
+pub record ReadsAsExpected (X Y Rest E : Type 0) : Type 0 where
+  pub value : (view : X → Y) (x : X) (y : Y) (old new rest : Rest) → Reads {E = E} view (Ok x) old new (Ok (y, rest)) ↔ ((y ≡ view x) × (rest ≡ new))
+  pub no_value : (f : E) (view : X → Y) (x : X) (old new : Rest) → Reads view (Ok x) old new (Err f) → ⊥
+  pub no_fault : (e : E) (view : X → Y) (y : Y) (old new rest : Rest) → Reads view (Err e) old new (Ok (y, rest)) → ⊥
+  pub of_fault : (e f : E) (view : X → Y) (old new : Rest) → Reads view (Err e) old new (Err f) ↔ ((f ≡ e) × (new ≡ old))
