@@ -1,9 +1,8 @@
 -- Texts of 55 bytes as one block, in words.
-use Rattle.std.proofs.Common.{◌≡◌, ℕ, zero, suc, ◌<◌, ◌+◌, ◌*◌, ◌/◌, ◌%◌, ◌^◌, List, [], ◌∷◌, ◌++◌, length, slice_index, arith, inl, inr, refl, subst, ap, ◌∙◌, w32, length-append}
+use Rattle.std.proofs.Common.{◌≡◌, ℕ, zero, suc, ◌<◌, ◌+◌, ◌*◌, ◌/◌, ◌%◌, ◌^◌, List, [], ◌∷◌, ◌++◌, length, slice_index, arith, refl, subst, ap, ◌∙◌, w32, length-append}
 use Rattle.std.proofs.lemmas.Simd.{pick_l_whole}
-use Rattle.std.proofs.lemmas.Bool.{cases_lt}
 use Rattle.std.specs.Int.{from_be_bytes}
-use Rattle.sha2.specs.Sha256.{add32, compress, digest_bytes, hash_after, initial_hash_256, padded_message, sha256, word_at}
+use Rattle.sha2.specs.Sha256.{add32, compress, digest_bytes, hash_after, initial_hash_256, padded_message, sha256}
 use Rattle.sha256_lanes.specs.Lanes.{across, HasPlace, IsBlock}
 use Rattle.sha256_lanes.proofs.LaneLemmas.{below_four}
 
@@ -21,35 +20,11 @@ pub below_five : (P : ℕ → Type 0) → P 0 → P 1 → P 2 → P 3 → P 4 �
 below_five P p0 p1 p2 p3 p4 zero h = p0
 below_five P p0 p1 p2 p3 p4 (suc k) h = below_four (λ i. P (suc i)) p1 p2 p3 p4 k (omega arith)
 
--- what holds of each of the first thirteen words
-pub below_thirteen : (P : ℕ → Type 0) → P 0 → P 1 → P 2 → P 3 → P 4 → P 5 → P 6 → P 7 → P 8 → P 9 → P 10 → P 11 → P 12 → (k : ℕ) → k < 13 → P k
-below_thirteen P a0 a1 a2 a3 b0 b1 b2 b3 c0 c1 c2 c3 d0 k h = elim (cases_lt k 12) [
-  | inl low ↦
-      let place : 4 * (k / 4) + k % 4 ≡ k = omega arith in
-      subst P place (below_four (λ row. row < 3 → (col : ℕ) → col < 4 → P (4 * row + col))
-      (λ _. below_four _ a0 a1 a2 a3) (λ _. below_four _ b0 b1 b2 b3) (λ _. below_four _ c0 c1 c2 c3) (λ lt. absurd (omega arith))
-      (k / 4) (omega arith) (omega arith) (k % 4) (omega arith))
-  | inr high ↦ let last : 12 ≡ k = omega arith in subst P last d0
-]
-
 -- a text of 55 bytes has one block
 pub one_block : (m : List ℕ) → length m ≡ 55 → sha256 m ≡ digest_bytes (compress initial_hash_256 (padded_message m)) 8
 unfolding sha256 hash_after
 one_block m len =
     subst (λ (t : List ℕ). sha256 t ≡ digest_bytes (compress initial_hash_256 (padded_message t)) 8) (pick_l_whole 0 m 55 len) refl
-
--- the words of the block of a text of 55 bytes
-pub text_words : (m w : List ℕ) → length m ≡ 55 → length w ≡ 16 → ((k : ℕ) → k < 13 → slice_index w k ≡ word_at m (4 * k))
-    → slice_index w 13 ≡ from_be_bytes w32 (slice_index m 52 ∷ slice_index m 53 ∷ slice_index m 54 ∷ 0x80 ∷ [])
-    → slice_index w 14 ≡ 0
-    → slice_index w 15 ≡ 440
-    → IsBlock (padded_message m) w
-text_words m w len long words w13 w14 w15 =
-    subst (λ (t : List ℕ). IsBlock (padded_message t) w) (pick_l_whole 0 m 55 len) (
-      long,
-      below_sixteen _ (words 0 (omega arith)) (words 1 (omega arith)) (words 2 (omega arith)) (words 3 (omega arith)) (words 4 (omega arith)) (words 5 (omega arith)) (words 6 (omega arith))
-          (words 7 (omega arith)) (words 8 (omega arith)) (words 9 (omega arith)) (words 10 (omega arith)) (words 11 (omega arith)) (words 12 (omega arith)) w13 w14 w15,
-    )
 
 -- the place's last bytes, the step and the value's first byte are a word
 joint_word : (a b n x high : ℕ) → a < 256 → b < 256 → n < 256 → high ≡ a * 2 ^ 24 + b * 2 ^ 16

@@ -1,16 +1,13 @@
-//! SHA-256 (FIPS 180-4) in four lanes of a vector: the digests of four texts of one block, and four
-//! hash chains side by side.
+//! SHA-256 (FIPS 180-4) in four lanes of a vector: four hash chains side by side.
 #![tactic(auto)]
 
 mod blocks;
 mod chains;
 mod compression;
 mod constants;
-mod digests;
 mod steps;
 #[cfg(test)]
 mod tests;
 mod words;
 
 pub use chains::four_chains;
-pub use digests::four_digests;
