@@ -8,3 +8,4 @@ pub mod NodeHashes
 pub mod OrderedChains
 pub mod Paths
 pub mod SignedTexts
+pub mod Lengths

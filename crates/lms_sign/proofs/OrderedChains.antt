@@ -5,7 +5,7 @@ use Rattle.std.proofs.lemmas.List.{get_or-set_same, get_or-set_other, get_or_def
 use Rattle.std.proofs.lemmas.List.Sorted.{All-permutation, Contains-permutation}
 use Rattle.std.proofs.lemmas.Simd.{pick_l_whole}
 use Rattle.std.specs.Int.{to_be_bytes}
-use Rattle.lms_sign.specs.LeafChains.{place_of, IsEntry}
+use Rattle.lms_sign.specs.within.LeafChains.{place_of, IsEntry}
 
 -- a chain's place, byte by byte
 pub place_is : (leaf ns : List ℕ) (i : ℕ) → length leaf ≡ 20 → ns ≡ to_be_bytes w16 i

@@ -2,8 +2,8 @@ pub mod Parameters
 pub mod Numbers
 pub mod OneTimeSignature
 pub mod MerkleTree
-pub mod LeafChains
 pub mod LmsSignature
 pub mod KeyText
 pub mod Signing
-pub mod TreeNodes
+pub mod Refusals
+pub mod within

@@ -4,7 +4,7 @@ ghost use Rattle.std.specs.Prelude.{◌≡◌, ℕ, List, [], ◌++◌, ◌-◌,
 ghost use Rattle.std.specs.List.{flat_map};
 ghost use Rattle.lms_sign.specs.Numbers.{coef, hash_at, u32_text};
 ghost use Rattle.lms_sign.specs.OneTimeSignature.{chain_ends, key_hash};
-ghost use Rattle.lms_sign.specs.LeafChains.{AreEnds};
+ghost use Rattle.lms_sign.specs.within.LeafChains.{AreEnds};
 ghost use Rattle.lms_sign.specs.Parameters.{chain_count, width};
 ghost use Rattle.lms_sign.specs.Signing.{joined};
 

@@ -2,7 +2,7 @@
 
 ghost use Rattle.std.specs.Prelude.{◌≡◌, ℕ, List, [], ◌+◌, ◌-◌, ◌*◌, ◌<◌, ◌≤◌, length, slice_index, slice_index_or, slice_set, All};
 ghost use Rattle.sha256_lanes.specs.HashChain.{chain};
-ghost use Rattle.lms_sign.specs.LeafChains.{end_of, place_of, IsEntry};
+ghost use Rattle.lms_sign.specs.within.LeafChains.{end_of, place_of, IsEntry};
 
 use crate::chain_order::{MAX_CHAINS, sort_chains};
 use sha256_lanes::four_chains;

@@ -1,7 +1,7 @@
 //! The order in which the chains of a leaf are taken.
 
 ghost use Rattle.std.specs.Prelude.{◌≡◌, ℕ, ◌<◌, ◌≤◌, length, slice_index, slice_index_or, All, Contains};
-ghost use Rattle.lms_sign.specs.LeafChains.{IsEntry};
+ghost use Rattle.lms_sign.specs.within.LeafChains.{IsEntry};
 
 /// The most chains that a leaf has: those of LMOTS_SHA256_N32_W1 (RFC 8554, section 4.1).
 pub(crate) const MAX_CHAINS: usize = 265;

@@ -1,5 +1,5 @@
 use Rattle.std.proofs.Common.{◌≡◌, ℕ, [], slice_index_or, subst}
-use Rattle.lms_sign.specs.LeafChains.{end_of}
+use Rattle.lms_sign.specs.within.LeafChains.{end_of}
 use Rattle.lms_sign.proofs.chain_groups.all_ends.Goals as goal
 
 pub returns-clause-ends : goal.returns-clause-ends

@@ -1,6 +1,6 @@
 use Rattle.std.proofs.Common.{◌≡◌, ℕ, ◌+◌, ◌-◌, ◌*◌, List, [], length, slice_index, slice_index_or, arith, refl, ap, ◌∙◌}
 use Rattle.sha256_lanes.specs.HashChain.{chain}
-use Rattle.lms_sign.specs.LeafChains.{end_of, place_of}
+use Rattle.lms_sign.specs.within.LeafChains.{end_of, place_of}
 use Rattle.lms_sign.proofs.OrderedChains.{stored}
 use Rattle.lms_sign.proofs.chain_groups.run_in_order.Goals as goal
 

@@ -1,5 +1,5 @@
 use Rattle.std.proofs.Common.{◌*◌, length}
-use Rattle.lms_sign.specs.LeafChains.{end_of}
+use Rattle.lms_sign.specs.within.LeafChains.{end_of}
 use Rattle.lms_sign.proofs.OrderedChains.{Held}
 use Rattle.lms_sign.proofs.chain_groups.run_in_order.Given as goal
 

@@ -1,0 +1,2 @@
+pub mod LeafChains
+pub mod TreeNodes
