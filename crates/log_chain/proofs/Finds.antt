@@ -9,7 +9,7 @@ use Rattle.log_chain.specs.Chain.{Rising, chain_end}
 use Rattle.log_chain.specs.declared.fault.AppendFault.{AppendFault}
 use Rattle.log_chain.specs.declared.fault.AppendFault.TheVariants.{SeqNotRising, ContentTooLong, Memory}
 use Rattle.log_chain.specs.History.{History, most_content, last_entry, is_above, append_fault, below, up_to, between, has_seq, hash_at}
-use Rattle.log_chain.specs.Places.{IsPlace, StandsAt, IsCut}
+use Rattle.log_chain.specs.within.Places.{IsPlace, StandsAt, IsCut}
 use Rattle.log_chain.proofs.Rises.{rising_pairs, filter-part, list_any-none, list_any-some}
 
 -- numbers that rise do not fall

@@ -24,6 +24,13 @@ rising_pairs (e ∷ es) h i zero d lt within = absurd (omega arith)
 rising_pairs (e ∷ es) h zero (suc j) d lt within = first_below e es h j d (omega arith)
 rising_pairs (e ∷ es) h (suc i) (suc j) d lt within = rising_pairs es (Rising-rest e es h) i j d (omega arith) (omega arith)
 
+-- and where each is, the numbers rise
+pub pairs_rise : (es : List Entry) → ((i j : ℕ) (d : Entry) → i < j → j < length es → (get_or es i d).seq < (get_or es j d).seq) → Rising es
+pairs_rise [] h = tt
+pairs_rise (e ∷ []) h = tt
+pairs_rise (e ∷ f ∷ es) h =
+    (h 0 1 e (omega arith) (omega arith), pairs_rise (f ∷ es) (λ i j d lt within. h (suc i) (suc j) d (omega arith) (omega arith)))
+
 -- an entry above the last one may follow
 pub Rising-push : (es : List Entry) (e : Entry) → Rising es → ((k : ℕ) (d : Entry) → k + 1 ≡ length es → (get_or es k d).seq < e.seq) → Rising (es ++ e ∷ [])
 Rising-push [] e h above = tt

@@ -1,5 +1,5 @@
 -- Laws of the chain of hashes. `laws` proves each.
-use Rattle.std.specs.Prelude.{◌≡◌, ℕ, ◌+◌, ◌<◌, ◌^◌, List, [], ◌∷◌, ◌++◌, length, slice_index_or}
+use Rattle.std.specs.Prelude.{◌≡◌, ◌↔◌, ℕ, ◌+◌, ◌<◌, ◌^◌, List, [], ◌∷◌, ◌++◌, length, slice_index_or}
 use Rattle.sha2.specs.Sha256.{sha256}
 use Rattle.log_chain.specs.declared.entry.Entry.{Entry}
 use Rattle.log_chain.specs.Chain.{entry_text, entry_hash, hashes, chain_end, Rising}
@@ -24,6 +24,10 @@ HashesAreWhole = (prev : List ℕ) (es : List Entry)
 -- Equal lists after equal hashes have equal ends.
 abbrev pub EqualListsEndAlike : Type 0
 EqualListsEndAlike = (prev prev' : List ℕ) (es es' : List Entry) → prev ≡ prev' → es ≡ es' → chain_end prev es ≡ chain_end prev' es'
+
+-- The numbers of a list rise exactly where each is below every later one.
+abbrev pub RisesByPairs : Type 0
+RisesByPairs = (es : List Entry) → Rising es ↔ ((i j : ℕ) (d : Entry) → i < j → j < length es → (slice_index_or es i d).seq < (slice_index_or es j d).seq)
 
 -- Each part of a list whose numbers rise has numbers that rise.
 abbrev pub PartsRise : Type 0

@@ -1,7 +1,9 @@
--- What is written as a field is read as that field. `laws` proves it.
-use Rattle.std.specs.Prelude.{◌≡◌, ℕ, ◌<◌, ◌≤◌, ◌^◌, List, ◌∷◌, ◌++◌, length, Ok}
+-- What is written as a field is read as that field, and what the words of Fields exclude. `laws` proves it.
+use Rattle.std.specs.Prelude.{◌≡◌, ◌↔◌, ℕ, ◌<◌, ◌≤◌, ◌^◌, List, ◌∷◌, ◌++◌, length, Ok, Err}
 use Rattle.std.specs.Int.{w8, w32, w64, to_be_bytes}
-use Rattle.log_chain.specs.Fields.{number_at, take_at, bytes_at, bytes_text}
+use Rattle.std.specs.List.{All}
+use Rattle.outcome.specs.Bytes.{IsBytes}
+use Rattle.log_chain.specs.Fields.{IsBytesOf, IsBytesUpTo, IsListUpTo, Writes, number_at, take_at, bytes_at, bytes_text}
 
 -- Each kind of field, written in front of a rest, is read back, and leaves the rest.
 pub record FieldsReadBack : Type 0 where
@@ -10,3 +12,14 @@ pub record FieldsReadBack : Type 0 where
   pub u64 : (n : ℕ) (rest : List ℕ) → n < 2 ^ 64 → number_at w64 (to_be_bytes w64 n ++ rest) ≡ Ok (n, rest)
   pub plain : (text rest : List ℕ) → take_at (length text) (text ++ rest) ≡ Ok (text, rest)
   pub bytes : (most : ℕ) (text rest : List ℕ) → most < 2 ^ 32 → length text ≤ most → bytes_at most (bytes_text text ++ rest) ≡ Ok (text, rest)
+
+-- What stands behind the old text after a call is what the call writes, and after a refusal nothing.
+pub record WritesAsExpected (A E : Type 0) : Type 0 where
+  pub written : (done : A) (old new text : List ℕ) → Writes {E = E} (Ok done) old new text ↔ (new ≡ old ++ text)
+  pub refused : (memory : E) (old new text : List ℕ) → Writes {A = A} (Err memory) old new text ↔ (new ≡ old)
+
+-- What has a spelling has no more bytes or parts than its limit, and each of them fits.
+pub record SpelledPartsFit : Type 0 where
+  pub of : (n : ℕ) (text : List ℕ) → IsBytesOf n text ↔ (IsBytes text × (length text ≡ n))
+  pub up_to : (most : ℕ) (text : List ℕ) → IsBytesUpTo most text ↔ (IsBytes text × (length text ≤ most))
+  pub list : (most : ℕ) (xs : List (List ℕ)) → IsListUpTo most IsBytes xs ↔ (All IsBytes xs × (length xs ≤ most))

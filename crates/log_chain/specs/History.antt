@@ -6,6 +6,7 @@ use Rattle.log_chain.specs.declared.fault.AppendFault.{AppendFault}
 use Rattle.log_chain.specs.declared.fault.AppendFault.TheVariants.{SeqNotRising, ContentTooLong}
 use Rattle.log_chain.specs.declared.fault.SegmentFault.{SegmentFault}
 use Rattle.log_chain.specs.declared.fault.SegmentFault.TheVariants.{NoEntry, SegmentTooLong}
+use Rattle.log_chain.specs.declared.limits.TheConstants.{LONGEST_CONTENT, MOST_ENTRIES}
 use Rattle.log_chain.specs.Chain.{chain_end}
 
 -- What a contract sees of a history: the hash before its first entry, its entries, and for how many more entries there is room.
@@ -16,10 +17,10 @@ pub record History : Type 0 where
 
 -- The greatest length of an entry's content, and the greatest number of entries in a segment.
 abbrev pub most_content : ℕ
-most_content = 131072
+most_content = LONGEST_CONTENT
 
 abbrev pub most_entries : ℕ
-most_entries = 4096
+most_entries = MOST_ENTRIES
 
 -- ---- adding an entry
 
@@ -35,7 +36,7 @@ is_above seq (Some last) = nat_lt last.seq seq
 -- The first fault that forbids an entry, if there is one.
 unfoldable pub append_fault : List Entry → Entry → Option AppendFault
 append_fault es e =
-    if is_above e.seq (last_entry es) then (if nat_lt most_content (length e.content) then Some ContentTooLong else None)
+    if is_above e.seq (last_entry es) then (if nat_lt LONGEST_CONTENT (length e.content) then Some ContentTooLong else None)
     else Some SeqNotRising
 
 -- The value, unless there is a fault.
@@ -92,7 +93,7 @@ are_ends from to es = nat_le from to && has_seq from es && has_seq to es
 -- Why there is no segment between two numbers, if there is none.
 unfoldable pub segment_fault : List Entry → ℕ → ℕ → Option SegmentFault
 segment_fault es from to =
-    if are_ends from to es then (if nat_lt most_entries (length (between from to es)) then Some SegmentTooLong else None)
+    if are_ends from to es then (if nat_lt MOST_ENTRIES (length (between from to es)) then Some SegmentTooLong else None)
     else Some NoEntry
 
 -- The hash before the entry numbered from, and the entries from there up to the one numbered to.

@@ -3,5 +3,5 @@ pub mod ChainLaws
 pub mod FieldLaws
 pub mod Fields
 pub mod History
-pub mod Keeping
-pub mod Places
+pub mod Refusals
+pub mod within

@@ -13,6 +13,7 @@ ghost use Rattle.std.specs.Hash as fed;
 use outcome::Memory;
 use std::alloc::Global;
 use std::cmp::Ordering;
+use std::convert::AsSlice;
 use std::hash::{Hash, Hasher};
 use std::marker::Model;
 
@@ -80,6 +81,14 @@ impl ByteString {
         ensures { IsTrue result ↔ (self.now ≡ []) }
     {
         self.bytes.is_empty()
+    }
+}
+
+impl AsSlice<u8> for ByteString {
+    ghost items = { λ b. b };
+
+    fn as_slice(&self) -> &[u8] {
+        self.bytes.as_slice()
     }
 }
 

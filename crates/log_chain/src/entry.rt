@@ -16,7 +16,7 @@ use std::alloc::Global;
 pub struct Entry {
     /// Its number. The numbers of a log rise strictly; there may be gaps.
     pub seq: u64,
-    /// What its content is: 1 INIT, 2 SEND, 3 RECV, 4 TIMER, 5 CHECKPOINT. The chain takes any byte.
+    /// What its content is, as [`crate::kind`] tells. The chain takes any byte.
     pub kind: u8,
     /// Its content.
     pub content: ByteString,

@@ -3,16 +3,11 @@
 ghost use Rattle.std.specs.Prelude.{◌≡◌, IfErr, IfOk, IfSome, IsTrue, None, OnOk, Some, is_some};
 ghost use Rattle.log_chain.specs.Chain.{Rising};
 ghost use Rattle.log_chain.specs.History.{append_fault, are_ends, has_seq, segment_fault};
-ghost use Rattle.log_chain.specs.Places.{IsCut, IsPlace, StandsAt};
+ghost use Rattle.log_chain.specs.within.Places.{IsCut, IsPlace, StandsAt};
 
 use crate::entry::Entry;
 use crate::fault::{AppendFault, SegmentFault};
-
-/// The greatest length of an entry's content.
-const MOST_CONTENT: usize = 131_072;
-
-/// The greatest number of entries in a segment.
-const MOST_ENTRIES: usize = 4096;
+use crate::limits::{LONGEST_CONTENT, MOST_ENTRIES};
 
 /// The first fault that forbids an entry after others, if there is one.
 #[tactic(auto, unfolding(crate::specs::History::append_fault))]
@@ -24,7 +19,7 @@ pub(crate) fn append_fault(entries: &[Entry], entry: &Entry) -> Option<AppendFau
     {
         return Some(AppendFault::SeqNotRising);
     }
-    if entry.content.len() > MOST_CONTENT {
+    if entry.content.len() > LONGEST_CONTENT {
         return Some(AppendFault::ContentTooLong);
     }
     None

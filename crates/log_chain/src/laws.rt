@@ -1,7 +1,15 @@
 //! Laws over the definitions. Each is a function that does nothing: its contract is the law.
 
-ghost use Rattle.log_chain.specs.FieldLaws.{FieldsReadBack};
-ghost use Rattle.log_chain.specs.ChainLaws.{ChainsGoOn, ChainsGrow, EntryTextsHaveOneReading, EqualListsEndAlike, HashesAreWhole, PartsRise, RisingListsGrow};
+ghost use Rattle.outcome.specs.Equality.{TellsEqual};
+ghost use Rattle.log_chain.specs.FieldLaws.{FieldsReadBack, SpelledPartsFit, WritesAsExpected};
+ghost use Rattle.std.specs.Prelude.{ℕ, List};
+ghost use Rattle.log_chain.specs.declared.entry.Entry.{Entry as EntryValue};
+ghost use Rattle.log_chain.specs.ChainLaws.{ChainsGoOn, ChainsGrow, EntryTextsHaveOneReading, EqualListsEndAlike, HashesAreWhole, PartsRise, RisesByPairs, RisingListsGrow};
+
+use crate::byte_string::ByteString;
+use crate::entry::Entry;
+use crate::entry_list::EntryList;
+use crate::hash::Hash;
 
 /// The chain of a list that is cut in two goes on from the end of the first part.
 pub fn chains_go_on()
@@ -23,6 +31,11 @@ pub fn equal_lists_end_alike()
     ensures { EqualListsEndAlike }
 {}
 
+/// The numbers of a list rise exactly where each is below every later one.
+pub fn rises_by_pairs()
+    ensures { RisesByPairs }
+{}
+
 /// Each part of a list whose numbers rise has numbers that rise.
 pub fn parts_rise()
     ensures { PartsRise }
@@ -41,4 +54,34 @@ pub fn fields_read_back()
 /// Equal texts that are hashed for entries are of equal numbers, kinds, digests of contents and hashes before.
 pub fn entry_texts_have_one_reading()
     ensures { EntryTextsHaveOneReading }
+{}
+
+/// `Writes` lets nothing stand behind the old text but what a call writes.
+pub fn writes_as_expected<A, E>()
+    ensures { WritesAsExpected A E }
+{}
+
+/// `IsBytesOf`, `IsBytesUpTo` and `IsListUpTo` let no longer text or list pass, and no part that does not fit.
+pub fn spelled_parts_fit()
+    ensures { SpelledPartsFit }
+{}
+
+/// `==` of hashes is true exactly of the same bytes.
+pub fn hashes_are_equal_by_bytes()
+    ensures { TellsEqual (List ℕ) ⟦<Hash as PartialEq>⟧.eq }
+{}
+
+/// `==` of byte strings is true exactly of the same bytes.
+pub fn byte_strings_are_equal_by_bytes()
+    ensures { TellsEqual (List ℕ) ⟦<ByteString as PartialEq>⟧.eq }
+{}
+
+/// `==` of entries is true exactly where number, kind and content are the same.
+pub fn entries_are_equal_by_fields()
+    ensures { TellsEqual EntryValue ⟦<Entry as PartialEq>⟧.eq }
+{}
+
+/// `==` of lists of entries is true exactly of the same entries in the same order.
+pub fn entry_lists_are_equal_by_entries()
+    ensures { TellsEqual (List EntryValue) ⟦<EntryList as PartialEq>⟧.eq }
 {}

@@ -14,6 +14,7 @@ pub use field_reader::FieldReader;
 pub use field_writer::FieldWriter;
 pub use hash::{Hash, base_hash};
 pub use limits::{LONGEST_CONTENT, MOST_ENTRIES};
+pub use outcome::Memory;
 pub use secure_history::{AppendRefused, SecureHistory};
 
 mod byte_string;

@@ -1,6 +1,6 @@
 //! Secure histories.
 
-ghost use Rattle.std.specs.Prelude.{◌≡◌, ◌≢◌, ◌<◌, ◌≤◌, [], Err, IfErr, IfOk, IsErrAnd, IsOk, None, Ok, OnErr, OnOk, length, take};
+ghost use Rattle.std.specs.Prelude.{◌≡◌, ◌≢◌, ◌↔◌, ◌<◌, ◌≤◌, [], Err, IfErr, IfOk, IsErrAnd, IsOk, IsTrue, None, Ok, OnErr, OnOk, length, take};
 ghost use Rattle.outcome.specs.Outcome.{Fails, Gives};
 ghost use Rattle.log_chain.specs.declared.fault.AppendFault.{AppendFault};
 ghost use Rattle.log_chain.specs.declared.fault.AppendFault.TheVariants as refusal;
@@ -17,12 +17,14 @@ use crate::finding::{append_fault, place_of, segment_places, stands_at};
 use crate::hash::{Hash, base_hash};
 use outcome::Memory;
 use std::alloc::Global;
+use std::fmt;
 use std::marker::Model;
+use thiserror::Error;
 
 /// A log that only grows, with the hash of each entry beside it.
 ///
 /// A contract sees the hash before the first entry, the entries, and for how many more entries there is room.
-#[derive(Debug, Drop)]
+#[derive(Drop)]
 pub struct SecureHistory {
     alloc: Global,
     prev: Hash,
@@ -36,15 +38,26 @@ impl Model for SecureHistory {
 
     ghost Value = { History };
 
-    ghost use Rattle.log_chain.specs.Keeping.{IsKept, seen};
+    ghost use Rattle.log_chain.specs.within.Keeping.{IsKept, seen};
 
     ghost view = { seen };
 
     ghost invariant = { IsKept };
 }
 
-/// A refused entry: why, and the content that was to be its.
-#[derive(Debug, Drop)]
+/// Tells how many entries there are, and for how many more there is room; no entry is shown.
+impl fmt::Debug for SecureHistory {
+    fn fmt<W: fmt::Write>(&self, f: &mut fmt::Formatter<W>) -> fmt::Result {
+        f.debug_struct("SecureHistory")
+            .field("len", &self.len())
+            .field("spare", &self.spare())
+            .finish()
+    }
+}
+
+/// A refused entry: why, and the content that was to be its. It is shown as the fault's line.
+#[derive(Debug, Drop, Error)]
+#[error("{fault}")]
 pub struct AppendRefused {
     pub fault: AppendFault,
     pub content: ByteString,
@@ -86,6 +99,20 @@ impl SecureHistory {
         self.room
     }
 
+    /// How many entries there are.
+    pub fn len(&self) -> usize
+        ensures { result ≡ length self.now.entries }
+    {
+        self.entries.len()
+    }
+
+    /// Whether there is no entry.
+    pub fn is_empty(&self) -> bool
+        ensures { IsTrue result ↔ (self.now.entries ≡ []) }
+    {
+        self.entries.is_empty()
+    }
+
     /// The entries, whose numbers rise.
     pub fn entries(&self) -> &[Entry]
         ensures entries { result.now ≡ self.now.entries }
@@ -115,7 +142,8 @@ impl SecureHistory {
     }
 
     /// The hash before the entry numbered `from`, and copies of the entries from there up to the one numbered `to`.
-    /// They are looked up by binary search, and no hash is computed.
+    /// They are looked up by binary search, and no hash is computed. Refused, in this order, are numbers that are not
+    /// the first and the last of some entries, more than [`crate::MOST_ENTRIES`] entries, and want of memory.
     pub fn segment(&self, from: u64, to: u64) -> Result<(Hash, EntryList), SegmentFault>
         ensures given { Gives fault.Memory (λ x. x) result (segment_of self.now from to) }
         // Why there is none is told, whether there is memory or not.
@@ -126,7 +154,9 @@ impl SecureHistory {
         Ok((self.hash_before(start), entries))
     }
 
-    /// Adds an entry at the end, and gives its hash. A refusal gives the content back.
+    /// Adds an entry at the end, and gives its hash. Refused, in this order, are a number that is not above the last
+    /// entry's, a content of more than [`crate::LONGEST_CONTENT`] bytes, and want of memory. A refusal gives the content
+    /// back.
     pub fn append(&mut self, seq: u64, kind: u8, content: ByteString) -> Result<Hash, AppendRefused>
         ensures appended { OnOk result (appended self.old (record { seq = seq; kind = kind; content = content }) ≡ Ok self.new) }
         ensures hash { IfOk result (λ hash. hash ≡ chain_end self.new.prev self.new.entries) }

@@ -2,8 +2,9 @@
 
 use crate::entry::hashed_text;
 use crate::{
-    AppendFault, ByteString, Entry, EntryList, FieldFault, FieldReader, FieldWriter, Hash,
-    SecureHistory, SegmentFault, base_hash, chain_end, entry_hash, entry_hash_of_digest, kind,
+    AppendFault, AppendRefused, ByteString, Entry, EntryList, FieldFault, FieldReader, FieldWriter,
+    Hash, SecureHistory, SegmentFault, base_hash, chain_end, entry_hash, entry_hash_of_digest,
+    kind,
 };
 use sha2::{Digest, Sha256};
 use std::alloc::{AllocError, Global};
@@ -19,6 +20,30 @@ fn the_base_hash_is_that_of_the_empty_text(rt: HostRuntime) {
         0xb8, 0x55,
     ];
     assert!(rt; base_hash() == Hash(want));
+}
+
+#[test]
+fn a_hash_is_shown_in_hexadecimal_digits(rt: HostRuntime) -> Result<(), Fail> {
+    let shown = format!(in rt.alloc(); "{}", base_hash())?;
+    // As printed by sha256sum of the empty text.
+    let want = "e3b0c44298fc1c149afbf4c8996fb92427ae41e4649b934ca495991b7852b855";
+    assert_eq!(rt; shown.as_str(), want);
+    Ok(())
+}
+
+#[test]
+fn refusals_have_numbers_names_and_lines(rt: HostRuntime) -> Result<(), Fail> {
+    assert_eq!(rt; FieldFault::Truncated.number(), 40);
+    assert_eq!(rt; FieldFault::TooLong.name(), "TooLong");
+    assert_eq!(rt; AppendFault::SeqNotRising.number(), 10);
+    assert_eq!(rt; AppendFault::ContentTooLong.name(), "ContentTooLong");
+    assert_eq!(rt; SegmentFault::SegmentTooLong.number(), 13);
+    assert_eq!(rt; SegmentFault::Memory.name(), "Memory");
+    let fault = AppendFault::ContentTooLong;
+    let content = ByteString::from_vec(Vec::new(rt.alloc()));
+    let shown = format!(in rt.alloc(); "{}", AppendRefused { fault, content })?;
+    assert_eq!(rt; shown.as_str(), "the entry's content is too long");
+    Ok(())
 }
 
 #[test]
@@ -61,6 +86,11 @@ fn byte_strings_are_their_bytes(rt: HostRuntime) -> Result<(), Fail> {
     assert!(rt; text < longer);
     assert_eq!(rt; copy.len(), 3);
     assert!(rt; !copy.is_empty());
+    // FIPS 180-4, as printed by sha256sum.
+    let digest = Hash(Sha256::digest(&copy));
+    let shown = format!(in rt.alloc(); "{digest}")?;
+    let want = "ba7816bf8f01cfea414140de5dae2223b00361a396177a9cb410ff61f20015ad";
+    assert_eq!(rt; shown.as_str(), want);
     let bytes = copy.into_vec();
     assert!(rt; bytes.as_slice() == b"abc".as_slice());
     assert!(rt; ByteString::from_vec(bytes) == text);
@@ -165,6 +195,7 @@ fn fields_are_written_in_turn(rt: HostRuntime) -> Result<(), Fail> {
 fn a_history_keeps_the_chain(rt: HostRuntime) -> Result<(), Fail> {
     let mut history = SecureHistory::new(rt.alloc());
     assert!(rt; history.last().is_none());
+    assert!(rt; history.is_empty());
     for (entry, hash) in three_entries(rt.alloc())?
         .into_iter()
         .zip([FIRST, SECOND, THIRD])
@@ -173,6 +204,13 @@ fn a_history_keeps_the_chain(rt: HostRuntime) -> Result<(), Fail> {
         assert!(rt; appended.ok() == Some(hash));
     }
     assert!(rt; history.last() == Some((9, THIRD)));
+    assert_eq!(rt; history.len(), 3);
+    let shown = format!(in rt.alloc(); "{history:?}")?;
+    assert!(rt;
+        shown
+            .as_str()
+            .starts_with("SecureHistory { len: 3, spare: ")
+    );
     assert!(rt; history.hash_at(1) == Some(FIRST));
     assert!(rt; history.hash_at(7) == Some(SECOND));
     assert!(rt; history.hash_at(8).is_none());

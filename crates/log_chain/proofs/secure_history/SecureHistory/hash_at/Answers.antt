@@ -1,5 +1,5 @@
 use Rattle.std.proofs.Common.{◌∙◌, sym, rules}
-use Rattle.log_chain.specs.Keeping.{seen}
+use Rattle.log_chain.specs.within.Keeping.{seen}
 use Rattle.log_chain.proofs.Finds.{hash_none, hash_some}
 use Rattle.log_chain.proofs.secure_history.SecureHistory.hash_at.Goals as goal
 
