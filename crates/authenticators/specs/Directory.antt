@@ -5,6 +5,7 @@ use Rattle.std.specs.Map.{lookup, values_of}
 use Rattle.std.specs.Str.{bytes_eq}
 use Rattle.lms_sign.specs.declared.key.PublicKey.{PublicKey}
 use Rattle.lms_sign.specs.Parameters.{lms_typecode, ots_typecode}
+use Rattle.authenticators.specs.declared.directory.TheConstants.{MOST_NODES}
 use Rattle.authenticators.specs.declared.fault.DirectoryFault.{DirectoryFault}
 use Rattle.authenticators.specs.declared.fault.DirectoryFault.TheVariants as faults
 
@@ -27,5 +28,5 @@ abbrev pub added : List (ℕ × PublicKey) → ℕ → PublicKey → Result (Lis
 added ds node key =
     if is_some (key_at ds node) then Err faults.DuplicateNode
     else (if has_key ds key then Err faults.DuplicateKey
-    else (if nat_lt (length ds) 1024 then Ok (ds ++ (node, key) ∷ [])
+    else (if nat_lt (length ds) MOST_NODES then Ok (ds ++ (node, key) ∷ [])
     else Err faults.TooManyNodes))

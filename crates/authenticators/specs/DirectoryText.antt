@@ -13,6 +13,7 @@ use Rattle.log_chain.specs.declared.fault.FieldFault.{FieldFault}
 use Rattle.log_chain.specs.Fields.{Read, take_at, number_at}
 use Rattle.authenticators.specs.declared.fault.DirectoryFault.{DirectoryFault}
 use Rattle.authenticators.specs.declared.fault.DirectoryFault.TheVariants as faults
+use Rattle.authenticators.specs.declared.directory.TheConstants.{MOST_NODES}
 use Rattle.authenticators.specs.Directory.{key_at, has_key, added}
 
 -- ---- spelling
@@ -40,7 +41,7 @@ AreNew before (p ∷ ps) = IsNode p × (is_some (key_at before p.0) ≡ false) �
 
 -- At most 1,024 nodes, each with a number and a key of its own.
 pub record IsDirectory (ds : List (ℕ × PublicKey)) : Type 0 where
-  pub count : length ds ≤ 1024
+  pub count : length ds ≤ MOST_NODES
   pub nodes : AreNew [] ds
 
 -- ---- reading, with the first fault from the left
@@ -74,15 +75,27 @@ nodes_at (suc n) ds bytes = do
   more ← added ds node.0.0 node.0.1
   nodes_at n more node.1
 
--- all of the bytes
-unfoldable pub directory_of : List ℕ → Result (List (ℕ × PublicKey)) DirectoryFault
-directory_of bytes = do
+-- the count of nodes, at most as many as a directory has
+unfoldable pub header_at : List ℕ → Read ℕ DirectoryFault
+header_at bytes = do
   front ← told_as of_field (take_at 8 bytes)
   _ ← if bytes_eq front.0 magic then Ok front.1 else Err faults.BadMagic
   count ← told_as of_field (number_at w32 front.1)
-  _ ← if nat_lt 1024 count.0 then Err faults.TooManyNodes else Ok count.1
-  read ← nodes_at count.0 [] count.1
+  if nat_lt MOST_NODES count.0 then Err faults.TooManyNodes else Ok count
+
+-- all of the bytes
+unfoldable pub directory_of : List ℕ → Result (List (ℕ × PublicKey)) DirectoryFault
+directory_of bytes = do
+  header ← header_at bytes
+  read ← nodes_at header.0 [] header.1
   if length read.1 == 0 then Ok read.0 else Err faults.Trailing
+
+-- What is met before the first node is added, and so before any growth of memory: the header, and the first node or,
+-- where there is none, the end.
+unfoldable pub beginning_of : List ℕ → Result (Unit {0}) DirectoryFault
+beginning_of bytes = do
+  header ← header_at bytes
+  if header.0 == 0 then (if length header.1 == 0 then Ok tt else Err faults.Trailing) else (node_at header.1 >>= λ _. Ok tt)
 
 -- What is read is spelled so, and what is spelled so is read.
 pub record DirectoriesHaveOneText : Type 0 where

@@ -1,4 +1,5 @@
 pub mod Directory
 pub mod DirectoryText
+pub mod Refusals
 pub mod Statement
 pub mod StatementSet

@@ -44,3 +44,9 @@ NoConflict held = (a b : Authenticator) → Contains held a → Contains held b 
 -- No two statements of the node are in conflict.
 abbrev pub NoConflictOf : ℕ → List Authenticator → Type 0
 NoConflictOf node held = (a b : Authenticator) → Contains held a → Contains held b → a.node ≡ node → Conflict a b → ⊥
+
+-- ---- laws, which `laws` proves
+
+-- A set has one part with the numbers from one up to another.
+abbrev pub PartsAreOne : Type 0
+PartsAreOne = (node from to : ℕ) (held a b : List Authenticator) → IsPart (IsInRange node from to) held a → IsPart (IsInRange node from to) held b → a ≡ b

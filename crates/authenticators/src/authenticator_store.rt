@@ -1,6 +1,6 @@
 //! A set of statements.
 
-ghost use Rattle.std.specs.Prelude.{◌≡◌, ◌↔◌, ◌⊎◌, false, [], Ok, IfOk, IfErr, OnOk, OnErr, IfNone, IfSome, Contains, ◌==◌, ◌&&◌, ◌||◌, nat_lt, nat_le};
+ghost use Rattle.std.specs.Prelude.{◌≡◌, ◌↔◌, IsTrue, length, ◌⊎◌, false, [], Ok, IfOk, IfErr, OnOk, OnErr, IfNone, IfSome, Contains, ◌==◌, ◌&&◌, ◌||◌, nat_lt, nat_le};
 ghost use Rattle.authenticators.specs.declared.authenticator.Authenticator.{Authenticator};
 ghost use Rattle.authenticators.specs.StatementSet.{Conflict, IsAscending, IsAt, IsInRange, IsPart, NoConflict, NoConflictOf};
 
@@ -8,9 +8,11 @@ use crate::authenticator::Authenticator;
 use crate::node::NodeId;
 use std::alloc::Global;
 use std::marker::Model;
+use thiserror::Error;
 
-/// A statement that could not be put into a store, since a growth was refused.
-#[derive(Debug, Drop)]
+/// A statement that could not be put into a store, since a growth was refused. It is given back.
+#[derive(Debug, Drop, Error)]
+#[error("out of memory for a statement")]
 pub struct InsertRefused(pub Authenticator);
 
 /// A set of statements. A contract sees the list of those that are held, each once; callers need no more of it than which
@@ -19,7 +21,7 @@ pub struct InsertRefused(pub Authenticator);
 /// The statements stand in one vector, ascending by node, number, hash and signature. A look-up is a binary search. An
 /// insert finds its place so too, and then moves what stands behind it: it takes time that grows with the number of
 /// statements held.
-#[derive(Drop)]
+#[derive(Debug, Drop)]
 pub struct AuthenticatorStore {
     held: Vec<Authenticator>,
 }
@@ -44,6 +46,28 @@ impl AuthenticatorStore {
         AuthenticatorStore {
             held: Vec::new(alloc),
         }
+    }
+
+    /// How many statements are held.
+    pub fn len(&self) -> usize
+        ensures { result ≡ length self.now }
+    {
+        self.held.len()
+    }
+
+    /// Whether no statement is held.
+    pub fn is_empty(&self) -> bool
+        ensures { IsTrue result ↔ (self.now ≡ []) }
+    {
+        self.held.is_empty()
+    }
+
+    /// All statements that are held, each once, ascending by node, number, hash and signature. It takes no memory.
+    pub fn as_slice(&self) -> &[Authenticator]
+        ensures all { result.now ≡ self.now }
+        ensures ascending { IsAscending self.now }
+    {
+        &self.held
     }
 
     /// Puts a statement into the set, and answers whether it is new. It checks no signature. Where a growth is refused, and

@@ -1,6 +1,7 @@
 //! The directory: which nodes there are, and the public key of each.
 
-ghost use Rattle.std.specs.Prelude.{◌≡◌, ◌↔◌, [], Err, IfOk, IsTrue, is_some, nat_eq, List, Ok, map, option_copied, ℕ};
+ghost use Rattle.std.specs.Prelude.{◌≡◌, ◌↔◌, ◌<◌, ◌≤◌, ◌++◌, [], Err, IfOk, IsOk, IsTrue, MatchResult, OnOk, is_some, length, nat_eq, List, Ok, map, option_copied, ℕ};
+ghost use Rattle.std.specs.List.{flat_map};
 ghost use Rattle.lms_sign.specs.declared.key.PublicKey.{PublicKey};
 ghost use Rattle.std.proofs.Common.{rules};
 ghost use Rattle.std.specs.Cmp.Lexicographic.{pointwise};
@@ -12,13 +13,13 @@ ghost use Rattle.outcome.specs.Outcome.{Gives, Leaves, Took};
 ghost use Rattle.authenticators.specs.declared.fault.DirectoryFault.{DirectoryFault};
 ghost use Rattle.authenticators.specs.declared.fault.DirectoryFault.TheVariants.{Memory};
 ghost use Rattle.authenticators.specs.Directory.{added, has_key, key_at, same_key};
-ghost use Rattle.authenticators.specs.DirectoryText.{IsDirectory, directory_of, directory_text, node_at, nodes_at};
+ghost use Rattle.authenticators.specs.DirectoryText.{IsDirectory, beginning_of, directory_of, directory_text, header_at, node_at, node_text, nodes_at};
 
 use crate::fault::DirectoryFault;
 use crate::node::NodeId;
 use indexmap::IndexMap;
 use lms_sign::PublicKey;
-use log_chain::FieldReader;
+use log_chain::{FieldReader, FieldWriter};
 use std::alloc::{AllocError, Global};
 use std::marker::Model;
 
@@ -29,7 +30,7 @@ const MAGIC: [u8; 8] = *b"PRDIRECT";
 
 /// At most 1,024 nodes with their keys, each number and each key once. A contract sees the list of pairs, in the order
 /// of adding.
-#[derive(Drop)]
+#[derive(Debug, Drop)]
 pub struct Directory {
     keys: IndexMap<NodeId, PublicKey>,
 }
@@ -40,7 +41,11 @@ impl Model for Directory {
 
     ghost Value = { List (ℕ × PublicKey) };
 
+    ghost use Rattle.authenticators.specs.DirectoryText.{IsDirectory};
+
     ghost view = { λ d. d.keys.entries };
+
+    ghost invariant = { λ d. IsDirectory d.keys.entries };
 }
 
 impl Directory {
@@ -69,9 +74,26 @@ impl Directory {
 
     /// The nodes' numbers, in the order of adding.
     pub fn nodes(&self) -> &[NodeId]
-        ensures { result.now ≡ map (λ p. p.0) self.now }
+        ensures numbers { result.now ≡ map (λ p. p.0) self.now }
+        // What every directory is.
+        ensures directory { IsDirectory self.now }
     {
         self.keys.keys().as_slice()
+    }
+
+    /// How many nodes there are.
+    pub fn len(&self) -> usize
+        ensures count { result ≡ length self.now }
+        ensures limit { result ≤ MOST_NODES }
+    {
+        self.keys.len()
+    }
+
+    /// Whether there is no node.
+    pub fn is_empty(&self) -> bool
+        ensures { IsTrue result ↔ (self.now ≡ []) }
+    {
+        self.keys.is_empty()
     }
 
     fn has_key(&self, key: &PublicKey) -> bool
@@ -112,6 +134,11 @@ impl Directory {
     }
 
     /// Reads a directory: `PRDIRECT`, a count of four bytes, and for each node its number in four bytes and its key in 56.
+    ///
+    /// It is refused with the first of these: `Truncated` (24) where fewer than 8 bytes are there; `BadMagic` (23); `Truncated` of
+    /// the count; `TooManyNodes` (22) of the count; for each node `Truncated` where fewer than 60 bytes are left, `UnknownLmsType` (2),
+    /// `UnknownOtsType` (3), `DuplicateNode` (20), `DuplicateKey` (21); `Trailing` (25). `Memory` may come in place of any but those
+    /// of the header and of the first node.
     pub fn from_bytes(alloc: Global, bytes: &[u8]) -> Result<Directory, DirectoryFault>
         // What is read is spelled so.
         ensures found { IfOk result (λ d. IsDirectory d × (bytes.now ≡ directory_text d)) }
@@ -119,9 +146,44 @@ impl Directory {
         ensures only { (ds : List (ℕ × PublicKey)) → IsDirectory ds → bytes.now ≡ directory_text ds → Gives Memory (λ d. d) result (Ok ds) }
         // Which fault it is.
         ensures exact { Gives Memory (λ d. d) result (directory_of bytes.now) }
+        // A fault of the header or of the first node is told, whether there is memory or not.
+        ensures forbidden { (e : DirectoryFault) → beginning_of bytes.now ≡ Err e → result ≡ Err e }
     {
         read_directory(alloc, bytes)
     }
+
+    /// The directory's one text, which [`Directory::from_bytes`] reads. The error is want of memory.
+    pub fn to_bytes(&self) -> Result<Vec<u8>, AllocError>
+        ensures text { IfOk result (λ text. text.items ≡ directory_text self.now) }
+        ensures directory { IsDirectory self.now }
+    {
+        let mut writer = FieldWriter::new(*self.keys.allocator());
+        writer.rest(&MAGIC)?;
+        writer.u32(self.keys.len() as u32)?;
+        write_nodes(&mut writer, &self.keys)?;
+        Ok(writer.finish())
+    }
+}
+
+fn write_node(writer: &mut FieldWriter, node: NodeId, key: &PublicKey) -> Result<(), AllocError>
+    ensures { OnOk result (writer.new ≡ writer.old ++ node_text (node, key.now)) }
+{
+    writer.u32(node.0)?;
+    writer.rest(&key.to_bytes())?;
+    Ok(())
+}
+
+/// Each node's number and key, in order.
+fn write_nodes(
+    writer: &mut FieldWriter,
+    keys: &IndexMap<NodeId, PublicKey>,
+) -> Result<(), AllocError>
+    ensures { OnOk result (writer.new ≡ writer.old ++ flat_map node_text keys.now.entries) }
+{
+    for (node, key) in keys.iter() {
+        write_node(writer, *node, key)?;
+    }
+    Ok(())
 }
 
 /// Whether two keys are the same, in all four values.
@@ -134,7 +196,7 @@ fn is_same_key(a: &PublicKey, b: &PublicKey) -> bool
 /// A node with its key, and the bytes after it.
 #[tactic(auto, unfolding(crate::specs::DirectoryText::node_at, crate::specs::DirectoryText::node_of))]
 fn read_node(reader: &mut FieldReader) -> Result<(NodeId, PublicKey), DirectoryFault>
-    ensures { Took Memory (λ x. x) result reader.new (node_at reader.old) }
+    ensures { MatchResult result (λ x. node_at reader.old ≡ Ok (x, reader.new)) (λ e. node_at reader.old ≡ Err e) }
 {
     let text = reader.take(60)?;
     let node = u32::from_be_bytes([text[0], text[1], text[2], text[3]]);
@@ -147,7 +209,9 @@ fn read_nodes(
     count: u32,
     reader: &mut FieldReader,
 ) -> Result<Directory, DirectoryFault>
-    ensures { Took Memory (λ d. d) result reader.new (nodes_at count [] reader.old) }
+    ensures read { Took Memory (λ d. d) result reader.new (nodes_at count [] reader.old) }
+    ensures first { (e : DirectoryFault) → 0 < count → node_at reader.old ≡ Err e → result ≡ Err e }
+    ensures none { count ≡ 0 → IsOk result }
 {
     let mut directory = Directory::new(alloc);
     for _ in 0..count {
@@ -157,11 +221,11 @@ fn read_nodes(
     Ok(directory)
 }
 
-#[tactic(auto, unfolding(crate::specs::DirectoryText::directory_of))]
-fn read_directory(alloc: Global, bytes: &[u8]) -> Result<Directory, DirectoryFault>
-    ensures { Gives Memory (λ d. d) result (directory_of bytes.now) }
+/// The count of nodes.
+#[tactic(auto, unfolding(crate::specs::DirectoryText::header_at))]
+fn read_header(reader: &mut FieldReader) -> Result<u32, DirectoryFault>
+    ensures { MatchResult result (λ count. header_at reader.old ≡ Ok (count, reader.new)) (λ e. header_at reader.old ≡ Err e) }
 {
-    let mut reader = FieldReader::new(bytes);
     let front = reader.take(8)?;
     if front != MAGIC.as_slice() {
         return Err(DirectoryFault::BadMagic);
@@ -170,6 +234,16 @@ fn read_directory(alloc: Global, bytes: &[u8]) -> Result<Directory, DirectoryFau
     if count as usize > MOST_NODES {
         return Err(DirectoryFault::TooManyNodes);
     }
+    Ok(count)
+}
+
+#[tactic(auto, unfolding(crate::specs::DirectoryText::directory_of, crate::specs::DirectoryText::beginning_of))]
+fn read_directory(alloc: Global, bytes: &[u8]) -> Result<Directory, DirectoryFault>
+    ensures exact { Gives Memory (λ d. d) result (directory_of bytes.now) }
+    ensures forbidden { (e : DirectoryFault) → beginning_of bytes.now ≡ Err e → result ≡ Err e }
+{
+    let mut reader = FieldReader::new(bytes);
+    let count = read_header(&mut reader)?;
     let directory = read_nodes(alloc, count, &mut reader)?;
     if reader.left() != 0 {
         return Err(DirectoryFault::Trailing);

@@ -1,4 +1,5 @@
-use crate::{Authenticator, AuthenticatorStore, InsertRefused, NodeId};
+use crate::{Authenticator, AuthenticatorStore, Directory, NodeId, statement_text};
+use lms_sign::{LmsType, OtsType, SecretKey};
 use log_chain::{ByteString, Hash};
 use std::alloc::Global;
 use std::test::Fail;
@@ -13,27 +14,13 @@ fn statement(alloc: Global, node: u32, seq: u64, hash: u8, sig: u8) -> Result<Au
     })
 }
 
-/// Whether the store says that the statement is new. Where a growth is refused, the statement that is given back is the same
-/// and isn't held, and is inserted once more.
+/// Whether the store says that the statement is new. It is inserted once, and memory is ample.
 fn insert(
     alloc: Global,
     store: &mut AuthenticatorStore,
     (node, seq, hash, sig): (u32, u64, u8, u8),
 ) -> Result<bool, Fail> {
-    let given_back = match store.insert(statement(alloc, node, seq, hash, sig)?) {
-        Ok(new) => return Ok(new),
-        Err(InsertRefused(given_back)) => given_back,
-    };
-    if given_back != statement(alloc, node, seq, hash, sig)? {
-        return Err("another statement is given back")?;
-    }
-    if store.at(NodeId(node), seq).contains(&given_back) {
-        return Err("a refused statement is held")?;
-    }
-    match store.insert(given_back) {
-        Ok(new) => Ok(new),
-        Err(_) => Err("out of memory")?,
-    }
+    Ok(store.insert(statement(alloc, node, seq, hash, sig)?)?)
 }
 
 /// Whether these are the statements of the slice, in this order.
@@ -51,6 +38,64 @@ fn are(
         }
     }
     Ok(true)
+}
+
+/// The key of a node: H5 and W8, with the node's number at the end of identifier and seed, which are zero before it.
+fn node_key(alloc: Global, node: u32) -> Result<SecretKey, Fail> {
+    let mut id = [0; 16];
+    id[12..].copy_from_slice(&node.to_be_bytes());
+    let mut seed = [0; 32];
+    seed[28..].copy_from_slice(&node.to_be_bytes());
+    let Ok(key) = SecretKey::make(alloc, LmsType::H5, OtsType::W8, id, seed) else {
+        return Err("a key")?;
+    };
+    Ok(key)
+}
+
+/// The node's statement of the number 5 and a hash of 32 equal bytes, signed with C of 32 zero bytes.
+fn signed(alloc: Global, node: u32, key: &mut SecretKey, hash: u8) -> Result<Authenticator, Fail> {
+    let hash = Hash([hash; 32]);
+    let Ok(sig) = key.sign(alloc, &statement_text(5, hash), [0; 32]) else {
+        return Err("a signature")?;
+    };
+    Ok(Authenticator {
+        node: NodeId(node),
+        seq: 5,
+        hash,
+        sig: ByteString::from_vec(sig),
+    })
+}
+
+/// A store of two statements that node 1 signed: its number 5 with a hash of bytes 8, and with one of bytes 7.
+fn store_of_two(alloc: Global) -> Result<AuthenticatorStore, Fail> {
+    let mut key = node_key(alloc, 1)?;
+    let first = signed(alloc, 1, &mut key, 8)?;
+    let second = signed(alloc, 1, &mut key, 7)?;
+    let mut store = AuthenticatorStore::new(alloc);
+    if store.is_empty() && store.insert(first)? && store.insert(second)? && store.len() == 2 {
+        return Ok(store);
+    }
+    Err("both are new")?
+}
+
+/// The hashes of two conflicting statements of node 1, where both are valid.
+fn valid_conflict(directory: &Directory, store: &AuthenticatorStore) -> Result<(Hash, Hash), Fail> {
+    match store.conflict(NodeId(1)) {
+        Some((a, b)) if store.as_slice().iter().all(|s| s.is_valid(directory)) => {
+            Ok((a.hash, b.hash))
+        }
+        _ => Err("two valid statements")?,
+    }
+}
+
+#[test]
+fn two_signed_hashes_of_one_number_are_a_conflict(rt: HostRuntime) -> Result<(), Fail> {
+    let mut directory = Directory::new(rt.alloc());
+    directory.add(NodeId(1), node_key(rt.alloc(), 1)?.public_key())?;
+    let store = store_of_two(rt.alloc())?;
+    let hashes = valid_conflict(&directory, &store)?;
+    assert!(rt; hashes == (Hash([7; 32]), Hash([8; 32])));
+    Ok(())
 }
 
 #[test]

@@ -143,6 +143,40 @@ fn the_first_fault_of_a_directory_is_told(rt: HostRuntime) -> Result<(), Fail> {
     Ok(())
 }
 
+/// Whether the text of two nodes is read, and written as it was.
+fn is_written_again(alloc: Global, text: &[u8]) -> Result<bool, Fail> {
+    let directory = Directory::from_bytes(alloc, text)?;
+    if directory.len() != 2 || directory.is_empty() {
+        return Ok(false);
+    }
+    Ok(directory.to_bytes()?.as_slice() == text)
+}
+
+#[test]
+fn a_directory_is_written_as_it_was_read(rt: HostRuntime) -> Result<(), Fail> {
+    let text = directory_text(rt.alloc(), [0, 0, 0, 2], &two_nodes())?;
+    assert!(rt; is_written_again(rt.alloc(), &text)?);
+    Ok(())
+}
+
+#[test]
+fn a_refusal_has_number_name_and_line(rt: HostRuntime) -> Result<(), Fail> {
+    let fault = DirectoryFault::DuplicateKey;
+    assert_eq!(rt; fault.number(), 21);
+    assert_eq!(rt; fault.name(), "DuplicateKey");
+    let told = format!(in rt.alloc(); "{fault}")?;
+    assert_eq!(rt; told.as_str(), "the directory lists the key already");
+    Ok(())
+}
+
+#[test]
+fn a_node_is_told_as_its_number(rt: HostRuntime) -> Result<(), Fail> {
+    let node = NodeId(4_000_000_000);
+    let told = format!(in rt.alloc(); "{node}")?;
+    assert_eq!(rt; told.as_str(), "4000000000");
+    Ok(())
+}
+
 fn numbered_key(node: u32) -> Result<PublicKey, Fail> {
     let [a, b, c, d] = node.to_be_bytes();
     let mut text = [0u8; 56];
