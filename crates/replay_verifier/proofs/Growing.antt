@@ -4,7 +4,8 @@ use Rattle.log_chain.specs.declared.entry.Entry.{Entry}
 use Rattle.log_chain.specs.Chain.{base, Rising}
 use Rattle.replay_verifier.specs.declared.output.Output.{Output}
 use Rattle.replay_verifier.specs.Conforming.{Setting, act, init_act, Begins, Block, IsProper, step_of, sent_by, head_act, send_act, acts_of, state_after, Stand, at_rest, Leads, Conforms, Rests}
-use Rattle.replay_verifier.proofs.Runs.{stand, stand_after, leads_none, leads_sent, leads_send, leads_headed, leads_head}
+use Rattle.replay_verifier.specs.within.Stepping.{stand, stand_after}
+use Rattle.replay_verifier.proofs.Runs.{leads_none, leads_sent, leads_send, leads_headed, leads_head}
 
 module _ {S : Type 0} (z : Setting S) where
   -- what a stand awaits comes as SEND entries

@@ -4,15 +4,8 @@ use Rattle.std.specs.List.{AllByRecursion}
 use Rattle.log_chain.specs.declared.entry.Entry.{Entry}
 use Rattle.replay_verifier.specs.declared.output.Output.{Output}
 use Rattle.log_chain.specs.Chain.{Rising}
-use Rattle.replay_verifier.specs.Conforming.{Setting, act, Block, IsProper, step_of, sent_by, head_act, send_act, acts_of, state_after, Stand, at_rest, Leads, Conforms}
-
--- a stand, of its parts
-abbrev pub stand : {S : Type 0} → S → List Output → Stand S
-stand s awaited = record { state = s; awaited = awaited }
-
--- where the first entry of a block leaves the log
-abbrev pub stand_after : {S : Type 0} → Setting S → S → Block → Stand S
-stand_after z s b = stand (step_of z s b).state (sent_by z s b)
+use Rattle.replay_verifier.specs.within.Stepping.{stand, stand_after}
+use Rattle.replay_verifier.specs.Conforming.{Setting, act, Block, IsProper, head_act, send_act, acts_of, state_after, Stand, at_rest, Leads, Conforms}
 
 module _ {S : Type 0} (z : Setting S) where
   -- no entry leads nowhere else

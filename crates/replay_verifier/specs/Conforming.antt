@@ -16,8 +16,11 @@ use Rattle.std.specs.Prelude.{◌≡◌, ◌≢◌, ℕ, ◌&&◌, nat_le, Bool,
 use Rattle.std.specs.List.{AllByRecursion}
 use Rattle.std.specs.Int.{w32, w64, to_be_bytes, from_be_bytes}
 use Rattle.lms_sign.specs.declared.key.PublicKey.{PublicKey}
+use Rattle.lms_sign.specs.declared.types.TheConstants.{LONGEST_SIGNATURE}
 use Rattle.log_chain.specs.declared.entry.Entry.{Entry}
+use Rattle.log_chain.specs.declared.kind.TheConstants.{INIT, SEND, RECV, TIMER, CHECKPOINT}
 use Rattle.log_chain.specs.Chain.{base, Rising}
+use Rattle.replay_verifier.specs.declared.limits.TheConstants.{LONGEST_PAYLOAD}
 use Rattle.replay_verifier.specs.declared.output.Output.{Output}
 use Rattle.replay_verifier.specs.declared.program.Step.{Step}
 use Rattle.replay_verifier.specs.Meaning.{Meaning, Received, Ticked}
@@ -29,6 +32,10 @@ pub record Setting (S : Type 0) : Type 0 where
   pub me : ℕ
   pub directory : List (ℕ × PublicKey)
   pub program : Meaning S
+
+-- A setting, of its parts.
+abbrev pub setting_of : {S : Type 0} → List (ℕ × PublicKey) → ℕ → Meaning S → Setting S
+setting_of directory me program = record { me = me; directory = directory; program = program }
 
 -- An entry without its number.
 pub record Act : Type 0 where
@@ -42,13 +49,13 @@ act e = record { kind = e.kind; content = e.content }
 
 -- INIT: the node's number in four bytes.
 abbrev pub init_act : ℕ → Act
-init_act me = record { kind = 1; content = to_be_bytes w32 me }
+init_act me = record { kind = INIT; content = to_be_bytes w32 me }
 
 -- The first entry after the hash prev, and the state that it leaves.
 abbrev pub Begins : {S : Type 0} → Setting S → List ℕ → Act → S → Type 0
 Begins z prev a s =
     ((prev ≡ base) × (a ≡ init_act z.me) × (s ≡ z.program.start z.me))
-    ⊎ ((prev ≢ base) × (a.kind ≡ 5) × (z.program.decode a.content ≡ Some s))
+    ⊎ ((prev ≢ base) × (a.kind ≡ CHECKPOINT) × (z.program.decode a.content ≡ Some s))
 
 -- ---- blocks
 
@@ -60,7 +67,7 @@ pub data Block : Type 0 where
 
 -- The signature and the payload are no longer than allowed.
 abbrev pub is_short : Quote → Bool
-is_short q = nat_le (length q.sig) 9324 && nat_le (length q.payload) 65536
+is_short q = nat_le (length q.sig) LONGEST_SIGNATURE && nat_le (length q.payload) LONGEST_PAYLOAD
 
 -- The block is well formed.
 abbrev pub IsProper : {S : Type 0} → Setting S → Block → Type 0
@@ -80,13 +87,13 @@ sent_by z s b = outs z.directory z.me (step_of z s b).outputs
 
 -- The first entry of the block: RECV, TIMER or CHECKPOINT.
 abbrev pub head_act : {S : Type 0} → Setting S → S → Block → Act
-head_act z s (Receives content q) = record { kind = 3; content = content }
-head_act z s (Ticks content) = record { kind = 4; content = content }
-head_act z s Checkpoints = record { kind = 5; content = z.program.encode s }
+head_act z s (Receives content q) = record { kind = RECV; content = content }
+head_act z s (Ticks content) = record { kind = TIMER; content = content }
+head_act z s Checkpoints = record { kind = CHECKPOINT; content = z.program.encode s }
 
 -- SEND: the receiver's number in four bytes, and the payload.
 abbrev pub send_act : Output → Act
-send_act o = record { kind = 2; content = to_be_bytes w32 o.to ++ o.payload }
+send_act o = record { kind = SEND; content = to_be_bytes w32 o.to ++ o.payload }
 
 -- The entries of blocks that follow the state s, one block after the other.
 abbrev pub acts_of : {S : Type 0} → Setting S → S → List Block → List Act

@@ -6,6 +6,7 @@ use Rattle.lms_sign.specs.declared.key.PublicKey.{PublicKey}
 use Rattle.outcome.specs.Bytes.{IsBytes}
 use Rattle.outcome.specs.Outcome.{◌>>=◌}
 use Rattle.log_chain.specs.declared.entry.Entry.{Entry}
+use Rattle.log_chain.specs.declared.kind.TheConstants.{SEND}
 use Rattle.log_chain.specs.declared.fault.FieldFault.{FieldFault}
 use Rattle.log_chain.specs.Chain.{entry_hash}
 use Rattle.log_chain.specs.Fields.{IsBytesOf, IsBytesUpTo, bytes_text, take_at, number_at, bytes_at}
@@ -55,7 +56,7 @@ receipt_of content = result_ok (quote_of content)
 
 -- The sender's entry for a message: SEND, with the receiver's number in 4 bytes and the payload to the end.
 abbrev pub send_entry : ℕ → ℕ → List ℕ → Entry
-send_entry seq to payload = record { seq = seq; kind = 2; content = to_be_bytes w32 to ++ payload }
+send_entry seq to payload = record { seq = seq; kind = SEND; content = to_be_bytes w32 to ++ payload }
 
 -- The hash of the sender's entry for the message to `me`, after the hash before it.
 abbrev pub signed_hash : ℕ → Quote → List ℕ

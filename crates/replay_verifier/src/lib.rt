@@ -2,18 +2,31 @@
 //!
 //! [`Program`] is a node's program: a deterministic machine with an encoded state. [`outs`] says which of a step's outputs
 //! are sent, and [`Receipt`] reads what a RECV entry quotes of the message that came.
-//! `specs/Conforming.antt` defines which logs a node that follows its program can have.
+//!
+//! [`replay`] tells of a list of entries whether it can be a part of the log of a node that follows its program, and if not
+//! where and why it first deviates. `specs/Conforming.antt` defines which lists conform, and `specs/Deviation.antt` where and
+//! why the others deviate; [`laws`] has what follows of these definitions alone. `specs/within` has the words of private code.
 #![tactic(auto)]
 
+pub use authenticators::{Directory, NodeId};
 pub use limits::{LONGEST_PAYLOAD, LONGEST_STATE, MOST_OUTPUTS};
+pub use log_chain::{ByteString, Entry, Hash};
+pub use outcome::Memory;
 pub use output::{Output, OutputList, outs};
 pub use program::{Input, Program, Step};
 pub use receipt::Receipt;
+pub use replaying::replay;
+pub use verdict::{Reason, Verdict};
 
 pub mod laws;
 mod limits;
+mod line_tests;
 mod output;
 mod program;
 mod receipt;
+mod replayer;
+mod replaying;
+mod standing;
 #[cfg(test)]
 mod tests;
+mod verdict;

@@ -8,11 +8,9 @@ ghost use Rattle.log_chain.specs.Chain.{entry_hash};
 ghost use Rattle.replay_verifier.specs.Quotes.{IsGenuine, IsQuote, Quote, is_genuine, quote_of, quote_text, quoted, receipt_of, send_entry, signed_hash};
 
 use authenticators::{Directory, NodeId};
-use log_chain::{FieldFault, FieldReader, Hash};
+use log_chain::kind::SEND;
+use log_chain::{FieldFault, FieldReader, Hash, entry_hash_of_digest};
 use sha2::{Digest, Sha256};
-
-/// The kind of a SEND entry.
-const SEND: u8 = 2;
 
 /// What the content of a RECV entry says of the message that came.
 #[derive(Clone, Copy, Debug)]
@@ -60,17 +58,10 @@ fn content_digest(to: NodeId, payload: &[u8]) -> [u8; 32]
 }
 
 /// The hash of the SEND entry with this number to this node, after the hash before it.
-#[tactic(auto, unfolding(log_chain::specs::Chain::entry_text))]
 fn send_hash(prev: Hash, seq: u64, to: NodeId, payload: &[u8]) -> Hash
     ensures { result ≡ entry_hash prev (send_entry seq to payload.now) }
 {
-    let digest = content_digest(to, payload);
-    let mut hasher = Sha256::new();
-    hasher.update(prev.0);
-    hasher.update(seq.to_be_bytes());
-    hasher.update([SEND]);
-    hasher.update(digest);
-    Hash(hasher.finalize())
+    entry_hash_of_digest(prev, seq, SEND, content_digest(to, payload))
 }
 
 impl<'a> Receipt<'a> {

@@ -1,6 +1,6 @@
 //! What no clause says: values from outside, and each public call once on its happy path.
 
-use crate::{Output, Receipt, outs};
+use crate::{Output, OutputList, Reason, Receipt, outs};
 use authenticators::{Directory, NodeId};
 use lms_sign::PublicKey;
 use log_chain::{ByteString, Hash};
@@ -74,6 +74,29 @@ fn the_first_sixteen_are_sent(rt: HostRuntime) -> Result<(), Fail> {
     outs(&directory, NodeId(1), &mut outputs);
     assert_eq!(rt; outputs.len(), 16);
     assert_eq!(rt; outputs[15].payload.len(), 15);
+    Ok(())
+}
+
+#[test]
+fn output_lists_have_lengths(rt: HostRuntime) -> Result<(), Fail> {
+    let alloc = rt.alloc();
+    assert!(rt; OutputList::new(alloc).is_empty());
+    let mut outputs = Vec::new(alloc);
+    outputs.push(output_to(alloc, 1, 0)?)?;
+    outputs.push(output_to(alloc, 2, 3)?)?;
+    let list = OutputList::from_vec(outputs);
+    assert_eq!(rt; list.len(), 2);
+    assert!(rt; !list.is_empty());
+    assert_eq!(rt; list.as_slice()[1].payload.len(), 3);
+    assert_eq!(rt; list.into_vec().len(), 2);
+    Ok(())
+}
+
+#[test]
+fn reasons_have_numbers_and_names(rt: HostRuntime) -> Result<(), Fail> {
+    assert_eq!(rt; Reason::SeqOrder.number(), 1);
+    assert_eq!(rt; Reason::WrongCheckpoint.number(), 9);
+    assert!(rt; Reason::MissingOutput.name() == "MissingOutput");
     Ok(())
 }
 
