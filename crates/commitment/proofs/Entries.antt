@@ -1,12 +1,12 @@
 -- Lists of entries with one more at their end.
-use Rattle.std.proofs.Common.{◌≡◌, ℕ, zero, suc, ◌+◌, ◌-◌, ◌<◌, Some, Bool, true, false, cond, List, [], ◌∷◌, ◌++◌, length, get_or, refl, sym, ap, ◌∙◌, arith}
+use Rattle.std.proofs.Common.{◌≡◌, ℕ, zero, suc, ◌+◌, ◌-◌, ◌<◌, ◌==◌, Some, Bool, true, false, cond, List, [], ◌∷◌, ◌++◌, length, get_or, refl, sym, ap, ◌∙◌, arith}
 use Rattle.std.specs.Prelude.{slice_get}
 use Rattle.std.proofs.lemmas.List.{length-append}
 use Rattle.log_chain.specs.declared.entry.Entry.{Entry}
 use Rattle.log_chain.specs.Chain.{chain_end, entry_hash, Rising}
 use Rattle.log_chain.specs.History.{last_entry}
 use Rattle.log_chain.proofs.Rises.{Rising-push}
-use Rattle.commitment.specs.Accounts.{next_seq, is_signed_kind, stamps, Stamp}
+use Rattle.commitment.specs.Accounts.{next_seq, is_signed_kind, stamps, Stamp, places, Place}
 
 get-push : (es : List Entry) (e : Entry) → slice_get (es ++ e ∷ []) (length es) ≡ Some e
 get-push [] e = refl
@@ -46,4 +46,15 @@ stamps-push prev (f ∷ es) e = go (is_signed_kind f.kind) (stamps-push (entry_h
         → cond b ((f.seq, entry_hash prev f) ∷ stamps (entry_hash prev f) (es ++ e ∷ [])) (stamps (entry_hash prev f) (es ++ e ∷ []))
         ≡ cond b ((f.seq, entry_hash prev f) ∷ stamps (entry_hash prev f) es) (stamps (entry_hash prev f) es) ++ stamps (chain_end (entry_hash prev f) es) (e ∷ [])
     go true h = ap (λ (l : List Stamp). (f.seq, entry_hash prev f) ∷ l) h
+    go false h = h
+
+-- the same of the places of a kind
+pub places-push : (kind : ℕ) (prev : List ℕ) (es : List Entry) (e : Entry) → places kind prev (es ++ e ∷ []) ≡ places kind prev es ++ places kind (chain_end prev es) (e ∷ [])
+places-push kind prev [] e = refl
+places-push kind prev (f ∷ es) e = go (f.kind == kind) (places-push kind (entry_hash prev f) es e)
+  where
+    go : (b : Bool) → places kind (entry_hash prev f) (es ++ e ∷ []) ≡ places kind (entry_hash prev f) es ++ places kind (chain_end (entry_hash prev f) es) (e ∷ [])
+        → cond b ((prev, f) ∷ places kind (entry_hash prev f) (es ++ e ∷ [])) (places kind (entry_hash prev f) (es ++ e ∷ []))
+        ≡ cond b ((prev, f) ∷ places kind (entry_hash prev f) es) (places kind (entry_hash prev f) es) ++ places kind (chain_end (entry_hash prev f) es) (e ∷ [])
+    go true h = ap (λ (l : List Place). (prev, f) ∷ l) h
     go false h = h

@@ -1,7 +1,11 @@
 -- An account with one entry more is still one.
-use Rattle.std.proofs.Common.{◌≡◌, ℕ, ◌+◌, ◌==◌, false, Some, List, [], ◌∷◌, ◌++◌, map, refl, sym, ap, ◌∙◌, append-nil, arith}
+use Rattle.std.proofs.Common.{◌≡◌, ℕ, ◌+◌, ◌<◌, ◌≤◌, ◌==◌, Bool, false, Some, None, List, [], ◌∷◌, ◌++◌, map, refl, sym, ap, ◌∙◌, append-nil, arith}
 use Rattle.std.proofs.lemmas.List.{length-append, map-append}
-use Rattle.std.proofs.lemmas.List.Elements.{All-push, filter-append}
+use Rattle.std.specs.Prelude.{nat_eq, not, IsSome, IsSomeAnd}
+use Rattle.std.specs.Map.{lookup}
+use Rattle.std.proofs.lemmas.List.Elements.{All-push, All-filter, All-weaker}
+use Rattle.std.proofs.lemmas.List.Kept.{AllPairs-filter}
+use Rattle.std.proofs.lemmas.List.Quantifiers.{all_pairs_push}
 use Rattle.lms_sign.specs.LmsSignature.{Verifies}
 use Rattle.lms_sign.specs.Signing.{public_key}
 use Rattle.log_chain.specs.declared.entry.Entry.{Entry}
@@ -10,15 +14,14 @@ use Rattle.log_chain.specs.History.{last_entry}
 use Rattle.authenticators.specs.declared.authenticator.Authenticator.{Authenticator}
 use Rattle.authenticators.specs.Statement.{statement_text}
 use Rattle.replay_verifier.specs.declared.output.Output.{Output}
+use Rattle.log_chain.specs.declared.kind.TheConstants.{SEND, RECV}
 use Rattle.replay_verifier.specs.Conforming.{Act, send_act}
+use Rattle.replay_verifier.specs.Quotes.{receipt_of}
 use Rattle.commitment.specs.declared.message.Message.{Message}
 use Rattle.commitment.specs.declared.message.Ack.{Ack}
-use Rattle.commitment.specs.Accounts.{Account, IsAccount, IsLogged, IsOwn, Stamp, next_seq, next_entry, next_hash, next_signature, number_of, stamp, stamps, of_kind, logged, received, recv_act, ack_next, sent_next, message_next}
-use Rattle.commitment.proofs.Entries.{last-push, rising_next, stamps-push}
-
--- what is read off the entries of a kind
-of_kind-push : {X : Type 0} (f : Entry → X) (kind : ℕ) (es : List Entry) (e : Entry) → map f (of_kind kind (es ++ e ∷ [])) ≡ map f (of_kind kind es) ++ map f (of_kind kind (e ∷ []))
-of_kind-push f kind es e = ap (map f) (filter-append (λ (e : Entry). e.kind == kind) es (e ∷ [])) ∙ map-append f (of_kind kind es) (of_kind kind (e ∷ []))
+use Rattle.commitment.specs.Accounts.{Account, IsAccount, IsLogged, IsOwn, IsOwnAck, IsOwnMessage, Place, Stamp, next_seq, next_entry, next_hash, next_signature, number_of, stamp, stamps, places, recv_place, send_place, logged, received, recv_act, ack_next, sent_next, message_next, acknowledged}
+use Rattle.commitment.proofs.Entries.{last-push, places-push, rising_next, stamps-push}
+use Rattle.commitment.proofs.Awaited.{above_all, found-last, found-push}
 
 -- the numbers still rise
 rising : (a : Account) (x : Act) → IsAccount a → Rising (a.entries ++ next_entry a x ∷ [])
@@ -30,12 +33,13 @@ last : (a : Account) (x : Act) → (l : Entry) × (last_entry (a.entries ++ next
 last a x = (next_entry a x, last-push a.entries (next_entry a x))
 
 -- One that is not signed. (Its own stamps and places among the two signed kinds are none.)
-pub account_logged : (a : Account) (x : Act) → IsAccount a → IsLogged (next_entry a x) → (x.kind == 2) ≡ false → (x.kind == 3) ≡ false → IsAccount (logged a x)
+pub account_logged : (a : Account) (x : Act) → IsAccount a → IsLogged (next_entry a x) → (x.kind == SEND) ≡ false → (x.kind == RECV) ≡ false → IsAccount (logged a x)
 account_logged a x is fits not_send not_recv =
     let e = next_entry a x in
-    let no_stamp : stamps (chain_end base a.entries) (e ∷ []) ≡ [] = rw (not_send, not_recv) refl in
-    let no_send : of_kind 2 (e ∷ []) ≡ [] = rw not_send refl in
-    let no_recv : of_kind 3 (e ∷ []) ≡ [] = rw not_recv refl in
+    let prev = chain_end base a.entries in
+    let no_stamp : stamps prev (e ∷ []) ≡ [] = rw (not_send, not_recv) refl in
+    let no_send : places SEND prev (e ∷ []) ≡ [] = rw not_send refl in
+    let no_recv : places RECV prev (e ∷ []) ≡ [] = rw not_recv refl in
     record {
       rising = rising a x is;
       last = last a x;
@@ -43,19 +47,24 @@ account_logged a x is fits not_send not_recv =
       stamps = is.stamps ∙ sym (stamps-push base a.entries e ∙ ap (λ (l : List Stamp). stamps base a.entries ++ l) no_stamp ∙ append-nil _);
       own = is.own;
       leaves = is.leaves;
-      sent = is.sent ∙ sym (of_kind-push (λ (f : Entry). f.seq) 2 a.entries e ∙ ap (λ (l : List Entry). map (λ (f : Entry). f.seq) (of_kind 2 a.entries) ++ map (λ (f : Entry). f.seq) l) no_send ∙ append-nil _);
-      acks = is.acks ∙ sym (of_kind-push (λ (f : Entry). f.content) 3 a.entries e ∙ ap (λ (l : List Entry). map (λ (f : Entry). f.content) (of_kind 3 a.entries) ++ map (λ (f : Entry). f.content) l) no_recv ∙ append-nil _);
+      sent = is.sent ∙ sym (places-push SEND base a.entries e ∙ ap (λ (l : List Place). places SEND base a.entries ++ l) no_send ∙ append-nil _);
+      acks = is.acks ∙ sym (places-push RECV base a.entries e ∙ ap (λ (l : List Place). places RECV base a.entries ++ l) no_recv ∙ append-nil _);
+      own_messages = is.own_messages;
+      own_acks = is.own_acks;
+      awaited = is.awaited;
+      ascending = is.ascending;
     }
 
--- RECV
-pub account_received : (a : Account) (c : List ℕ) (n : ℕ) (content : List ℕ) → IsAccount a → IsLogged (next_entry a (recv_act content))
+-- RECV, of the message that the content quotes
+pub account_received : (a : Account) (c : List ℕ) (n : ℕ) (content : List ℕ) → IsAccount a → IsLogged (next_entry a (recv_act content)) → IsSomeAnd (receipt_of content) (λ q. n ≡ q.seq)
     → Verifies (public_key a.key) (statement_text (next_seq a.entries) (next_hash a (recv_act content))) (next_signature a c (recv_act content)) → IsAccount (received a c n content)
 unfolding received
-account_received a c n content is fits verifies =
+account_received a c n content is fits quoted verifies =
     let x = recv_act content in
     let e = next_entry a x in
     let s : Authenticator = record { node = a.me; seq = next_seq a.entries; hash = next_hash a x; sig = next_signature a c x } in
     let ack : List ℕ × Ack = (content, ack_next a c n content) in
+    let place : List ℕ × Ack → Place = λ p. recv_place p.0 p.1 in
     record {
       rising = rising a x is;
       last = last a x;
@@ -63,19 +72,25 @@ account_received a c n content is fits verifies =
       stamps = map-append stamp a.signed (s ∷ []) ∙ ap (λ (l : List Stamp). l ++ stamp s ∷ []) is.stamps ∙ sym (stamps-push base a.entries e);
       own = All-push (IsOwn a.me (public_key a.key)) a.signed s is.own (refl, verifies);
       leaves = omega (arith, is.leaves, length-append a.signed (s ∷ []));
-      sent = is.sent ∙ sym (of_kind-push (λ (f : Entry). f.seq) 2 a.entries e ∙ append-nil _);
-      acks = map-append (λ (p : List ℕ × Ack). p.0) a.acks (ack ∷ []) ∙ ap (λ (l : List (List ℕ)). l ++ content ∷ []) is.acks ∙ sym (of_kind-push (λ (f : Entry). f.content) 3 a.entries e);
+      sent = is.sent ∙ sym (places-push SEND base a.entries e ∙ append-nil _);
+      acks = map-append place a.acks (ack ∷ []) ∙ ap (λ (l : List Place). l ++ place ack ∷ []) is.acks ∙ sym (places-push RECV base a.entries e);
+      own_messages = is.own_messages;
+      own_acks = All-push (IsOwnAck a.me (public_key a.key)) a.acks ack is.own_acks (record { from = refl; number = quoted; signed = verifies });
+      awaited = is.awaited;
+      ascending = is.ascending;
     }
 
--- SEND
-pub account_sent : (a : Account) (c : List ℕ) (o : Output) → IsAccount a → IsLogged (next_entry a (send_act o))
+-- SEND, where no message stands under a number that is to come
+pub account_sent : (a : Account) (c : List ℕ) (o : Output) → IsAccount a → IsLogged (next_entry a (send_act o)) → ((n : ℕ) → next_seq a.entries ≤ n → lookup (nat_eq n) a.sent ≡ None)
     → Verifies (public_key a.key) (statement_text (next_seq a.entries) (next_hash a (send_act o))) (next_signature a c (send_act o)) → IsAccount (sent_next a c o)
 unfolding sent_next
-account_sent a c o is fits verifies =
+account_sent a c o is fits fresh verifies =
     let x = send_act o in
     let e = next_entry a x in
     let s : Authenticator = record { node = a.me; seq = next_seq a.entries; hash = next_hash a x; sig = next_signature a c x } in
-    let message : ℕ × Message = (next_seq a.entries, message_next a c o) in
+    let n = next_seq a.entries in
+    let message : ℕ × Message = (n, message_next a c o) in
+    let place : ℕ × Message → Place = λ p. send_place p.1 in
     record {
       rising = rising a x is;
       last = last a x;
@@ -83,6 +98,31 @@ account_sent a c o is fits verifies =
       stamps = map-append stamp a.signed (s ∷ []) ∙ ap (λ (l : List Stamp). l ++ stamp s ∷ []) is.stamps ∙ sym (stamps-push base a.entries e);
       own = All-push (IsOwn a.me (public_key a.key)) a.signed s is.own (refl, verifies);
       leaves = omega (arith, is.leaves, length-append a.signed (s ∷ []));
-      sent = map-append (λ (p : ℕ × Message). p.0) a.sent (message ∷ []) ∙ ap (λ (l : List ℕ). l ++ next_seq a.entries ∷ []) is.sent ∙ sym (of_kind-push (λ (f : Entry). f.seq) 2 a.entries e);
-      acks = is.acks ∙ sym (of_kind-push (λ (f : Entry). f.content) 3 a.entries e ∙ append-nil _);
+      sent = map-append place a.sent (message ∷ []) ∙ ap (λ (l : List Place). l ++ place message ∷ []) is.sent ∙ sym (places-push SEND base a.entries e);
+      acks = is.acks ∙ sym (places-push RECV base a.entries e ∙ append-nil _);
+      own_messages = All-push (IsOwnMessage a.me (public_key a.key)) a.sent message is.own_messages (record { from = refl; number = refl; signed = verifies });
+      own_acks = is.own_acks;
+      awaited = All-push (λ k. IsSome (lookup (nat_eq k) (a.sent ++ message ∷ []))) a.unacknowledged n
+          (All-weaker (λ k. IsSome (lookup (nat_eq k) a.sent)) (λ k. IsSome (lookup (nat_eq k) (a.sent ++ message ∷ []))) (λ k found. found-push (nat_eq k) a.sent message found) a.unacknowledged is.awaited)
+          (found-last n a.sent (message_next a c o));
+      ascending = all_pairs_push (λ k l. k < l) a.unacknowledged n is.ascending (above_all a.sent n a.unacknowledged fresh is.awaited);
+    }
+
+-- an acknowledgement that is accepted
+pub account_acknowledged : (a : Account) (n : ℕ) → IsAccount a → IsAccount (acknowledged a n)
+account_acknowledged a n is =
+    let others : ℕ → Bool = λ m. not (m == n) in
+    record {
+      rising = is.rising;
+      last = is.last;
+      ranges = is.ranges;
+      stamps = is.stamps;
+      own = is.own;
+      leaves = is.leaves;
+      sent = is.sent;
+      acks = is.acks;
+      own_messages = is.own_messages;
+      own_acks = is.own_acks;
+      awaited = All-filter others (λ k. IsSome (lookup (nat_eq k) a.sent)) a.unacknowledged is.awaited;
+      ascending = AllPairs-filter (λ k l. k < l) others a.unacknowledged is.ascending;
     }

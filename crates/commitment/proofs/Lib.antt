@@ -1,6 +1,9 @@
 mod Appending
+mod Awaited
 mod Entries
 mod Grown
+mod HonestNodes
+mod KeptItems
 mod NodeCalls
 mod NodeGrowth
 mod Placed

@@ -13,7 +13,7 @@ use Rattle.replay_verifier.specs.Meaning.{Meaning, Ticked}
 use Rattle.replay_verifier.proofs.Growing.{rests_block}
 use Rattle.commitment.specs.Accounts.{Account, all_sent, next_entry, next_seq, number_of, randomizer, received, recv_act, sent_next}
 use Rattle.authenticators.specs.Directory.{key_at}
-use Rattle.commitment.specs.Limits.{most_logged}
+use Rattle.log_chain.specs.declared.limits.TheConstants.{MOST_ENTRIES}
 use Rattle.commitment.specs.Nodes.{IsNode, NodeState, setting, tick}
 use Rattle.commitment.proofs.Entries.{last-push, rising_next}
 
@@ -96,7 +96,7 @@ module _ {S : Type 0} (Is : S → Type 0) (p : Meaning S) where
   -- A node whose account has a whole block more, and whose state is the one after it.
   pub node_after : (n : NodeState S) (b : Block) (e : Act) (x y : Account) → IsNode Is p n → IsProper (setting p n) b → e ≡ head_act (setting p n) n.state b
       → x.entries ≡ n.account.entries ++ next_entry n.account e ∷ [] → x.me ≡ n.account.me → public_key x.key ≡ public_key n.account.key → SentOn x y (sent_by (setting p n) n.state b)
-      → length n.account.entries + (length (sent_by (setting p n) n.state b) + 1) ≤ most_logged → Is (step_of (setting p n) n.state b).state
+      → length n.account.entries + (length (sent_by (setting p n) n.state b) + 1) ≤ MOST_ENTRIES → Is (step_of (setting p n) n.state b).state
       → IsNode Is p (record { directory = n.directory; account = y; state = (step_of (setting p n) n.state b).state })
   node_after n b e x y is proper head entries me key on limit state =
       let z = setting p n in

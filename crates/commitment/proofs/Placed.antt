@@ -14,7 +14,7 @@ use Rattle.replay_verifier.specs.Conforming.{Act, send_act}
 use Rattle.commitment.specs.declared.message.Message.{Message}
 use Rattle.commitment.specs.declared.message.Ack.{Ack}
 use Rattle.commitment.specs.declared.committing.Signatures.{Signatures}
-use Rattle.commitment.specs.Blanks.{all_of}
+use Rattle.commitment.specs.within.Blanks.{all_of}
 use Rattle.commitment.specs.Accounts.{Account, next_seq, next_entry, next_hash, next_signature, received, recv_act, ack_next, sent_next, message_next}
 use Rattle.commitment.proofs.Entries.{next-push}
 

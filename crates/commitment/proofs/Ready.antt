@@ -9,21 +9,22 @@ use Rattle.replay_verifier.specs.Conforming.{Act}
 use Rattle.commitment.specs.declared.draft.Sending.{Sending}
 use Rattle.commitment.specs.declared.fault.NodeFault.TheVariants.{KeySpent, LogFull}
 use Rattle.commitment.specs.Accounts.{Account, logged, next_entry, next_seq, received, recv_act}
-use Rattle.commitment.specs.Drafts.{CanSend, IsSending, output_of, sig_len}
-use Rattle.commitment.specs.Limits.{most_logged, room_fault}
+use Rattle.commitment.specs.within.Drafts.{CanSend, IsSending, output_of, sig_len}
+use Rattle.commitment.specs.Limits.{room_fault}
+use Rattle.log_chain.specs.declared.limits.TheConstants.{MOST_ENTRIES}
 use Rattle.commitment.proofs.Entries.{next-push}
 
 -- There are as many leaves and numbers, and there is as much room.
 pub record Fits (a : Account) (n m : ℕ) : Type 0 where
   pub leaves : n ≤ remaining a.key
-  pub entries : length a.entries + m ≤ most_logged
+  pub entries : length a.entries + m ≤ MOST_ENTRIES
   pub numbers : next_seq a.entries + m ≤ 2 ^ 64
 
 pub fits : (a : Account) (leaves entries : ℕ) → room_fault a leaves entries ≡ None → Fits a leaves entries
 unfolding room_fault
-fits a leaves entries none = go (ltb (remaining a.key) leaves) (ltb most_logged (length a.entries + entries) || ltb (2 ^ 64) (next_seq a.entries + entries)) refl refl none
+fits a leaves entries none = go (ltb (remaining a.key) leaves) (ltb MOST_ENTRIES (length a.entries + entries) || ltb (2 ^ 64) (next_seq a.entries + entries)) refl refl none
   where
-    go : (p q : Bool) → ltb (remaining a.key) leaves ≡ p → (ltb most_logged (length a.entries + entries) || ltb (2 ^ 64) (next_seq a.entries + entries)) ≡ q
+    go : (p q : Bool) → ltb (remaining a.key) leaves ≡ p → (ltb MOST_ENTRIES (length a.entries + entries) || ltb (2 ^ 64) (next_seq a.entries + entries)) ≡ q
         → cond p (Some KeySpent) (cond q (Some LogFull) None) ≡ None → Fits a leaves entries
     go true q p_is q_is told = absurd cc
     go false true p_is q_is told = absurd cc

@@ -4,11 +4,12 @@ use Rattle.std.specs.List.{All}
 use Rattle.std.proofs.lemmas.Bool.{and_parts, leb-true}
 use Rattle.std.proofs.lemmas.List.Elements.{All-cons, All-nil, All-take}
 use Rattle.lms_sign.specs.declared.key.PublicKey.{PublicKey}
+use Rattle.replay_verifier.specs.declared.limits.TheConstants.{LONGEST_PAYLOAD, MOST_OUTPUTS}
 use Rattle.replay_verifier.specs.declared.output.Output.{Output}
 use Rattle.replay_verifier.specs.Sending.{is_sent, outs}
 
 abbrev pub IsShort : Output → Type 0
-IsShort o = length o.payload ≤ 65536
+IsShort o = length o.payload ≤ LONGEST_PAYLOAD
 
 passed : (ds : List (ℕ × PublicKey)) (me : ℕ) (os : List Output) → All IsShort (filter (is_sent ds me) os)
 passed ds me [] = All-nil IsShort
@@ -19,4 +20,4 @@ passed ds me (o ∷ os) = go (is_sent ds me o) refl (passed ds me os)
     go false h rest = rest
 
 pub outs_short : (ds : List (ℕ × PublicKey)) (me : ℕ) (os : List Output) → All IsShort (outs ds me os)
-outs_short ds me os = All-take IsShort 16 (filter (is_sent ds me) os) (passed ds me os)
+outs_short ds me os = All-take IsShort MOST_OUTPUTS (filter (is_sent ds me) os) (passed ds me os)

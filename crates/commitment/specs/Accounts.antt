@@ -1,13 +1,15 @@
 -- What a node has to answer for: its log, the statements that it signed, the messages that it sent and the acknowledgements
 -- that it gave (PeerReview, SOSP 2007: commitment).
-use Rattle.std.specs.Prelude.{◌≡◌, ℕ, ◌+◌, ◌<◌, ◌^◌, ◌==◌, ◌||◌, not, Bool, List, [], ◌∷◌, ◌++◌, length, map, filter, Option, Some, None, if◌then◌else◌}
-use Rattle.std.specs.List.{All}
+use Rattle.std.specs.Prelude.{◌≡◌, ℕ, ◌+◌, ◌<◌, ◌^◌, ◌==◌, ◌||◌, nat_eq, not, Bool, List, [], ◌∷◌, ◌++◌, length, map, filter, Option, Some, None, IsSome, IsSomeAnd, if◌then◌else◌}
+use Rattle.std.specs.List.{All, AllPairs}
+use Rattle.std.specs.Map.{lookup}
 use Rattle.std.specs.Int.{w32, to_be_bytes}
 use Rattle.sha2.specs.Sha256.{sha256}
 use Rattle.lms_sign.specs.declared.key.PublicKey.{PublicKey}
 use Rattle.lms_sign.specs.LmsSignature.{Verifies}
 use Rattle.lms_sign.specs.Signing.{PrivateKey, key_after, public_key, signature}
 use Rattle.log_chain.specs.declared.entry.Entry.{Entry}
+use Rattle.log_chain.specs.declared.kind.TheConstants.{INIT, SEND, RECV}
 use Rattle.log_chain.specs.Chain.{base, chain_end, entry_hash, Rising}
 use Rattle.log_chain.specs.History.{last_entry}
 use Rattle.outcome.specs.Bytes.{IsBytes}
@@ -15,8 +17,10 @@ use Rattle.authenticators.specs.declared.authenticator.Authenticator.{Authentica
 use Rattle.authenticators.specs.Statement.{statement_text}
 use Rattle.replay_verifier.specs.declared.output.Output.{Output}
 use Rattle.replay_verifier.specs.Conforming.{Act, init_act, send_act}
+use Rattle.replay_verifier.specs.Quotes.{receipt_of, send_entry}
 use Rattle.commitment.specs.declared.message.Message.{Message}
 use Rattle.commitment.specs.declared.message.Ack.{Ack}
+use Rattle.commitment.specs.Messages.{sent_hash}
 
 -- All that a node keeps of its dealings with others.
 pub record Account : Type 0 where
@@ -75,7 +79,7 @@ committed a c x = record a {
 
 -- RECV, with this content.
 abbrev pub recv_act : List ℕ → Act
-recv_act content = record { kind = 3; content = content }
+recv_act content = record { kind = RECV; content = content }
 
 -- The acknowledgement of the message with the number n that is received next, as this content, and the account with it.
 abbrev pub ack_next : Account → List ℕ → ℕ → List ℕ → Ack
@@ -118,7 +122,7 @@ messages a entropy k (o ∷ os) = message_next a (randomizer entropy k) o ∷ me
 
 -- SEND and RECV entries are signed.
 abbrev pub is_signed_kind : ℕ → Bool
-is_signed_kind kind = (kind == 2) || (kind == 3)
+is_signed_kind kind = (kind == SEND) || (kind == RECV)
 
 -- a number and a hash
 abbrev pub Stamp : Type 0
@@ -137,9 +141,35 @@ stamp s = (s.seq, s.hash)
 abbrev pub IsOwn : ℕ → PublicKey → Authenticator → Type 0
 IsOwn me key s = (s.node ≡ me) × Verifies key (statement_text s.seq s.hash) s.sig
 
--- The entries of a kind.
-abbrev pub of_kind : ℕ → List Entry → List Entry
-of_kind kind es = filter (λ e. e.kind == kind) es
+-- an entry, and the hash before it
+abbrev pub Place : Type 0
+Place = List ℕ × Entry
+
+-- The entries of a kind after the hash prev, in order, each with the hash before it.
+abbrev pub places : ℕ → List ℕ → List Entry → List Place
+places kind prev [] = []
+places kind prev (e ∷ es) = if e.kind == kind then (prev, e) ∷ places kind (entry_hash prev e) es else places kind (entry_hash prev e) es
+
+-- The SEND entry of a message.
+abbrev pub send_place : Message → Place
+send_place m = (m.prev, send_entry m.seq m.to m.payload)
+
+-- The RECV entry of an acknowledgement that is kept under this content.
+abbrev pub recv_place : List ℕ → Ack → Place
+recv_place content a = (a.prev, record { seq = a.seq; kind = RECV; content = content })
+
+-- The message is the node's own, it is kept under its number, and the key verifies its statement of its SEND entry.
+pub record IsOwnMessage (me : ℕ) (key : PublicKey) (kept : ℕ × Message) : Type 0 where
+  pub from : kept.1.from ≡ me
+  pub number : kept.0 ≡ kept.1.seq
+  pub signed : Verifies key (statement_text kept.1.seq (sent_hash kept.1)) kept.1.sig
+
+-- The acknowledgement is the node's own, it names the number of the message that its content quotes, and the key verifies its
+-- statement of its RECV entry.
+pub record IsOwnAck (me : ℕ) (key : PublicKey) (kept : List ℕ × Ack) : Type 0 where
+  pub from : kept.1.from ≡ me
+  pub number : IsSomeAnd (receipt_of kept.0) (λ q. kept.1.send_seq ≡ q.seq)
+  pub signed : Verifies key (statement_text kept.1.seq (entry_hash kept.1.prev (recv_place kept.0 kept.1).1)) kept.1.sig
 
 -- Numbers and bytes are in the ranges of their types.
 pub record IsLogged (e : Entry) : Type 0 where
@@ -157,16 +187,22 @@ pub record IsAccount (a : Account) : Type 0 where
   pub stamps : map stamp a.signed ≡ stamps base a.entries
   pub own : All (IsOwn a.me (public_key a.key)) a.signed
   pub leaves : a.key.q ≡ length a.signed
-  -- There is a message for each SEND entry, and an acknowledgement for each RECV entry.
-  pub sent : map (λ p. p.0) a.sent ≡ map (λ e. e.seq) (of_kind 2 a.entries)
-  pub acks : map (λ p. p.0) a.acks ≡ map (λ e. e.content) (of_kind 3 a.entries)
+  -- There is a message for each SEND entry, and an acknowledgement for each RECV entry: of its number, its content and the hash
+  -- before it, in the log's order.
+  pub sent : map (λ p. send_place p.1) a.sent ≡ places SEND base a.entries
+  pub acks : map (λ p. recv_place p.0 p.1) a.acks ≡ places RECV base a.entries
+  pub own_messages : All (IsOwnMessage a.me (public_key a.key)) a.sent
+  pub own_acks : All (IsOwnAck a.me (public_key a.key)) a.acks
+  -- What is not acknowledged are numbers of messages that were sent, ascending.
+  pub awaited : All (λ n. IsSome (lookup (nat_eq n) a.sent)) a.unacknowledged
+  pub ascending : AllPairs (λ m n. m < n) a.unacknowledged
 
 -- The account of a node whose log begins with INIT at a number.
 abbrev pub new_account : ℕ → PrivateKey → ℕ → Account
 new_account me key first = record {
   me = me;
   key = key;
-  entries = record { seq = first; kind = 1; content = (init_act me).content } ∷ [];
+  entries = record { seq = first; kind = INIT; content = (init_act me).content } ∷ [];
   signed = [];
   sent = [];
   acks = [];

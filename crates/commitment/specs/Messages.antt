@@ -5,6 +5,7 @@
 use Rattle.std.specs.Prelude.{◌≡◌, ◌≢◌, ℕ, ◌==◌, ◌&&◌, not, Bool, IsTrue, List}
 use Rattle.lms_sign.specs.declared.key.PublicKey.{PublicKey}
 use Rattle.log_chain.specs.declared.entry.Entry.{Entry}
+use Rattle.log_chain.specs.declared.kind.TheConstants.{RECV}
 use Rattle.log_chain.specs.Chain.{entry_hash}
 use Rattle.authenticators.specs.Statement.{Signed, is_signed}
 use Rattle.replay_verifier.specs.Quotes.{Quote, quote_text, signed_hash, IsGenuine, is_genuine}
@@ -31,7 +32,7 @@ is_valid_message ds m = is_listed ds m.to && is_genuine ds m.to (quote m)
 
 -- The receiver's entry of a quote.
 abbrev pub recv_entry : ℕ → Quote → Entry
-recv_entry seq q = record { seq = seq; kind = 3; content = quote_text q }
+recv_entry seq q = record { seq = seq; kind = RECV; content = quote_text q }
 
 -- The hash of the receiver's RECV entry that an acknowledgement tells of.
 abbrev pub received_hash : Message → Ack → List ℕ

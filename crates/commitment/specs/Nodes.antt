@@ -7,12 +7,14 @@ use Rattle.std.specs.Int.{w64, to_be_bytes}
 use Rattle.lms_sign.specs.declared.key.PublicKey.{PublicKey}
 use Rattle.lms_sign.specs.Signing.{PrivateKey, public_key}
 use Rattle.log_chain.specs.declared.entry.Entry.{Entry}
+use Rattle.log_chain.specs.declared.limits.TheConstants.{MOST_ENTRIES}
 use Rattle.log_chain.specs.Chain.{base}
 use Rattle.log_chain.specs.History.{unless}
 use Rattle.authenticators.specs.declared.authenticator.Authenticator.{Authenticator}
 use Rattle.authenticators.specs.Directory.{key_at, same_key}
 use Rattle.authenticators.specs.Statement.{Signed}
 use Rattle.replay_verifier.specs.Conforming.{Block, Receives, Ticks, Checkpoints, Conforms, Rests, Setting, head_act, sent_by, step_of}
+use Rattle.replay_verifier.specs.declared.limits.TheConstants.{LONGEST_PAYLOAD}
 use Rattle.replay_verifier.specs.Meaning.{Meaning}
 use Rattle.replay_verifier.specs.Quotes.{quote_text, is_genuine}
 use Rattle.replay_verifier.specs.Sending.{is_listed}
@@ -23,7 +25,7 @@ use Rattle.commitment.specs.declared.fault.NodeFault.TheVariants.{NotMine, Unkno
 use Rattle.commitment.specs.declared.message.Ack.{Ack}
 use Rattle.commitment.specs.declared.message.Message.{Message}
 use Rattle.commitment.specs.Accounts.{Account, Stamp, acknowledged, ack_next, all_sent, logged, messages, new_account, next_seq, randomizer, received, stamps}
-use Rattle.commitment.specs.Limits.{most_logged, room_fault}
+use Rattle.commitment.specs.Limits.{room_fault}
 use Rattle.commitment.specs.Messages.{is_valid_ack, quote}
 
 -- What a contract sees of a node: the directory, its account, and the state of its program.
@@ -72,7 +74,7 @@ message_fault ds me m =
     if not (m.to == me) then Some NotMine
     else (if not (is_listed ds m.from) || (m.from == me) then Some UnknownSender
     else (if not (is_genuine ds me (quote m)) then Some BadSignature
-    else (if nat_lt 65536 (length m.payload) then Some PayloadTooLong else None)))
+    else (if nat_lt LONGEST_PAYLOAD (length m.payload) then Some PayloadTooLong else None)))
 
 -- The receipt of a message: its content, and what is quoted.
 abbrev pub receipt : Message → Block
@@ -143,6 +145,6 @@ IsSignedBy ds me s = (s.node ≡ me) × Signed ds s.node s.seq s.hash s.sig
 pub record IsNode {S : Type 0} (IsState : S → Type 0) (p : Meaning S) (n : NodeState S) : Type 0 where
   pub rests : Rests (setting p n) base n.account.entries n.state
   pub listed : key_at n.directory n.account.me ≡ Some (public_key n.account.key)
-  pub limit : length n.account.entries ≤ most_logged
+  pub limit : length n.account.entries ≤ MOST_ENTRIES
   pub state : IsState n.state
   pub me : n.account.me < 2 ^ 32

@@ -1,10 +1,11 @@
 //! Whole blocks of entries: what came in, and all that is sent for it. Each is logged and signed whole or not at all.
 
-ghost use Rattle.std.specs.Prelude.{◌≡◌, ◌⊎◌, ◌+◌, ◌≤◌, IfErr, IfOk, None, OnErr, OnOk, Some, Err, false, length, nat_eq};
+ghost use Rattle.std.specs.Prelude.{◌≡◌, ◌⊎◌, ◌+◌, ◌≤◌, IfErr, IfOk, IsSomeAnd, None, OnErr, OnOk, Some, Err, false, length, nat_eq};
 ghost use Rattle.std.specs.Cmp.Lexicographic.{pointwise};
 ghost use Rattle.std.specs.List.{All};
 ghost use Rattle.std.specs.Map.{lookup};
 ghost use Rattle.log_chain.specs.History.{most_content};
+ghost use Rattle.replay_verifier.specs.Quotes.{receipt_of};
 ghost use Rattle.commitment.specs.Accounts.{ack_next, all_sent, is_signed_kind, logged, messages as new_messages, randomizer, received};
 ghost use Rattle.commitment.specs.Limits.{room_fault};
 ghost use Rattle.commitment.specs.declared.fault.NodeFault.{NodeFault as TheFault};
@@ -14,16 +15,14 @@ use crate::draft::{Receiving, drafts};
 use crate::fault::NodeFault;
 use crate::message::{Ack, Message};
 use crate::signed_log::SignedLog;
-use log_chain::ByteString;
-use replay_verifier::Output;
-
-const MOST_LOGGED: usize = 4096;
+use log_chain::{ByteString, MOST_ENTRIES};
+use replay_verifier::{LONGEST_PAYLOAD, MOST_OUTPUTS, Output};
 
 impl SignedLog {
     /// Why so many statements cannot be signed and so many entries not be logged, if they cannot.
     #[tactic(auto, unfolding(crate::specs::Limits::room_fault))]
     pub(crate) fn room_fault(&self, leaves: usize, entries: usize) -> Option<NodeFault>
-        requires { entries ≤ 17 }
+        requires { entries ≤ MOST_OUTPUTS + 1 }
         ensures { result ≡ room_fault self.now.account leaves entries }
     {
         let Some((last, _)) = self.history.last() else {
@@ -32,7 +31,7 @@ impl SignedLog {
         if (self.key.remaining() as usize) < leaves {
             return Some(NodeFault::KeySpent);
         }
-        if self.history.entries().len() > MOST_LOGGED - entries
+        if self.history.entries().len() > MOST_ENTRIES - entries
             || last > u64::MAX - entries as u64
         {
             return Some(NodeFault::LogFull);
@@ -50,8 +49,8 @@ impl SignedLog {
     ) -> Result<Vec<Message>, NodeFault>
         requires unsigned { is_signed_kind kind ≡ false }
         requires content { length content ≤ most_content }
-        requires count { length outputs.items ≤ 16 }
-        requires payloads { All (λ o. length o.payload ≤ 65536) outputs.items }
+        requires count { length outputs.items ≤ MOST_OUTPUTS }
+        requires payloads { All (λ o. length o.payload ≤ LONGEST_PAYLOAD) outputs.items }
         ensures allowed { IfOk result (λ _. room_fault self.old.account (length outputs.items) (length outputs.items + 1) ≡ None) }
         ensures account { OnOk result (self.new.account ≡ all_sent (logged self.old.account (record { kind = kind; content = content })) entropy.now 0 outputs.items) }
         ensures messages { IfOk result (λ ms. ms.items ≡ new_messages (logged self.old.account (record { kind = kind; content = content })) entropy.now 0 outputs.items) }
@@ -80,9 +79,10 @@ impl SignedLog {
         entropy: &[u8; 32],
     ) -> Result<(Ack, Vec<Message>), NodeFault>
         requires content { length content ≤ most_content }
+        requires quoted { IsSomeAnd (receipt_of content) (λ q. send_seq ≡ q.seq) }
         requires new { lookup (pointwise nat_eq content) self.old.account.acks ≡ None }
-        requires count { length outputs.items ≤ 16 }
-        requires payloads { All (λ o. length o.payload ≤ 65536) outputs.items }
+        requires count { length outputs.items ≤ MOST_OUTPUTS }
+        requires payloads { All (λ o. length o.payload ≤ LONGEST_PAYLOAD) outputs.items }
         ensures allowed { IfOk result (λ _. room_fault self.old.account (length outputs.items + 1) (length outputs.items + 1) ≡ None) }
         ensures account { OnOk result (self.new.account ≡ all_sent (received self.old.account (randomizer entropy.now 0) send_seq content) entropy.now 1 outputs.items) }
         ensures ack { IfOk result (λ x. x.0 ≡ ack_next self.old.account (randomizer entropy.now 0) send_seq content) }

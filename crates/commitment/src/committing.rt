@@ -8,7 +8,7 @@ ghost use Rattle.log_chain.specs.Chain.{chain_end};
 ghost use Rattle.log_chain.specs.History.{grown, last_entry, most_content};
 ghost use Rattle.authenticators.specs.Statement.{statement_text};
 ghost use Rattle.commitment.specs.Accounts.{next_seq, randomizer};
-ghost use Rattle.commitment.specs.Blanks.{AreBlank, all_of};
+ghost use Rattle.commitment.specs.within.Blanks.{AreBlank, all_of};
 
 use authenticators::statement_text;
 use lms_sign::SecretKey;

@@ -3,13 +3,13 @@
 ghost use Rattle.std.specs.Prelude.{◌≡◌, ◌≤◌, IfOk, map, length};
 ghost use Rattle.std.specs.List.{All};
 ghost use Rattle.replay_verifier.specs.declared.output.Output.{Output};
-ghost use Rattle.commitment.specs.Drafts.{IsReceiving, IsSending, output_of};
+ghost use Rattle.commitment.specs.within.Drafts.{IsReceiving, IsSending, output_of};
 
 use crate::committing::Blanks;
 use authenticators::NodeId;
-use log_chain::{ByteString, FieldWriter};
+use log_chain::{ByteString, FieldWriter, LONGEST_CONTENT};
 use outcome::Memory;
-use replay_verifier::Output;
+use replay_verifier::{LONGEST_PAYLOAD, Output};
 use std::alloc::Global;
 
 /// A SEND entry that is still to be logged and signed.
@@ -38,7 +38,7 @@ pub(crate) struct Receiving {
 impl Sending {
     /// Drafts the entry of an output, for signatures of this length.
     pub(crate) fn new(alloc: Global, len: usize, output: Output) -> Result<Sending, Memory>
-        requires { length output.payload ≤ 65536 }
+        requires { length output.payload ≤ LONGEST_PAYLOAD }
         ensures draft { IfOk result (λ draft. IsSending len draft) }
         ensures output { IfOk result (λ draft. output_of draft ≡ output) }
     {
@@ -64,7 +64,7 @@ impl Receiving {
         send_seq: u64,
         content: ByteString,
     ) -> Result<Receiving, Memory>
-        requires { length content ≤ 131072 }
+        requires { length content ≤ LONGEST_CONTENT }
         ensures draft { IfOk result (λ draft. IsReceiving len draft) }
         ensures content { IfOk result (λ draft. (draft.send_seq ≡ send_seq) × (draft.content ≡ content)) }
     {
@@ -84,7 +84,7 @@ pub(crate) fn drafts(
     len: usize,
     outputs: Vec<Output>,
 ) -> Result<Vec<Sending>, Memory>
-    requires { All (λ o. length o.payload ≤ 65536) outputs.items }
+    requires { All (λ o. length o.payload ≤ LONGEST_PAYLOAD) outputs.items }
     ensures drafts { IfOk result (λ drafts. All (IsSending len) drafts.items) }
     ensures outputs { IfOk result (λ drafts. map output_of drafts.items ≡ outputs.items) }
 {

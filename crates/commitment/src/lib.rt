@@ -9,17 +9,25 @@
 //! acknowledgements are valid. [`laws`] has what follows of these.
 #![tactic(auto)]
 
+pub use authenticators::{Authenticator, Directory, NodeId};
 pub use fault::{NewFault, NodeFault};
+pub use lms_sign::SecretKey;
+pub use log_chain::{ByteString, Hash, SecureHistory};
 pub use message::{Ack, Message};
 pub use node::{NewRefused, Node};
+pub use outcome::Memory;
+pub use replay_verifier::{Program, Receipt};
 
 mod blocks;
 mod committing;
 mod draft;
 mod fault;
+mod formatting;
 pub mod laws;
 mod message;
 mod node;
+#[cfg(test)]
+mod node_tests;
 mod ranges;
 mod receiving;
 mod signed_log;

@@ -1,34 +1,19 @@
 //! Messages and acknowledgements. No call here but the copies takes memory.
 
-ghost use Rattle.std.specs.Prelude.{◌≡◌, ◌↔◌, ◌++◌, ℕ, IfOk, IsTrue, List};
+ghost use Rattle.std.specs.Prelude.{◌≡◌, ◌↔◌, ◌++◌, IfOk, IsTrue};
 ghost use Rattle.std.specs.Int.{to_be_bytes, w32, w64};
 ghost use Rattle.sha2.specs.Sha256.{sha256};
-ghost use Rattle.log_chain.specs.Chain.{entry_hash};
 ghost use Rattle.log_chain.specs.Fields.{bytes_text};
 ghost use Rattle.replay_verifier.specs.Quotes.{quoted};
 ghost use Rattle.commitment.specs.Messages.{IsValidAck, IsValidMessage, is_valid_ack, is_valid_message, quote, received_hash, sent_hash};
 
 use authenticators::{Directory, NodeId};
-use log_chain::{ByteString, Hash};
+use log_chain::kind::RECV;
+use log_chain::{ByteString, Hash, entry_hash_of_digest};
 use outcome::Memory;
 use replay_verifier::Receipt;
 use sha2::{Digest, Sha256};
 use std::alloc::Global;
-
-/// The kind of an INIT entry.
-pub(crate) const INIT: u8 = 1;
-
-/// The kind of a SEND entry.
-pub(crate) const SEND: u8 = 2;
-
-/// The kind of a RECV entry.
-pub(crate) const RECV: u8 = 3;
-
-/// The kind of a TIMER entry.
-pub(crate) const TIMER: u8 = 4;
-
-/// The kind of a CHECKPOINT entry.
-pub(crate) const CHECKPOINT: u8 = 5;
 
 /// A message between nodes, with the sender's commitment to it.
 #[derive(Debug, Drop, PartialEq, Eq)]
@@ -140,19 +125,6 @@ fn quote_digest(place: [u8; 12], prev: Hash, sig: &[u8], payload: &[u8]) -> [u8;
     hasher.finalize()
 }
 
-/// The hash of an entry of kind RECV whose content has this digest.
-#[tactic(auto, unfolding(log_chain::specs::Chain::entry_text))]
-fn recv_hash(prev: Hash, seq: u64, digest: [u8; 32]) -> Hash
-    ensures { (content : List ℕ) → digest ≡ sha256 content → result ≡ entry_hash prev (record { seq = seq; kind = 3; content = content }) }
-{
-    let mut hasher = Sha256::new();
-    hasher.update(prev.0);
-    hasher.update(seq.to_be_bytes());
-    hasher.update([RECV]);
-    hasher.update(digest);
-    Hash(hasher.finalize())
-}
-
 impl Ack {
     /// A copy.
     pub fn try_clone(&self, alloc: Global) -> Result<Ack, Memory>
@@ -180,7 +152,7 @@ impl Ack {
             message.sig.as_slice(),
             message.payload.as_slice(),
         );
-        recv_hash(self.prev, self.seq, digest)
+        entry_hash_of_digest(self.prev, self.seq, RECV, digest)
     }
 
     /// Whether this acknowledges the message: it is by the message's receiver, which is listed and not the sender, it has the

@@ -1,7 +1,7 @@
 //! Nodes.
 
-ghost use Rattle.std.specs.Prelude.{◌≡◌, ◌≢◌, ◌+◌, ◌≤◌, ◌⊎◌, [], IfErr, IfOk, IsErrAnd, None, Ok, OnErr, OnOk, Some, Err, length, map, option_copied, nat_eq};
-ghost use Rattle.std.specs.List.{All};
+ghost use Rattle.std.specs.Prelude.{◌≡◌, ◌≢◌, ◌+◌, ◌<◌, ◌≤◌, ◌⊎◌, [], IfErr, IfOk, IsErrAnd, IsSome, None, Ok, OnErr, OnOk, Some, Err, length, map, option_copied, nat_eq};
+ghost use Rattle.std.specs.List.{All, AllPairs};
 ghost use Rattle.std.specs.Map.{lookup};
 ghost use Rattle.lms_sign.specs.Signing.{public_key, remaining};
 ghost use Rattle.log_chain.specs.Chain.{base};
@@ -10,7 +10,6 @@ ghost use Rattle.outcome.specs.Outcome.{Fails};
 ghost use Rattle.replay_verifier.specs.Conforming.{Conforms, Rests};
 ghost use Rattle.replay_verifier.specs.Sending.{outs};
 ghost use Rattle.commitment.specs.Accounts.{IsAccount, stamp};
-ghost use Rattle.commitment.specs.Limits.{most_logged};
 ghost use Rattle.commitment.specs.Nodes.{Honest, IsSignedBy, accepts, checkpointed, key_fault, message_fault, new_node, receives, setting, ticked};
 ghost use Rattle.commitment.specs.declared.fault.NewFault.{NewFault as TheNewFault};
 ghost use Rattle.commitment.specs.declared.fault.NodeFault.{NodeFault as TheNodeFault};
@@ -18,21 +17,22 @@ ghost use Rattle.commitment.specs.declared.fault.NewFault.TheVariants as begin_f
 ghost use Rattle.commitment.specs.declared.fault.NodeFault.TheVariants as fault;
 
 use crate::fault::{NewFault, NodeFault};
-use crate::message::{Ack, CHECKPOINT, Message, TIMER};
+use crate::message::{Ack, Message};
 use crate::ranges::{message_fits, node_fits};
 use crate::receiving::{message_fault, receipt_content};
 use crate::signed_log::SignedLog;
 use authenticators::{Authenticator, Directory, NodeId};
 use lms_sign::SecretKey;
-use log_chain::{ByteString, SecureHistory};
-use replay_verifier::{Input, Output, OutputList, Program, outs};
+use log_chain::kind::{CHECKPOINT, TIMER};
+use log_chain::{ByteString, MOST_ENTRIES, SecureHistory};
+use replay_verifier::{Input, LONGEST_PAYLOAD, MOST_OUTPUTS, Output, OutputList, Program, outs};
 use std::alloc::Global;
 use std::marker::Model;
 
 /// A node that runs a program and can answer for what it did.
 ///
 /// Its log holds all that came in and all that it sent. Each message that it sends and each acknowledgement that it gives
-/// carries its signature of the entry in the log, so it can't deny what it did, and nobody can lay to its charge what it did not.
+/// carries its signature of the entry in the log, and it signs nothing else.
 ///
 /// # What a caller must do
 ///
@@ -92,8 +92,8 @@ fn key_fault(directory: &Directory, id: NodeId, key: &SecretKey) -> Option<NewFa
 /// What of a step's outputs is sent.
 fn sent(directory: &Directory, me: NodeId, outputs: OutputList) -> Vec<Output>
     ensures sent { result.items ≡ outs directory.now me outputs }
-    ensures count { length result.items ≤ 16 }
-    ensures payloads { All (λ o. length o.payload ≤ 65536) result.items }
+    ensures count { length result.items ≤ MOST_OUTPUTS }
+    ensures payloads { All (λ o. length o.payload ≤ LONGEST_PAYLOAD) result.items }
 {
     let mut outputs = outputs.into_vec();
     outs(directory, me, &mut outputs);
@@ -154,6 +154,20 @@ impl<P: Program + Drop> Node<P> {
         }
     }
 
+    /// The node's number.
+    pub fn id(&self) -> NodeId
+        ensures { result ≡ self.now.account.me }
+    {
+        self.log.me()
+    }
+
+    /// The directory by which the node judges messages and acknowledgements.
+    pub fn directory(&self) -> &Directory
+        ensures { result.now ≡ self.now.directory }
+    {
+        &self.directory
+    }
+
     /// The log, after the base hash: that of a node that follows its program, with no output awaited. The program's state is
     /// the one that it leads to.
     pub fn history(&self) -> &SecureHistory
@@ -161,7 +175,7 @@ impl<P: Program + Drop> Node<P> {
         ensures conforms { Conforms (setting P.means self.now) base self.now.account.entries }
         ensures rests { Rests (setting P.means self.now) base self.now.account.entries self.now.state }
         ensures begun { self.now.account.entries ≢ [] }
-        ensures limit { length self.now.account.entries ≤ most_logged }
+        ensures limit { length self.now.account.entries ≤ MOST_ENTRIES }
     {
         self.log.history()
     }
@@ -226,8 +240,9 @@ impl<P: Program + Drop> Node<P> {
     /// program sends and signs it. Gives the messages, in order. `entropy` makes the signatures' randomizers: 32 random bytes,
     /// fresh for each call.
     ///
-    /// `KeySpent` where the key has fewer leaves than there are messages; `LogFull` where the log would have more than 4,096
-    /// entries or the numbers end; `Memory`. A refused call changes nothing.
+    /// It is refused, in this order, with `KeySpent` where the key has fewer leaves than there are messages; and `LogFull` where
+    /// the log would have more than 4,096 entries or the numbers end. `Memory` may come in place of both. A refused call changes
+    /// nothing.
     pub fn timer(&mut self, moment: u64, entropy: [u8; 32]) -> Result<Vec<Message>, NodeFault>
         ensures done { IfOk result (λ ms. ticked P.means self.old moment entropy ≡ Ok (self.new, ms.items)) }
         ensures refused { IfErr result (λ e. Fails fault.Memory e (ticked P.means self.old moment entropy)) }
@@ -243,8 +258,8 @@ impl<P: Program + Drop> Node<P> {
         Ok(messages)
     }
 
-    /// Logs a checkpoint, the encoding of the program's state, and gives the entry's number. Nothing is signed. `LogFull` where
-    /// the log has 4,096 entries or the numbers end; `Memory`. A refused call changes nothing.
+    /// Logs a checkpoint, the encoding of the program's state, and gives the entry's number. Nothing is signed. It is refused, in
+    /// this order, with `LogFull` where the log has 4,096 entries or the numbers end; and `Memory`. A refused call changes nothing.
     pub fn checkpoint(&mut self) -> Result<u64, NodeFault>
         ensures done { IfOk result (λ seq. checkpointed P.means self.old ≡ Ok (self.new, seq)) }
         ensures refused { IfErr result (λ e. Fails fault.Memory e (checkpointed P.means self.old)) }
@@ -268,7 +283,9 @@ impl<P: Program + Drop> Node<P> {
 
     /// The numbers of the messages that were sent and for which no acknowledgement was accepted, ascending.
     pub fn unacknowledged(&self) -> &[u64]
-        ensures { result.now ≡ self.now.account.unacknowledged }
+        ensures numbers { result.now ≡ self.now.account.unacknowledged }
+        ensures sent { All (λ n. IsSome (lookup (nat_eq n) self.now.account.sent)) result.now }
+        ensures ascending { AllPairs (λ m n. m < n) result.now }
     {
         self.log.unacknowledged()
     }

@@ -1,6 +1,6 @@
 //! A log with what its node signed of it.
 
-ghost use Rattle.std.specs.Prelude.{◌≡◌, ◌+◌, ◌-◌, ◌<◌, ◌≤◌, ◌^◌, ◌++◌, [], ◌∷◌, IfErr, IfOk, None, OnErr, OnOk, length, map, max, nat_eq, false, vec_capacity, vec_len, option_copied, filter, not, ◌==◌};
+ghost use Rattle.std.specs.Prelude.{◌≡◌, ◌+◌, ◌-◌, ◌<◌, ◌≤◌, ◌^◌, ◌++◌, [], ◌∷◌, IfErr, IfOk, IsSomeAnd, None, OnErr, OnOk, length, map, max, nat_eq, false, vec_capacity, vec_len, option_copied, filter, not, ◌==◌};
 ghost use Rattle.replay_verifier.specs.Conforming.{init_act};
 ghost use Rattle.std.specs.Cmp.Lexicographic.{pointwise};
 ghost use Rattle.std.specs.Map.{lookup};
@@ -8,17 +8,19 @@ ghost use Rattle.lms_sign.specs.Parameters.{signature_len};
 ghost use Rattle.lms_sign.specs.Signing.{remaining};
 ghost use Rattle.log_chain.specs.Chain.{base};
 ghost use Rattle.log_chain.specs.History.{most_content};
+ghost use Rattle.replay_verifier.specs.Quotes.{receipt_of};
 ghost use Rattle.commitment.specs.Accounts.{IsAccount, ack_next, acknowledged, is_signed_kind, logged, message_next, new_account, next_seq, received, sent_next};
 ghost use Rattle.commitment.specs.Accounts.{all_sent, messages as new_messages};
-ghost use Rattle.commitment.specs.Drafts.{CanSend, IsReceiving, IsSending, output_of};
+ghost use Rattle.commitment.specs.within.Drafts.{CanSend, IsReceiving, IsSending, output_of};
 
 use crate::committing::{next_place, push, randomizer, sign};
 use crate::draft::{Receiving, Sending};
-use crate::message::{Ack, INIT, Message, RECV, SEND};
+use crate::message::{Ack, Message};
 use crate::ranges::bytes_fit;
 use authenticators::{Authenticator, NodeId};
 use indexmap::IndexMap;
 use lms_sign::SecretKey;
+use log_chain::kind::{INIT, RECV, SEND};
 use log_chain::{ByteString, SecureHistory};
 use outcome::Memory;
 use std::alloc::{AllocError, Global};
@@ -46,7 +48,7 @@ impl Model for SignedLog {
 
     ghost Value = { Kept };
 
-    ghost use Rattle.commitment.specs.Keeping.{IsKept, seen};
+    ghost use Rattle.commitment.specs.within.Keeping.{IsKept, seen};
 
     ghost view = { seen };
 
@@ -55,7 +57,7 @@ impl Model for SignedLog {
 
 /// A log that begins with INIT.
 fn begun(alloc: Global, me: NodeId, first_seq: u64) -> Result<SecureHistory, Memory>
-    ensures { IfOk result (λ h. (h.prev ≡ base) × (h.entries ≡ record { seq = first_seq; kind = 1; content = (init_act me).content } ∷ [])) }
+    ensures { IfOk result (λ h. (h.prev ≡ base) × (h.entries ≡ record { seq = first_seq; kind = INIT; content = (init_act me).content } ∷ [])) }
 {
     let content = ByteString::from_slice(alloc, &me.0.to_be_bytes())?;
     let mut history = SecureHistory::new(alloc);
@@ -149,7 +151,8 @@ impl SignedLog {
 
     /// The numbers of the messages that no acknowledgement was accepted for.
     pub(crate) fn unacknowledged(&self) -> &[u64]
-        ensures { result.now ≡ self.now.account.unacknowledged }
+        ensures numbers { result.now ≡ self.now.account.unacknowledged }
+        ensures account { IsAccount self.now.account }
     {
         self.unacknowledged.as_slice()
     }
@@ -198,6 +201,7 @@ impl SignedLog {
         requires leaf { 0 < remaining self.old.account.key }
         requires number { next_seq self.old.account.entries < 2 ^ 64 }
         requires draft { IsReceiving (signature_len self.old.account.key.lms_type self.old.account.key.ots_type) draft }
+        requires quoted { IsSomeAnd (receipt_of draft.content) (λ q. draft.send_seq ≡ q.seq) }
         requires new { lookup (pointwise nat_eq draft.content) self.old.account.acks ≡ None }
         ensures account { self.new ≡ record { account = received self.old.account c draft.send_seq draft.content; room = self.old.room - 1 } }
         ensures ack { result ≡ ack_next self.old.account c draft.send_seq draft.content }

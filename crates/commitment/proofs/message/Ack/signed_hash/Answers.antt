@@ -16,4 +16,4 @@ unfolding quote_text
 returns c =
     let m = c.args.message.now in
     let text = regrouped c.place_text-place.result (to_be_bytes w32 m.from) (to_be_bytes w64 m.seq) m.prev _ m.sig _ m.payload c.place_text-place.ensures c.as_slice.ensures c.as_slice-2.ensures in
-    c.recv_hash.ensures (quote_text (quote m)) (c.quote_digest-digest.ensures ∙ ap sha256 text)
+    c.entry_hash_of_digest.ensures.entry (quote_text (quote m)) (c.quote_digest-digest.ensures ∙ ap sha256 text)

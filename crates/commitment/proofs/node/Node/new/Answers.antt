@@ -2,6 +2,7 @@ use Rattle.std.proofs.Common.{◌≡◌, ◌<◌, ◌^◌, refl, sym, subst, lit
 use Rattle.authenticators.specs.Directory.{key_at}
 use Rattle.replay_verifier.specs.Conforming.{init_act}
 use Rattle.replay_verifier.proofs.Growing.{init_rests}
+use Rattle.log_chain.specs.declared.kind.TheConstants.{INIT}
 use Rattle.commitment.specs.Accounts.{Account, new_account}
 use Rattle.commitment.specs.Nodes.{IsNode, setting}
 use Rattle.commitment.proofs.SameKeys.{right_key}
@@ -21,7 +22,7 @@ invariant_of-result g c =
     subst (λ (s : _). IsNode Is p (record { directory = c.args.directory; account = c.in-Ok-new.log.account; state = s })) (sym state)
     (subst (λ (a : Account). IsNode Is p (record { directory = c.args.directory; account = a; state = p.start me })) (sym account)
     (record {
-      rests = init_rests z (record { seq = c.args.first_seq; kind = 1; content = (init_act me).content }) refl;
+      rests = init_rests z (record { seq = c.args.first_seq; kind = INIT; content = (init_act me).content }) refl;
       listed = key;
       limit = lit≤ tt;
       state = law.starts me number;

@@ -4,7 +4,7 @@ use Rattle.log_chain.specs.declared.entry.Entry.{Entry}
 use Rattle.replay_verifier.specs.Conforming.{Act}
 use Rattle.outcome.specs.Bytes.{IsBytes}
 use Rattle.commitment.specs.Accounts.{Kept, IsAccount, IsLogged, next_entry, next_seq}
-use Rattle.commitment.specs.Keeping.{account_of}
+use Rattle.commitment.specs.within.Keeping.{account_of}
 use Rattle.commitment.proofs.Grown.{account_logged}
 use Rattle.commitment.proofs.Placed.{is_next}
 use Rattle.commitment.proofs.signed_log.SignedLog.log.Goals as goal

@@ -5,7 +5,7 @@ use Rattle.replay_verifier.specs.declared.output.Output.{Output}
 use Rattle.commitment.specs.declared.draft.Sending.{Sending}
 use Rattle.commitment.specs.declared.message.Message.{Message}
 use Rattle.commitment.specs.Accounts.{Account, Kept, all_sent, messages, message_next, randomizer, sent_next}
-use Rattle.commitment.specs.Drafts.{CanSend, IsSending, output_of, sig_len}
+use Rattle.commitment.specs.within.Drafts.{CanSend, IsSending, output_of, sig_len}
 use Rattle.commitment.proofs.SentAll.{can_send_rest, no_message, none_sent, one_message, one_sent}
 use Rattle.commitment.proofs.signed_log.SignedLog.log_all.Goals as goal
 

@@ -1,7 +1,7 @@
 use Rattle.std.proofs.Common.{◌+◌, ◌-◌, sym, ap, ◌∙◌, subst, arith}
 use Rattle.replay_verifier.specs.Conforming.{Act}
 use Rattle.commitment.specs.Accounts.{Kept, logged, next_seq}
-use Rattle.commitment.specs.Drafts.{CanSend, sig_len}
+use Rattle.commitment.specs.within.Drafts.{CanSend, sig_len}
 use Rattle.commitment.proofs.Ready.{fits, can_send_logged}
 use Rattle.commitment.proofs.signed_log.SignedLog.log_block.Goals as goal
 

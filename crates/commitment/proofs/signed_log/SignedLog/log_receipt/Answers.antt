@@ -1,7 +1,7 @@
 use Rattle.std.proofs.Common.{◌+◌, ◌-◌, sym, ap, ◌∙◌, subst, arith}
 use Rattle.lms_sign.specs.Signing.{remaining}
 use Rattle.commitment.specs.Accounts.{Kept, next_seq, received}
-use Rattle.commitment.specs.Drafts.{CanSend, sig_len}
+use Rattle.commitment.specs.within.Drafts.{CanSend, sig_len}
 use Rattle.commitment.proofs.Ready.{fits, can_send_received}
 use Rattle.commitment.proofs.signed_log.SignedLog.log_receipt.Goals as goal
 

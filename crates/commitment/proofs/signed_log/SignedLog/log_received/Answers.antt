@@ -8,8 +8,8 @@ use Rattle.outcome.specs.Bytes.{IsBytes}
 use Rattle.commitment.specs.declared.message.Ack.{Ack}
 use Rattle.commitment.specs.declared.committing.Signatures.{Signatures}
 use Rattle.commitment.specs.Accounts.{Kept, Account, IsAccount, IsLogged, next_entry, next_seq, next_signature, received, recv_act, ack_next}
-use Rattle.commitment.specs.Blanks.{all_of}
-use Rattle.commitment.specs.Keeping.{account_of}
+use Rattle.commitment.specs.within.Blanks.{all_of}
+use Rattle.commitment.specs.within.Keeping.{account_of}
 use Rattle.commitment.proofs.Grown.{account_received}
 use Rattle.commitment.proofs.Placed.{IsNext, ack_is, is_next, next_verifies, received_is, signed_thrice, statement_is}
 use Rattle.commitment.proofs.signed_log.SignedLog.log_received.Goals as goal
@@ -61,7 +61,7 @@ invariant_of-self c =
     let number = ap (λ (k : Kept). next_seq k.account.entries) c.self.view_is in
     let fits : IsLogged (next_entry a x) = record { seq = omega (arith, c.requires.number, number); kind = lit≤ tt; content = subst IsBytes c.as_slice.ensures c.bytes_fit.ensures } in
     record {
-      account = subst IsAccount (sym m.account) (account_received a c.args.c d.send_seq d.content k.account fits verifies);
+      account = subst IsAccount (sym m.account) (account_received a c.args.c d.send_seq d.content k.account fits c.requires.quoted verifies);
       base = m.next.prev;
       fresh = λ n le. k.fresh n (omega arith);
       history_room = omega (arith, k.history_room);

@@ -3,16 +3,17 @@ use Rattle.std.specs.Map.{lookup}
 use Rattle.indexmap.specs.IndexMap.{get}
 use Rattle.indexmap.proofs.CallerLemmas.{insert_entry-new}
 use Rattle.log_chain.specs.History.{grown}
+use Rattle.log_chain.specs.declared.kind.TheConstants.{SEND}
 use Rattle.authenticators.specs.declared.authenticator.Authenticator.{Authenticator}
 use Rattle.outcome.specs.Bytes.{IsBytes}
 use Rattle.commitment.specs.declared.message.Message.{Message}
 use Rattle.commitment.specs.declared.committing.Signatures.{Signatures}
 use Rattle.commitment.specs.Accounts.{Kept, Account, IsAccount, IsLogged, next_entry, next_seq, next_signature, sent_next, message_next}
 use Rattle.replay_verifier.specs.Conforming.{send_act}
-use Rattle.commitment.specs.Blanks.{all_of}
-use Rattle.commitment.specs.Drafts.{output_of}
+use Rattle.commitment.specs.within.Blanks.{all_of}
+use Rattle.commitment.specs.within.Drafts.{output_of}
 use Rattle.std.proofs.lemmas.Bool.{ne_eqb}
-use Rattle.commitment.specs.Keeping.{account_of}
+use Rattle.commitment.specs.within.Keeping.{account_of}
 use Rattle.commitment.proofs.Grown.{account_sent}
 use Rattle.commitment.proofs.Placed.{IsNext, is_next, lookup-push, message_is, next_verifies, sent_is, signed_thrice, statement_is}
 use Rattle.commitment.proofs.signed_log.SignedLog.log_sent.Goals as goal
@@ -32,7 +33,7 @@ made c =
     let d = c.args.draft in
     let x = send_act (output_of d) in
     let k = c.self.invariant in
-    let grows = c.push-hash.ensures.grown ∙ ap (λ (t : List ℕ). grown i.history (record { seq = c.next_place-seq.result.0; kind = 2; content = t })) c.requires.draft.content in
+    let grows = c.push-hash.ensures.grown ∙ ap (λ (t : List ℕ). grown i.history (record { seq = c.next_place-seq.result.0; kind = SEND; content = t })) c.requires.draft.content in
     let next = is_next a x i.history c.push-hash.new.history c.next_place-seq.result k.base refl c.next_place-seq.ensures grows in
     let hash = c.push-hash.ensures.hash ∙ next.hash in
     let signatures = signed_thrice a c.args.c x c.next_place-seq.result.0 c.push-hash.result i.key c.sign-signatures.result refl next.seq hash c.sign-signatures.ensures.signature in
@@ -70,7 +71,7 @@ invariant_of-self c =
     let number = ap (λ (k : Kept). next_seq k.account.entries) c.self.view_is in
     let fits : IsLogged (next_entry a x) = record { seq = omega (arith, c.requires.number, number); kind = lit≤ tt; content = subst IsBytes (c.as_slice.ensures ∙ c.requires.draft.content) c.bytes_fit.ensures } in
     record {
-      account = subst IsAccount (sym m.account) (account_sent a c.args.c (output_of d) k.account fits verifies);
+      account = subst IsAccount (sym m.account) (account_sent a c.args.c (output_of d) k.account fits k.fresh verifies);
       base = m.next.prev;
       fresh = λ n le. ap (lookup (nat_eq n)) m.sent ∙ lookup-push (nat_eq n) i.sent.entries (next_seq i.history.entries) _ (k.fresh n (omega arith)) (ne_eqb n (next_seq i.history.entries) (λ same. omega arith));
       history_room = omega (arith, k.history_room);

@@ -1,14 +1,16 @@
 use Rattle.std.proofs.Common.{◌≡◌, ℕ, zero, suc, ◌<◌, ◌^◌, lit≤, List, [], nat_eq, refl, sym, ap, subst, arith}
+use Rattle.std.specs.Prelude.{IsSome}
 use Rattle.std.specs.Map.{lookup}
 use Rattle.std.proofs.lemmas.List.Elements.{All-cons, All-nil}
 use Rattle.std.specs.Int.{w32, to_be_bytes}
 use Rattle.outcome.specs.Bytes.{IsBytes}
 use Rattle.log_chain.specs.declared.entry.Entry.{Entry}
+use Rattle.log_chain.specs.declared.kind.TheConstants.{INIT}
 use Rattle.authenticators.specs.declared.authenticator.Authenticator.{Authenticator}
 use Rattle.lms_sign.specs.Signing.{PrivateKey, public_key}
 use Rattle.commitment.specs.declared.message.Ack.{Ack}
 use Rattle.commitment.specs.declared.message.Message.{Message}
-use Rattle.commitment.specs.Accounts.{IsAccount, IsLogged, IsOwn, new_account}
+use Rattle.commitment.specs.Accounts.{IsAccount, IsLogged, IsOwn, IsOwnAck, IsOwnMessage, new_account}
 use Rattle.commitment.proofs.signed_log.SignedLog.new.Goals as goal
 
 four_bytes : (n : ℕ) → IsBytes (to_be_bytes w32 n)
@@ -22,12 +24,16 @@ begins : (me : ℕ) (key : PrivateKey) (first : ℕ) → first < 2 ^ 64 → key.
 begins me key first fits unused = record {
   rising = tt;
   last = (_, refl);
-  ranges = All-cons IsLogged (record { seq = first; kind = 1; content = to_be_bytes w32 me }) [] (record { seq = fits; kind = lit≤ tt; content = four_bytes me }) (All-nil IsLogged);
+  ranges = All-cons IsLogged (record { seq = first; kind = INIT; content = to_be_bytes w32 me }) [] (record { seq = fits; kind = lit≤ tt; content = four_bytes me }) (All-nil IsLogged);
   stamps = refl;
   own = All-nil (IsOwn me (public_key key));
   leaves = unused;
   sent = refl;
   acks = refl;
+  own_messages = All-nil (IsOwnMessage me (public_key key));
+  own_acks = All-nil (IsOwnAck me (public_key key));
+  awaited = All-nil (λ n. IsSome (lookup (nat_eq n) (new_account me key first).sent));
+  ascending = λ i j d lt within. absurd (omega arith);
 }
 
 -- the account, of fields that are still empty

@@ -3,12 +3,14 @@ use Rattle.std.specs.Prelude.{◌≡◌, ℕ, ◌+◌, ◌≤◌, ◌^◌, List,
 use Rattle.std.specs.List.{All}
 use Rattle.lms_sign.specs.Parameters.{signature_len}
 use Rattle.lms_sign.specs.Signing.{PrivateKey, remaining}
+use Rattle.log_chain.specs.declared.limits.TheConstants.{LONGEST_CONTENT}
+use Rattle.replay_verifier.specs.declared.limits.TheConstants.{LONGEST_PAYLOAD}
 use Rattle.replay_verifier.specs.declared.output.Output.{Output}
 use Rattle.replay_verifier.specs.Conforming.{send_act}
 use Rattle.commitment.specs.declared.draft.Receiving.{Receiving}
 use Rattle.commitment.specs.declared.draft.Sending.{Sending}
 use Rattle.commitment.specs.Accounts.{Kept, next_seq}
-use Rattle.commitment.specs.Blanks.{AreBlank}
+use Rattle.commitment.specs.within.Blanks.{AreBlank}
 
 -- the output that is to be sent
 abbrev pub output_of : Sending → Output
@@ -18,13 +20,13 @@ output_of d = record { to = d.to; payload = d.given }
 pub record IsSending (len : ℕ) (d : Sending) : Type 0 where
   pub content : d.content ≡ (send_act (output_of d)).content
   pub kept : d.kept ≡ d.given
-  pub short : length d.given ≤ 65536
+  pub short : length d.given ≤ LONGEST_PAYLOAD
   pub blanks : AreBlank len d.blanks
 
 -- The content is there twice, and there is room for signatures of this length.
 pub record IsReceiving (len : ℕ) (d : Receiving) : Type 0 where
   pub key : d.key ≡ d.content
-  pub short : length d.content ≤ 131072
+  pub short : length d.content ≤ LONGEST_CONTENT
   pub blanks : AreBlank len d.blanks
 
 -- the length of the key's signatures
