@@ -8,7 +8,7 @@ use Rattle.node_sim.specs.declared.statement.Statement.{Statement}
 use Rattle.node_sim.specs.declared.indication.Indication.{Indication}
 use Rattle.node_sim.specs.declared.indication.Indication.TheVariants.{Exposed, Trusted}
 use Rattle.node_sim.specs.Indications.{AreGrouped, AreTwins, IsIndication, SaysTwo}
-use Rattle.node_sim.specs.Marks.{Exposes}
+use Rattle.node_sim.specs.within.Marks.{Exposes}
 
 -- twins of the node that do not contradict each other have one hash
 one_hash : (a b : Statement) (q : ℕ) → ¬ (Exposes a b q) → AreTwins a b → b.node ≡ q → a.hash ≡ b.hash

@@ -5,6 +5,7 @@ use Rattle.std.specs.Str.{bytes_eq}
 use Rattle.std.proofs.lemmas.Bool.{eqb-true, ltb-false}
 use Rattle.std.proofs.lemmas.List.{append-nil, length-take, take-append-drop}
 use Rattle.lms_sign.specs.declared.key.PublicKey.{PublicKey}
+use Rattle.lms_sign.specs.declared.types.TheConstants.{LONGEST_SIGNATURE}
 use Rattle.log_chain.specs.declared.fault.FieldFault.{FieldFault}
 use Rattle.log_chain.specs.declared.fault.FieldFault.TheVariants.{Truncated, TooLong}
 use Rattle.log_chain.proofs.FieldKinds.{block_field, u32_field}
@@ -136,7 +137,7 @@ signed_begins text s sig fits e =
     let c = bind_ok (told_as of_field (number_at w64 b.0.1)) _ (s, sig) b.2 in
     let seq = number_spells w64 (2 ^ 64) spelled_in_eight b.0.1 c.0.0 c.0.1 node.fits (told_ok of_field (number_at w64 b.0.1) c.0 c.1) in
     let d = bind_ok (told_as of_field (take_at 32 c.0.1)) _ (s, sig) c.2 in
-    let f = bind_ok (told_as of_field (bytes_at 9324 d.0.1)) _ (s, sig) d.2 in
+    let f = bind_ok (told_as of_field (bytes_at LONGEST_SIGNATURE d.0.1)) _ (s, sig) d.2 in
     let g = passes fault.Trailing (length f.0.1 == 0) _ (s, sig) f.2 in
     let made : Statement = record { node = b.0.0; seq = c.0.0; hash = d.0.0 } in
     let same : made ≡ s = ap (λ (x : Statement × List ℕ). x.0) (Ok-inj {E = Fault} (made, f.0.0) (s, sig) g.1) in

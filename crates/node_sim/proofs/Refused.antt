@@ -5,6 +5,7 @@ use Rattle.std.specs.Str.{bytes_eq}
 use Rattle.std.specs.Prelude.{is_some}
 use Rattle.hex.specs.Hex.{decode_of}
 use Rattle.lms_sign.specs.declared.key.PublicKey.{PublicKey}
+use Rattle.lms_sign.specs.declared.types.TheConstants.{LONGEST_SIGNATURE}
 use Rattle.log_chain.specs.declared.fault.FieldFault.{FieldFault}
 use Rattle.log_chain.specs.declared.fault.FieldFault.TheVariants as field
 use Rattle.log_chain.specs.Fields.{bytes_at, number_at, take_at}
@@ -82,7 +83,7 @@ signed_own text =
     (λ _. own_then (told_as of_field (number_at w32 tag.1)) _ (own_field (number_at w32 tag.1))
     (λ node. own_then (told_as of_field (number_at w64 node.1)) _ (own_field (number_at w64 node.1))
     (λ seq. own_then (told_as of_field (take_at 32 seq.1)) _ (own_field (take_at 32 seq.1))
-    (λ hash. own_then (told_as of_field (bytes_at 9324 hash.1)) _ (own_field (bytes_at 9324 hash.1))
+    (λ hash. own_then (told_as of_field (bytes_at LONGEST_SIGNATURE hash.1)) _ (own_field (bytes_at LONGEST_SIGNATURE hash.1))
     (λ sig. own_then (unless fault.Trailing (length sig.1 == 0)) _ (own_unless fault.Trailing (length sig.1 == 0) refl) (λ _. tt)))))))
 
 -- an item's tests do

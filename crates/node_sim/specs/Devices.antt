@@ -1,5 +1,5 @@
 -- What reads do to the bytes that a reader has left, where it tells them.
-use Rattle.std.specs.Prelude.{ℕ, ◌≡◌, ◌<◌, ◌≤◌, ◌⊎◌, List, length, take, Option, Some, None, Result, Ok, Err, Bool, true, false}
+use Rattle.std.specs.Prelude.{ℕ, ◌+◌, ◌≡◌, ◌<◌, ◌≤◌, ◌⊎◌, List, length, take, Option, Some, None, Result, Ok, Err, Bool, true, false}
 use Rattle.std.specs.Io.KnownBytes.{Consumes, IsAtEnd, Keeps}
 use Rattle.node_sim.specs.declared.fault.Fault.{Fault}
 use Rattle.node_sim.specs.declared.fault.Fault.TheVariants.{Memory, ReadFailed, InputTooLong}
@@ -22,6 +22,10 @@ IsAllOf (Some bytes) all = all ≡ bytes
 abbrev pub IsLonger : ℕ → Option (List ℕ) → Type 0
 IsLonger limit None = Unit {0}
 IsLonger limit (Some bytes) = limit < length bytes
+
+-- There were so many reads, and none of them told an end.
+abbrev pub MeetsNoEnd : ℕ → ℕ → ℕ → ℕ → ℕ → Type 0
+MeetsNoEnd most old_reads new_reads old_ends new_ends = (new_reads ≡ old_reads + most) × (new_ends ≡ old_ends)
 
 -- Why not all was read.
 abbrev pub IsReadFault : Fault → ℕ → Option (List ℕ) → Type 0

@@ -1,5 +1,5 @@
 -- What `status` writes for an input, and when it refuses one.
-use Rattle.std.specs.Prelude.{◌≡◌, ◌≤◌, ◌⊎◌, ◌↔◌, ℕ, List, ◌++◌, length, map, codes, decimal, Contains, All, IsSome, IsOk, Option, Result, Ok, Err}
+use Rattle.std.specs.Prelude.{◌≡◌, ◌+◌, ◌≤◌, ◌⊎◌, ◌↔◌, ℕ, List, ◌++◌, length, map, codes, decimal, Contains, All, IsSome, IsOk, Option, Result, Ok, Err}
 use Rattle.std.specs.List.{flat_map}
 use Rattle.std.specs.List.Sorted.{IsStrictlyIncreasing}
 use Rattle.std.specs.Io.KnownBytes.{Appends}
@@ -33,9 +33,12 @@ parsed_of input = do
   statements ← store_of directory texts.1
   Ok (record { directory = directory; statements = statements })
 
--- The most bytes of an input.
+-- The most bytes of an input, and the most reads: as many bytes, one a read, and then the end.
 abbrev pub limit : ℕ
 limit = 67108864
+
+abbrev pub most_reads : ℕ
+most_reads = limit + 1
 
 -- ---- what is written
 
@@ -77,3 +80,9 @@ RefusesInput f input = (parsed_of input ≡ Err f) ⊎ ((f ≡ WriteFailed) × I
 -- The refusal: memory, a read, an input that is too long, or else that of the input.
 abbrev pub Refuses : Fault → Option (List ℕ) → Type 0
 Refuses f left = IsReadFault f limit left ⊎ ((input : List ℕ) × IsInput left input × RefusesInput f input)
+
+-- ---- laws, which `laws` proves
+
+-- What was read has one report.
+abbrev pub ReportsAreOne : Type 0
+ReportsAreOne = (p : Parsed) (a b : List ℕ) → IsReport p a → IsReport p b → a ≡ b

@@ -1,5 +1,5 @@
 -- The number and the name of each refusal, and the names of lower crates' refusals here.
-use Rattle.std.specs.Prelude.{ℕ, List, codes}
+use Rattle.std.specs.Prelude.{ℕ, List, ◌++◌, codes, decimal}
 use Rattle.log_chain.specs.declared.fault.FieldFault.{FieldFault}
 use Rattle.log_chain.specs.declared.fault.FieldFault.TheVariants as field
 use Rattle.authenticators.specs.declared.fault.DirectoryFault.{DirectoryFault}
@@ -56,6 +56,10 @@ name_of fault.InputTooLong = codes "InputTooLong"
 name_of fault.WriteFailed = codes "WriteFailed"
 name_of fault.BadHex = codes "BadHex"
 name_of fault.LineCount = codes "LineCount"
+
+-- What is told of it: `refused`, the number in decimal digits, and the name.
+abbrev pub text_of : Fault → List ℕ
+text_of f = codes "refused " ++ decimal (number_of f) ++ codes " " ++ name_of f
 
 -- A field's refusal, in a store.
 abbrev pub of_field : FieldFault → Fault

@@ -8,6 +8,7 @@ use Rattle.std.specs.Str.{bytes_eq}
 use Rattle.std.specs.Ordering.{nat_cmp, is_lt}
 use Rattle.std.specs.Cmp.Lexicographic.{slice_cmp}
 use Rattle.lms_sign.specs.declared.key.PublicKey.{PublicKey}
+use Rattle.lms_sign.specs.declared.types.TheConstants.{LONGEST_SIGNATURE}
 use Rattle.log_chain.specs.Fields.{bytes_at, number_at, take_at}
 use Rattle.outcome.specs.Outcome.{◌>>=◌, told_as}
 use Rattle.authenticators.specs.Directory.{key_at}
@@ -29,7 +30,7 @@ signed_of text = do
   node ← told_as of_field (number_at w32 tag.1)
   seq ← told_as of_field (number_at w64 node.1)
   hash ← told_as of_field (take_at 32 seq.1)
-  sig ← told_as of_field (bytes_at 9324 hash.1)
+  sig ← told_as of_field (bytes_at LONGEST_SIGNATURE hash.1)
   _ ← unless fault.Trailing (length sig.1 == 0)
   Ok (record { node = node.0; seq = seq.0; hash = hash.0 }, sig.0)
 

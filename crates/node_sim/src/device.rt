@@ -19,13 +19,16 @@ pub enum Taken {
     Failed,
 }
 
-/// A reader that counts its reads and its failures.
+/// A reader that counts its reads, the ends that it told, and its failures.
 pub trait Source {
     /// The bytes that it will give, where it tells them.
     ghost left: { Self → Option (List ℕ) };
 
     /// How many reads there were.
     ghost reads: { Self → ℕ };
+
+    /// How many reads told that there are no more bytes.
+    ghost ends: { Self → ℕ };
 
     /// How many reads have failed.
     ghost failures: { Self → ℕ };
@@ -36,6 +39,8 @@ pub trait Source {
         requires room { reads self.old < 2 ^ 63 }
         ensures bytes { Reads result (left self.old) (left self.new) buffer.new }
         ensures counted { reads self.new ≡ reads self.old + 1 }
+        ensures ended { result ≡ Taken.End → ends self.old < ends self.new }
+        ensures going_on { (result ≡ Taken.End → ⊥) → ends self.new ≡ ends self.old }
         ensures failed { result ≡ Taken.Failed → failures self.old < failures self.new }
         ensures quiet { (result ≡ Taken.Failed → ⊥) → failures self.new ≡ failures self.old };
 }
@@ -60,24 +65,26 @@ pub trait Sink {
 #[derive(Clone, Copy, Debug, PartialEq, Eq)]
 pub struct WriteFailed;
 
-/// A reader of std with its two counts.
+/// A reader of std with its three counts.
 #[derive(Drop)]
 pub struct CountedReader<R> {
     pub reader: R,
     pub reads: u64,
+    pub ends: u64,
     pub failures: u64,
-    ghost fewer: { failures ≤ reads },
+    ghost fewer: { ends + failures ≤ reads },
 }
 
 impl<R: io::Read> CountedReader<R> {
     /// No read yet.
     pub fn new(reader: R) -> CountedReader<R>
         ensures kept { result.reader ≡ reader }
-        ensures fresh { (result.reads ≡ 0) × (result.failures ≡ 0) }
+        ensures fresh { (result.reads ≡ 0) × (result.ends ≡ 0) × (result.failures ≡ 0) }
     {
         CountedReader {
             reader,
             reads: 0,
+            ends: 0,
             failures: 0,
         }
     }
@@ -88,12 +95,17 @@ impl<R: io::Read> Source for CountedReader<R> {
 
     ghost reads = { λ s. s.reads };
 
+    ghost ends = { λ s. s.ends };
+
     ghost failures = { λ s. s.failures };
 
     fn read(&mut self, buffer: &mut [u8]) -> Taken {
         self.reads += 1;
         match self.reader.read(buffer) {
-            Ok(0) => Taken::End,
+            Ok(0) => {
+                self.ends += 1;
+                Taken::End
+            }
             Ok(n) => Taken::Bytes(n),
             Err(error) if error.kind() == io::ErrorKind::Interrupted => Taken::Interrupted,
             Err(_) => {

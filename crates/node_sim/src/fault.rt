@@ -1,23 +1,28 @@
 //! Refusals: each has a number and a name.
 
-ghost use Rattle.std.specs.Prelude.{◌≡◌};
+ghost use Rattle.std.specs.Prelude.{◌≡◌, Some};
 ghost use Rattle.node_sim.specs.declared.fault.Fault.TheVariants.{Memory};
-ghost use Rattle.node_sim.specs.Refusals.{name_of, number_of, of_directory, of_field};
+ghost use Rattle.node_sim.specs.Refusals.{of_directory, of_field, text_of};
 
 use authenticators::DirectoryFault;
 use log_chain::FieldFault;
 use std::alloc::{AllocError, AllocFailed};
-use thiserror::Error;
+use std::error::Error;
+use std::fmt;
 
 /// Why an engine did not write its report. Numbers tell refusals apart; three names of the directory's refusals are
 /// those of the store's.
-#[derive(Clone, Copy, Debug, PartialEq, Eq, Error)]
-#[error("refused {} {}", self.number(), self.name())]
+#[derive(Clone, Copy, Debug, PartialEq, Eq)]
 pub enum Fault {
+    /// A node's key has an LMS typecode that is not known.
     UnknownLmsType,
+    /// A node's key has an LM-OTS typecode that is not known.
     UnknownOtsType,
+    /// The directory lists a node twice.
     DuplicateNode,
+    /// The directory lists a key twice.
     DuplicateKey,
+    /// The directory lists more nodes than it may.
     TooManyNodes,
     /// The directory does not begin as one.
     DirectoryMagic,
@@ -27,21 +32,31 @@ pub enum Fault {
     DirectoryTrailing,
     /// The store or an item is cut off.
     Truncated,
+    /// An item begins with a byte that names no form.
     BadTag,
+    /// A length is above its limit.
     TooLong,
     /// Bytes are left over after the store or an item.
     Trailing,
+    /// An item is of a node that is not listed.
     UnknownNode,
+    /// A signature of an item is not valid.
     BadSignature,
     /// The store does not begin as one.
     BadMagic,
+    /// The items of the store do not ascend by their bytes.
     NotAscending,
     /// A growth of memory was refused.
     Memory,
+    /// A read failed, or the most reads met no end.
     ReadFailed,
+    /// The input has more than 67,108,864 bytes.
     InputTooLong,
+    /// The write failed; how much went out is not known.
     WriteFailed,
+    /// A line has another character than hexadecimal digits, or an odd number of them.
     BadHex,
+    /// The input does not have as many lines as the command reads.
     LineCount,
 }
 
@@ -105,6 +120,19 @@ impl Fault {
         }
     }
 }
+
+/// What is told of a refusal: `refused NUMBER NAME`.
+impl fmt::Display for Fault {
+    ghost output = { λ fault. Some (text_of fault) };
+
+    fn fmt<W: fmt::Write>(&self, f: &mut fmt::Formatter<W>) -> fmt::Result {
+        let number = self.number();
+        let name = self.name();
+        write!(f, "refused {number} {name}")
+    }
+}
+
+impl Error for Fault {}
 
 impl From<AllocError> for Fault {
     ghost from_gives = { λ _ e. e ≡ Memory };

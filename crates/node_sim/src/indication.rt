@@ -6,7 +6,7 @@ ghost use Rattle.std.specs.BTreeMap.{get};
 ghost use Rattle.std.specs.Ordering.{nat_cmp};
 ghost use Rattle.node_sim.specs.declared.indication.Indication.{Indication};
 ghost use Rattle.node_sim.specs.declared.indication.Indication.TheVariants.{Trusted};
-ghost use Rattle.node_sim.specs.Marks.{Marks};
+ghost use Rattle.node_sim.specs.within.Marks.{Marks};
 ghost use Rattle.node_sim.specs.Indications.{AreGrouped, Contradict, IsIndication};
 
 use crate::statement::Statement;

@@ -1,8 +1,8 @@
 //! All of the input.
 
-ghost use Rattle.std.specs.Prelude.{◌≡◌, ◌<◌, ◌≤◌, ◌+◌, ◌^◌, ◌⊎◌, IfOk, IfErr, OnOk, Err, vec_len, Option, List, ℕ, length};
+ghost use Rattle.std.specs.Prelude.{◌≡◌, ◌<◌, ◌≤◌, ◌+◌, ◌^◌, ◌⊎◌, IfOk, IfErr, OnOk, Ok, Err, false, vec_len, Option, List, ℕ, length};
 ghost use Rattle.std.specs.Io.KnownBytes.{Consumes};
-ghost use Rattle.node_sim.specs.Devices.{GoesOn, IsAllOf, IsReadFault};
+ghost use Rattle.node_sim.specs.Devices.{GoesOn, IsAllOf, IsReadFault, MeetsNoEnd};
 
 use crate::device::{Source, Taken};
 use crate::fault::Fault;
@@ -14,6 +14,7 @@ fn read_once<R: Source>(reader: &mut R, all: &mut Vec<u8>, limit: usize) -> Resu
     ensures so_far { (bytes : Option (List ℕ)) → Consumes bytes (R.left reader.old) all.old.items → GoesOn result limit bytes (R.left reader.new) all.new.items }
     ensures within { vec_len all.old ≤ limit → OnOk result (vec_len all.new ≤ limit) }
     ensures counted { R.reads reader.new ≡ R.reads reader.old + 1 }
+    ensures going_on { result ≡ Ok false → R.ends reader.new ≡ R.ends reader.old }
     ensures failed { result ≡ Err Fault.ReadFailed → R.failures reader.old < R.failures reader.new }
     ensures quiet { (result ≡ Err Fault.ReadFailed → ⊥) → R.failures reader.new ≡ R.failures reader.old }
 {
@@ -44,7 +45,7 @@ pub fn read_all<R: Source>(
     ensures all { IfOk result (λ v. IsAllOf (R.left reader.old) v.items) }
     ensures within { IfOk result (λ v. vec_len v ≤ limit) }
     ensures refused { IfErr result (λ f. IsReadFault f limit (R.left reader.old)) }
-    ensures failed { result ≡ Err Fault.ReadFailed → (R.failures reader.old < R.failures reader.new) ⊎ (R.reads reader.new ≡ R.reads reader.old + reads) }
+    ensures failed { result ≡ Err Fault.ReadFailed → (R.failures reader.old < R.failures reader.new) ⊎ MeetsNoEnd reads (R.reads reader.old) (R.reads reader.new) (R.ends reader.old) (R.ends reader.new) }
     ensures quiet { (result ≡ Err Fault.ReadFailed → ⊥) → R.failures reader.new ≡ R.failures reader.old }
 {
     let mut all = Vec::new(alloc);

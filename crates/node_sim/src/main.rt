@@ -12,6 +12,7 @@ pub mod device;
 pub mod fault;
 pub mod indication;
 pub mod input;
+pub mod laws;
 pub mod lines;
 #[cfg(test)]
 mod node_tests;

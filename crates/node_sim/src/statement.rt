@@ -5,12 +5,11 @@ ghost use Rattle.node_sim.specs.StoreText.{checked_of, checks};
 
 use crate::fault::Fault;
 use authenticators::{Directory, NodeId};
+use lms_sign::LONGEST_SIGNATURE;
 use log_chain::{FieldReader, Hash};
 use std::cmp::Ordering;
 
 const TAG: u8 = 1;
-
-const LONGEST_SIGNATURE: usize = 9324;
 
 /// What a node has signed: a number and a hash of its log.
 #[derive(Clone, Copy, Debug, PartialEq, Eq)]

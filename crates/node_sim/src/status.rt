@@ -3,7 +3,8 @@
 ghost use Rattle.std.specs.Prelude.{◌≡◌, ◌<◌, ◌+◌, ◌^◌, ◌⊎◌, IfErr, MatchResult, OnErr, OnOk, Ok, Err};
 ghost use Rattle.outcome.specs.Outcome.{Fails};
 ghost use Rattle.node_sim.specs.declared.fault.Fault.TheVariants.{Memory};
-ghost use Rattle.node_sim.specs.Output.{IsReport, Parsed, Refuses, WritesReport, parsed_of};
+ghost use Rattle.node_sim.specs.Devices.{MeetsNoEnd};
+ghost use Rattle.node_sim.specs.Output.{IsReport, Parsed, Refuses, WritesReport, most_reads, parsed_of};
 
 use crate::device::{Sink, Source};
 use crate::fault::Fault;
@@ -18,7 +19,7 @@ use std::alloc::Global;
 /// The most bytes of an input.
 pub const LONGEST_INPUT: usize = 67_108_864;
 
-/// The most reads of an input. As many bytes, one a read, and the end are met within it.
+/// The most reads of an input: as many bytes as an input has at most, one a read, and the end are met within it.
 pub const MOST_READS: u32 = 67_108_865;
 
 /// The report of an input.
@@ -35,7 +36,7 @@ fn answer(alloc: Global, input: Vec<u8>) -> Result<Vec<u8>, Fault>
 
 /// Reads all there is, and writes its report and nothing else, in one write, once everything has been decided.
 pub fn run<R: Source, W: Sink>(alloc: Global, reader: &mut R, writer: &mut W) -> Result<(), Fault>
-    requires reads { R.reads reader.old + MOST_READS < 2 ^ 63 }
+    requires reads { R.reads reader.old + most_reads < 2 ^ 63 }
     requires failures { W.failures writer.old < 2 ^ 63 }
     // What is written is the report of what the reader had.
     ensures done { OnOk result (WritesReport (R.left reader.old) (W.written writer.old) (W.written writer.new)) }
@@ -45,7 +46,7 @@ pub fn run<R: Source, W: Sink>(alloc: Global, reader: &mut R, writer: &mut W) ->
     ensures nothing_written { (result ≡ Err Fault.WriteFailed → ⊥) → OnErr result (writer.new ≡ writer.old) }
 
     // A device's fault is answered just where its count of failures rose, or where so many reads met no end.
-    ensures read_failed { result ≡ Err Fault.ReadFailed → (R.failures reader.old < R.failures reader.new) ⊎ (R.reads reader.new ≡ R.reads reader.old + MOST_READS) }
+    ensures read_failed { result ≡ Err Fault.ReadFailed → (R.failures reader.old < R.failures reader.new) ⊎ MeetsNoEnd most_reads (R.reads reader.old) (R.reads reader.new) (R.ends reader.old) (R.ends reader.new) }
     ensures reads_well { (result ≡ Err Fault.ReadFailed → ⊥) → R.failures reader.new ≡ R.failures reader.old }
     ensures write_failed { result ≡ Err Fault.WriteFailed → W.failures writer.old < W.failures writer.new }
     ensures writes_well { (result ≡ Err Fault.WriteFailed → ⊥) → W.failures writer.new ≡ W.failures writer.old }

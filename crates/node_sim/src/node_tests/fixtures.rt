@@ -3,7 +3,7 @@
 use authenticators::{Authenticator, Directory, NodeId, statement_text};
 use commitment::{Ack, Message, Node};
 use lms_sign::{LmsType, OtsType, SecretKey};
-use log_chain::{ByteString, Entry, Hash, entry_hash};
+use log_chain::{ByteString, Entry, Hash, entry_hash, kind};
 use ref_programs::Tally;
 use sha2::{Digest, Sha256};
 use std::alloc::Global;
@@ -94,7 +94,7 @@ fn send_entry(alloc: Global, seq: u64, payload: &ByteString) -> Result<Entry, Fa
     content.extend_from_slice(payload.as_slice())?;
     Ok(Entry {
         seq,
-        kind: 2,
+        kind: kind::SEND,
         content: ByteString::from_vec(content),
     })
 }

@@ -6,7 +6,7 @@ use Rattle.std.specs.Ordering.{nat_cmp}
 use Rattle.node_sim.specs.declared.statement.Statement.{Statement}
 use Rattle.node_sim.specs.declared.indication.Indication.TheVariants.{Exposed, Trusted}
 use Rattle.node_sim.specs.Indications.{SaysTwo}
-use Rattle.node_sim.specs.Marks.{Exposes}
+use Rattle.node_sim.specs.within.Marks.{Exposes}
 use Rattle.node_sim.proofs.indication.indications_of.Given as goal
 
 abbrev pub invariant-loop-i : goal.invariant-loop-i

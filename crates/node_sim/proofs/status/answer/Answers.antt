@@ -34,6 +34,6 @@ returns c =
     let s : store_of ds c.in_ok-first.second.items ≡ Ok ss = rw c.deref-2.ensures.value at c.in_ok-statements.ensures.exact in (
       record { directory = ds; statements = ss },
       all_read c.args.input.items c.in_ok-first.first.items c.in_ok-first.second.items ds ss c.in_ok-first.ensures d s,
-      reports ds ss c.nodes.result.now c.in_ok-indications.indications c.in_ok-text.text.items c.nodes.ensures c.in_ok-text.ensures.ordered c.in_ok-indications.ensures.listed
+      reports ds ss c.nodes.result.now c.in_ok-indications.indications c.in_ok-text.text.items c.nodes.ensures.numbers c.in_ok-text.ensures.ordered c.in_ok-indications.ensures.listed
           (λ n x e. subst (λ (xs : List Statement). IsIndication xs n x) c.deref-3.ensures.value (c.in_ok-indications.ensures.right n x e)) c.in_ok-text.ensures.lines,
     )
