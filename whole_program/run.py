@@ -1,0 +1,159 @@
+#!/usr/bin/env python3
+"""Runs the whole program, as the gate built it, on inputs, devices and words that no contract can speak of.
+
+What the engine writes for an input is proved over any reader and writer. That `main` hands the real ones to it, prints a refusal and
+ends with the right status is shown here: each run names its input, its words, and what must come out. Both builds are run, that of LLVM
+and that of Rattle's own compiler, where they are there. Wants crates/node_sim/out/node_sim, which `rt ci` and `rt run` leave.
+"""
+
+import os
+import subprocess
+import sys
+import threading
+import time
+
+TOP = os.path.dirname(os.path.dirname(os.path.abspath(__file__)))
+BUILDS = [f"{TOP}/crates/node_sim/out/node_sim{ending}" for ending in ("", ".by-rattle")]
+LONGEST_INPUT = 67_108_864
+
+
+def statements(store):
+    """The node, number and hash of each statement of a store in PRSTORE1, by the format alone. Signatures are not looked at."""
+    assert store[:8] == b"PRSTORE1"
+    count, place, found = int.from_bytes(store[8:16], "big"), 16, []
+    for _ in range(count):
+        item = store[place + 4 : place + 4 + int.from_bytes(store[place : place + 4], "big")]
+        place += 4 + len(item)
+        assert item[0] == 1
+        found.append((int.from_bytes(item[1:5], "big"), int.from_bytes(item[5:13], "big"), item[13:45]))
+    assert place == len(store)
+    return found
+
+
+def report(lines):
+    """What `status` must write for a directory and a store whose signatures are valid: two hashes of one number expose a node."""
+    directory, store = (bytes.fromhex(line) for line in lines.split("\n")[:2])
+    nodes = [int.from_bytes(directory[at : at + 4], "big") for at in range(12, len(directory), 60)]
+    said = {}
+    for node, number, digest in statements(store):
+        said.setdefault((node, number), set()).add(digest)
+    exposed = {node for (node, _), digests in said.items() if len(digests) > 1}
+    return "".join(f"{node} {'exposed' if node in exposed else 'trusted'}\n" for node in sorted(nodes))
+
+
+def at_once(data):
+    return lambda stream: stream.write(data)
+
+
+def in_pieces(data, most, rests):
+    """Hands the data over in pieces of at most so many bytes, and rests so often that the reader meets an empty pipe."""
+
+    def write(stream):
+        for turn, at in enumerate(range(0, len(data), most)):
+            stream.write(data[at : at + most])
+            stream.flush()
+            if turn % rests == 0:
+                time.sleep(0.002)
+
+    return write
+
+
+def zeros(count):
+    def write(stream):
+        block = b"0" * 65536
+        for at in range(0, count, len(block)):
+            stream.write(block[: count - at])
+
+    return write
+
+
+def run(build, words, feed=None, stdin=None, stdout=subprocess.PIPE):
+    """The status, the output and the standard error of one run."""
+    process = subprocess.Popen(
+        [build, *words], stdin=subprocess.PIPE if feed else stdin or subprocess.DEVNULL, stdout=stdout, stderr=subprocess.PIPE
+    )
+    if feed:
+
+        def write():
+            try:
+                feed(process.stdin)
+                process.stdin.close()
+            except BrokenPipeError:
+                pass  # the program had read enough
+
+        writer = threading.Thread(target=write)
+        writer.start()
+    told = []
+    errors = threading.Thread(target=lambda: told.append(process.stderr.read()))
+    errors.start()
+    output = process.stdout.read() if process.stdout else b""
+    status = process.wait(timeout=120)
+    errors.join()
+    if feed:
+        writer.join()
+    return status, output.decode(), told[0].decode()
+
+
+def closed_pipe():
+    """A pipe for writing whose other end is closed."""
+    reading, writing = os.pipe()
+    os.close(reading)
+    return writing
+
+
+def cases(build):
+    """Each case: its name, what came of it, and whether that is right."""
+    with open(f"{TOP}/bench/status_512.txt") as file:
+        large = file.read()
+    with open(f"{TOP}/examples/status_equivocation.txt") as file:
+        small = file.read()
+    want, data = report(large), large.encode()
+    for name, words, feed in [
+        ("megabytes at once", ["status"], at_once(data)),
+        ("megabytes in pieces of 4,093 bytes", ["status"], in_pieces(data, 4093, 16)),
+        ("megabytes in pieces of 70,001 bytes", ["status"], in_pieces(data, 70001, 1)),
+        ("--relay", ["status", "--relay"], at_once(data)),
+    ]:
+        yield name, run(build, words, feed), lambda got: got == (0, want, "")
+    example = small.encode()
+    yield "the example, byte by byte", run(build, ["status"], in_pieces(example, 1, 400)), lambda got: got == (0, report(small), "")
+    for name, feed, told in [
+        ("an empty input", at_once(b""), "refused 104 LineCount\n"),
+        ("a letter that is no digit", at_once(b"0g\n50"), "refused 103 BadHex\n"),
+        ("three lines", at_once(b"00\n00\n00\n"), "refused 104 LineCount\n"),
+        ("a directory cut off", at_once(b"5052444952454354\n50\n"), "refused 24 Truncated\n"),
+        ("an input one byte too long", zeros(LONGEST_INPUT + 1), "refused 101 InputTooLong\n"),
+        ("an input of the greatest length", zeros(LONGEST_INPUT), "refused 104 LineCount\n"),
+    ]:
+        yield name, run(build, ["status"], feed), lambda got, told=told: got == (1, "", told)
+    folder = os.open(TOP, os.O_RDONLY)
+    yield "a read that fails", run(build, ["status"], stdin=folder), lambda got: got == (1, "", "refused 100 ReadFailed\n")
+    os.close(folder)
+    for name, output in [("an output that is closed", closed_pipe()), ("a full device", os.open("/dev/full", os.O_WRONLY))]:
+        got = run(build, ["status"], at_once(example), stdout=output)
+        os.close(output)
+        yield name, got, lambda got: got == (1, "", "refused 102 WriteFailed\n")
+    for words in [[], ["nothing"], ["status", "more"], ["status", "--other"], ["--help"], ["help"], ["status", "--help"]]:
+        name = f"the words {' '.join(words) or '(none)'}"
+        yield name, run(build, words, at_once(example)), lambda got: got[0] == 2 and got[1] == "" and "Usage: node_sim" in got[2]
+
+
+def main():
+    builds = [it for it in BUILDS if os.path.isfile(it)]
+    if not builds:
+        print("no build of node_sim: rt ci or rt run makes one")
+        return 2
+    done = failed = 0
+    for build in builds:
+        for name, got, is_right in cases(build):
+            done += 1
+            if not is_right(got):
+                failed += 1
+                status, output, errors = got
+                print(f"{os.path.basename(build)}: {name}: status {status}, output {output[:200]!r}, error {errors[:300]!r}")
+    print(f"whole program: {done - failed} of {done} runs are right, over {len(builds)} builds")
+    return 1 if failed else 0
+
+
+if __name__ == "__main__":
+    sys.exit(main())
