@@ -211,10 +211,25 @@ def messages():
     return [sent, sha256(signature), received, sha256(Key(2, 4).sign(u64(11) + received, bytes([8]) * 32))]
 
 
+def round_of_calls():
+    """Each call of a node once: node 1 asks, node 2 answers, and makes a checkpoint."""
+    asking, answering = Node(1, 1), Node(2, 1)
+    (ask,) = asking.timer(1, of_call(1))
+    ack, (answer,) = answering.receive(ask, of_call(2))
+    assert answering.receive(ask, of_call(3)) == (ack, [])
+    asking.accept(ack)
+    assert answering.checkpoint() == 4 and (asking.awaited, answering.awaited) == ([], [3])
+    return [sha256(ask.fed() + ack.fed() + answer.fed()), asking.end, answering.end]
+
+
 def main():
     crates = os.path.join(os.path.dirname(os.path.abspath(__file__)), "..", "crates")
     missing = 0
-    for path, values in ("commitment/src/tests.rt", messages()), ("node_sim/src/node_tests.rt", spent() + exchange() + checkpoint()):
+    for path, values in (
+        ("commitment/src/tests.rt", messages()),
+        ("commitment/src/node_tests.rt", round_of_calls()),
+        ("node_sim/src/node_tests.rt", spent() + exchange() + checkpoint()),
+    ):
         with open(os.path.join(crates, path), encoding="utf-8") as file:
             text = file.read()
         for value in values:
