@@ -227,7 +227,7 @@ def main():
     missing = 0
     for path, values in (
         ("commitment/src/tests.rt", messages()),
-        ("commitment/src/node_tests.rt", round_of_calls()),
+        ("node_sim/src/node_tests/each_call.rt", round_of_calls()),
         ("node_sim/src/node_tests.rt", spent() + exchange() + checkpoint()),
     ):
         with open(os.path.join(crates, path), encoding="utf-8") as file:

@@ -26,8 +26,6 @@ mod formatting;
 pub mod laws;
 mod message;
 mod node;
-#[cfg(test)]
-mod node_tests;
 mod ranges;
 mod receiving;
 mod signed_log;

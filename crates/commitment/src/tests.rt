@@ -1,7 +1,7 @@
 //! What no clause says: hashes and signatures of a program in Python over its `hashlib`, and each public call of messages and
 //! acknowledgements once on its happy path.
 
-use crate::{Ack, Message};
+use crate::{Ack, Message, NewFault, NodeFault};
 use authenticators::{Directory, NodeId, statement_text};
 use lms_sign::{LmsType, OtsType, SecretKey};
 use log_chain::{ByteString, Hash};
@@ -217,5 +217,23 @@ fn both_nodes_have_to_be_listed(rt: HostRuntime) -> Result<(), Fail> {
     let receiver = lists(alloc, 2)?;
     assert!(rt; !made.message.is_valid(&receiver));
     assert!(rt; made.ack.is_valid(&receiver, &made.message));
+    Ok(())
+}
+
+#[test]
+fn faults_have_lines_names_and_numbers(rt: HostRuntime) -> Result<(), Fail> {
+    let alloc = rt.alloc();
+    for (fault, name, number) in [
+        (NewFault::UnknownNode, "UnknownNode", 30),
+        (NewFault::WrongKey, "WrongKey", 31),
+        (NewFault::Memory, "Memory", 99),
+    ] {
+        assert_eq!(rt; fault.name(), name);
+        assert_eq!(rt; fault.number(), number);
+    }
+    let text = format!(in alloc; "{}", NodeFault::LogFull)?;
+    assert_eq!(rt; text.as_str(), "the log is full");
+    assert_eq!(rt; NodeFault::LogFull.number(), 37);
+    assert_eq!(rt; NodeFault::LogFull.name(), "LogFull");
     Ok(())
 }

@@ -1,5 +1,6 @@
 //! Nodes under Tally, against a program in Python over its `hashlib`: all that they give, and how their logs end.
 
+mod each_call;
 mod fixtures;
 
 use commitment::{Ack, Message, Node, NodeFault};
