@@ -40,6 +40,13 @@ impl<'a> FieldReader<'a> {
         self.bytes.len()
     }
 
+    /// The bytes that are left. They stay left.
+    pub fn as_slice(&self) -> &'a [u8]
+        ensures { result.now ≡ self.now }
+    {
+        self.bytes
+    }
+
     /// All that is left; nothing is left after it.
     pub fn rest(&mut self) -> &'a [u8]
         ensures all { result.now ≡ self.old }

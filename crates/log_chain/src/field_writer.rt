@@ -1,6 +1,6 @@
 //! Writing fields one behind the other.
 
-ghost use Rattle.std.specs.Prelude.{◌≡◌, ◌<◌, ◌^◌, [], ◌∷◌, length};
+ghost use Rattle.std.specs.Prelude.{◌≡◌, ◌<◌, ◌^◌, [], ◌∷◌, IfOk, length, take};
 ghost use Rattle.std.specs.Int.{w32, w64, to_be_bytes};
 ghost use Rattle.log_chain.specs.Fields.{Writes, bytes_text};
 
@@ -33,6 +33,29 @@ impl FieldWriter {
         FieldWriter {
             bytes: Vec::new(alloc),
         }
+    }
+
+    /// A writer that has written nothing, with room for so many bytes. Up to them no later call takes memory.
+    pub fn with_capacity(alloc: Global, capacity: usize) -> Result<FieldWriter, Memory>
+        ensures { IfOk result (λ w. w ≡ []) }
+    {
+        Ok(FieldWriter {
+            bytes: Vec::with_capacity(alloc, capacity)?,
+        })
+    }
+
+    /// How many bytes are written.
+    pub fn written(&self) -> usize
+        ensures { result ≡ length self.now }
+    {
+        self.bytes.len()
+    }
+
+    /// Takes back what was written behind the first `len` bytes, so that a refused text leaves nothing of itself.
+    pub fn truncate(&mut self, len: usize)
+        ensures { self.new ≡ take len self.old }
+    {
+        self.bytes.truncate(len);
     }
 
     /// A number of one byte.

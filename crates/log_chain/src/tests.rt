@@ -60,6 +60,7 @@ fn fields_are_read_in_turn(rt: HostRuntime) {
     assert!(rt; reader.take(1) == Ok(b".".as_slice()));
     assert!(rt; reader.hash().is_err());
     assert_eq!(rt; reader.left(), 1);
+    assert!(rt; reader.as_slice() == [9].as_slice());
     assert!(rt; reader.rest() == [9].as_slice());
     assert_eq!(rt; reader.left(), 0);
     let mut hash = FieldReader::new(&[5; 32]);
@@ -180,12 +181,15 @@ fn fields_are_written_in_turn(rt: HostRuntime) -> Result<(), Fail> {
     writer.u64(0x0304)?;
     writer.bytes(b"hi")?;
     writer.rest(b".")?;
+    assert_eq!(rt; writer.written(), 20);
+    writer.rest(b"and more")?;
+    writer.truncate(20);
     let text = [
         7, 0, 0, 1, 2, 0, 0, 0, 0, 0, 0, 3, 4, 0, 0, 0, 2, b'h', b'i', b'.',
     ];
     let written = writer.finish();
     assert!(rt; written.as_slice() == text.as_slice());
-    let mut writer = FieldWriter::new(rt.alloc());
+    let mut writer = FieldWriter::with_capacity(rt.alloc(), 32)?;
     writer.hash(Hash([5; 32]))?;
     assert!(rt; writer.finish().as_slice() == [5; 32].as_slice());
     Ok(())
