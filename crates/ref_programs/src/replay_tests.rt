@@ -5,7 +5,7 @@ use crate::{Relay, Tally};
 use authenticators::{Directory, NodeId, statement_text};
 use lms_sign::{LmsType, OtsType, PublicKey, SecretKey};
 use log_chain::{ByteString, Entry, Hash, base_hash, entry_hash, kind};
-use replay_verifier::{Program, Reason, Verdict, replay};
+use replay_verifier::{Program, Reason, Verdict, quote_flags, replay, replay_with_quotes};
 use std::alloc::Global;
 use std::test::Fail;
 
@@ -352,5 +352,39 @@ fn numbers_rise(rt: HostRuntime) -> Result<(), Fail> {
         deviates(1, Reason::SeqOrder)
     );
     assert_eq!(rt; verdict_at(alloc, &nodes, 9)?, Verdict::Conforms);
+    Ok(())
+}
+
+/// Four lines of node 2's log: a SEND that nothing asked for, a message as node 1 signed it, and one that was changed.
+fn log_with_quotes(alloc: Global, nodes: &mut Nodes) -> Result<Vec<Entry>, Fail> {
+    let lines = [
+        Line::Init,
+        Line::Send(1, b"X"),
+        Line::Recv(b"X"),
+        Line::Changed(b"X"),
+    ];
+    Ok(log_of(alloc, nodes, &lines)?)
+}
+
+#[test]
+fn quotes_behind_a_deviation_are_told(rt: HostRuntime) -> Result<(), Fail> {
+    let alloc = rt.alloc();
+    let mut nodes = make_nodes(alloc)?;
+    let log = log_with_quotes(alloc, &mut nodes)?;
+    let replayed = replay_with_quotes(
+        alloc,
+        &Relay,
+        &nodes.directory,
+        NodeId(2),
+        base_hash(),
+        &log,
+    )?;
+    assert_eq!(rt; replayed.verdict, deviates(1, Reason::ExtraOutput));
+    assert_eq!(rt;
+        replayed.quotes.as_slice(),
+        [false, false, true, false].as_slice()
+    );
+    let quotes = quote_flags(alloc, &nodes.directory, NodeId(2), &log)?;
+    assert_eq!(rt; quotes.as_slice(), [false, false, true, false].as_slice());
     Ok(())
 }

@@ -16,9 +16,9 @@ use Rattle.replay_verifier.specs.declared.verdict.Reason.{Reason}
 use Rattle.replay_verifier.specs.declared.verdict.Verdict.{Verdict}
 use Rattle.replay_verifier.specs.declared.verdict.Verdict.TheVariants as verdict
 use Rattle.replay_verifier.specs.Conforming.{Setting, Act, act, init_act, Begins, Stand, at_rest, Leads, Conforms}
-use Rattle.replay_verifier.specs.Deviation.{Place, First, After, last_number, is_base, is_same_act, table, reason_at, DeviatesAt}
+use Rattle.replay_verifier.specs.Deviation.{IsVerdict, Place, First, After, last_number, is_base, is_same_act, table, reason_at, DeviatesAt}
 use Rattle.replay_verifier.specs.ReplayLaws.{AreBytes}
-use Rattle.replay_verifier.specs.within.Stepping.{stand, next_stand, begun, next_place, judged, judge, IsVerdict}
+use Rattle.replay_verifier.specs.within.Stepping.{stand, next_stand, begun, next_place, judged, judge}
 use Rattle.replay_verifier.proofs.Runs.{leads_none}
 use Rattle.replay_verifier.proofs.OnePlace.{not_both, deviates_once}
 use Rattle.replay_verifier.proofs.States.{IsSound, begins_state, Kept, fine, kept}

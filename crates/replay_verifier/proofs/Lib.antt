@@ -1,3 +1,4 @@
+mod Courses
 pub mod Growing
 mod Judging
 mod Lines

@@ -12,6 +12,8 @@ use Rattle.log_chain.specs.Chain.{base}
 use Rattle.replay_verifier.specs.declared.limits.TheConstants.{LONGEST_PAYLOAD, LONGEST_STATE}
 use Rattle.replay_verifier.specs.declared.verdict.Reason.{Reason}
 use Rattle.replay_verifier.specs.declared.verdict.Reason.TheVariants as reason
+use Rattle.replay_verifier.specs.declared.verdict.Verdict.{Verdict}
+use Rattle.replay_verifier.specs.declared.verdict.Verdict.TheVariants as verdict
 use Rattle.replay_verifier.specs.Conforming.{Setting, Act, act, init_act, send_act, is_short, Begins, Stand, at_rest, Leads, Conforms}
 use Rattle.replay_verifier.specs.Quotes.{Quote, receipt_of, is_genuine}
 
@@ -118,7 +120,7 @@ table z prev place e =
     ∷ []
 
 -- The reason of the first line whose test holds.
-abbrev pub first_line : List (Bool × Reason) → Option Reason
+abbrev pub first_line : {A : Type 0} → List (Bool × A) → Option A
 first_line [] = None
 first_line (l ∷ ls) = if l.0 then Some l.1 else first_line ls
 
@@ -141,3 +143,17 @@ pub record DeviatesAt {S : Type 0} (z : Setting S) (prev : List ℕ) (log : List
   pub place : Place S
   pub leaves : Leaves z prev before place
   pub line : reason_at z prev place entry ≡ Some why
+
+-- ---- what replay tells
+
+-- The verdict is that of the definitions: the list conforms, or it deviates at this place and for this reason.
+abbrev pub IsVerdict : {S : Type 0} → Setting S → List ℕ → List Entry → Verdict → Type 0
+IsVerdict z prev log verdict.Conforms = Conforms z prev log
+IsVerdict z prev log (verdict.Deviates at why) = DeviatesAt z prev log at why
+
+-- Of each entry, whether it is a RECV that quotes genuinely.
+abbrev pub is_genuine_entry : List (ℕ × PublicKey) → ℕ → Entry → Bool
+is_genuine_entry ds me e = (e.kind == RECV) && quotes_genuinely ds me (receipt_of e.content)
+
+abbrev pub genuine_entries : List (ℕ × PublicKey) → ℕ → List Entry → List Bool
+genuine_entries ds me log = map (is_genuine_entry ds me) log

@@ -5,10 +5,13 @@ ghost use Rattle.outcome.specs.Bytes.{IsBytes};
 ghost use Rattle.replay_verifier.specs.declared.verdict.Reason.{Reason};
 ghost use Rattle.replay_verifier.specs.declared.verdict.Verdict.TheVariants as verdict;
 ghost use Rattle.replay_verifier.specs.Conforming.{Conforms, setting_of};
-ghost use Rattle.replay_verifier.specs.Deviation.{DeviatesAt, First};
+ghost use Rattle.replay_verifier.specs.Deviation.{DeviatesAt, First, IsVerdict, genuine_entries};
 ghost use Rattle.replay_verifier.specs.ReplayLaws.{AreBytes};
+ghost use Rattle.replay_verifier.specs.within.Courses.{ended};
 ghost use Rattle.replay_verifier.specs.within.Stepping.{judge};
 
+use crate::course::{Course, follow, verdict_of};
+use crate::flags::QuoteFlags;
 use crate::line_tests::quotes_genuinely;
 use crate::program::Program;
 use crate::replayer::Replayer;
@@ -58,6 +61,34 @@ fn replay_all<P: Program>(
     }
 }
 
+/// What replay finds of a list of entries.
+#[derive(Debug, Drop)]
+pub struct Replayed {
+    /// Whether the list conforms, and if not where and why it deviates.
+    pub verdict: Verdict,
+    /// For each entry whether it is a RECV that quotes genuinely, also behind a deviation.
+    pub quotes: QuoteFlags,
+}
+
+/// The course over all entries, after the hash `prev`, and the answer for each entry.
+fn follow_all<P: Program>(
+    replayer: &Replayer<P>,
+    prev: Hash,
+    entries: &[Entry],
+) -> Result<(Course<P::State>, Vec<bool>), Memory>
+    ensures verdict { IfOk result (λ r. judge (setting_of replayer.now.directory.now replayer.now.me P.means) prev First 0 entries.now ≡ ended r.0) }
+    ensures quotes { IfOk result (λ r. r.1.items ≡ genuine_entries replayer.now.directory.now replayer.now.me entries.now) }
+{
+    let mut course = Course::Begins;
+    let mut flags = Vec::with_capacity(replayer.alloc, entries.len())?;
+    for (at, entry) in entries.iter().enumerate() {
+        let genuine = quotes_genuinely(replayer.directory, replayer.me, entry);
+        flags.push(genuine)?;
+        course = follow(replayer, prev, course, at, entry, genuine)?;
+    }
+    Ok((course, flags))
+}
+
 /// A node's number is below 2^32.
 fn node_fits(node: NodeId)
     ensures { node < 2 ^ 32 }
@@ -105,4 +136,34 @@ pub fn replay<P: Program>(
     };
     let verdict = replay_all(&replayer, prev, entries)?;
     Ok(verdict)
+}
+
+/// What [`replay`] tells of the entries, and for each entry whether it is a RECV that quotes genuinely, also behind a
+/// deviation.
+///
+/// One pass over all entries: the signature of each quote is verified once. Behind a deviation nothing else is computed. `Memory`
+/// as in [`replay`], and where there is no room for the answers.
+pub fn replay_with_quotes<P: Program>(
+    alloc: Global,
+    program: &P,
+    directory: &Directory,
+    me: NodeId,
+    prev: Hash,
+    entries: &[Entry],
+) -> Result<Replayed, Memory>
+    ensures verdict { IfOk result (λ r. IsVerdict (setting_of directory.now me P.means) prev entries.now r.verdict) }
+    ensures quotes { IfOk result (λ r. r.quotes ≡ genuine_entries directory.now me entries.now) }
+{
+    are_bytes(entries);
+    node_fits(me);
+    let replayer = Replayer {
+        alloc,
+        program,
+        directory,
+        me,
+    };
+    let (course, flags) = follow_all(&replayer, prev, entries)?;
+    let verdict = verdict_of(course);
+    let quotes = QuoteFlags::from_vec(flags);
+    Ok(Replayed { verdict, quotes })
 }

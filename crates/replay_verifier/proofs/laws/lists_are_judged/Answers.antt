@@ -3,9 +3,9 @@ use Rattle.log_chain.specs.declared.entry.Entry.{Entry}
 use Rattle.replay_verifier.specs.declared.verdict.Verdict.{Verdict}
 use Rattle.replay_verifier.specs.declared.verdict.Verdict.TheVariants as verdict
 use Rattle.replay_verifier.specs.Conforming.{Setting, setting_of}
-use Rattle.replay_verifier.specs.Deviation.{First}
+use Rattle.replay_verifier.specs.Deviation.{IsVerdict, First}
 use Rattle.replay_verifier.specs.ReplayLaws.{IsJudged}
-use Rattle.replay_verifier.specs.within.Stepping.{IsVerdict, judge}
+use Rattle.replay_verifier.specs.within.Stepping.{judge}
 use Rattle.replay_verifier.proofs.Judging.{bytes_each, judge_is}
 use Rattle.replay_verifier.proofs.laws.lists_are_judged.Goals as goal
 

@@ -1,6 +1,6 @@
 use Rattle.std.proofs.Common.{subst}
 use Rattle.replay_verifier.specs.Conforming.{setting_of}
-use Rattle.replay_verifier.specs.within.Stepping.{IsVerdict}
+use Rattle.replay_verifier.specs.Deviation.{IsVerdict}
 use Rattle.replay_verifier.proofs.Judging.{bytes_each, judge_is, only_conforms, only_deviates}
 use Rattle.replay_verifier.proofs.replaying.replay.Goals as goal
 
