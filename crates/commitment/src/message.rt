@@ -3,9 +3,10 @@
 ghost use Rattle.std.specs.Prelude.{◌≡◌, ◌↔◌, ◌++◌, IfOk, IsTrue};
 ghost use Rattle.std.specs.Int.{to_be_bytes, w32, w64};
 ghost use Rattle.sha2.specs.Sha256.{sha256};
+ghost use Rattle.log_chain.specs.Chain.{entry_hash};
 ghost use Rattle.log_chain.specs.Fields.{bytes_text};
 ghost use Rattle.replay_verifier.specs.Quotes.{quoted};
-ghost use Rattle.commitment.specs.Messages.{IsValidAck, IsValidMessage, is_valid_ack, is_valid_message, quote, received_hash, sent_hash};
+ghost use Rattle.commitment.specs.Messages.{IsValidAck, IsValidMessage, is_valid_ack, is_valid_message, quote, received_hash, recv_entry, sent_hash};
 
 use authenticators::{Directory, NodeId};
 use log_chain::kind::RECV;
@@ -85,6 +86,21 @@ impl Message {
         self.receipt().signed_hash(self.to)
     }
 
+    /// The hash of the receiver's RECV entry: the one of this number, whose content quotes the message, after the hash `prev` in
+    /// the receiver's log. The message is not copied.
+    pub fn received_hash(&self, seq: u64, prev: Hash) -> Hash
+        ensures { result ≡ entry_hash prev (recv_entry seq (quote self.now)) }
+    {
+        let place = place_text(self.from, self.seq);
+        let digest = quote_digest(
+            place,
+            self.prev,
+            self.sig.as_slice(),
+            self.payload.as_slice(),
+        );
+        entry_hash_of_digest(prev, seq, RECV, digest)
+    }
+
     /// Whether sender and receiver are listed and different, and the sender's key verifies its signature of the SEND entry.
     pub fn is_valid(&self, directory: &Directory) -> bool
         ensures exact { IsTrue result ↔ IsValidMessage directory.now self.now }
@@ -145,14 +161,7 @@ impl Ack {
     pub fn signed_hash(&self, message: &Message) -> Hash
         ensures { result ≡ received_hash message.now self.now }
     {
-        let place = place_text(message.from, message.seq);
-        let digest = quote_digest(
-            place,
-            message.prev,
-            message.sig.as_slice(),
-            message.payload.as_slice(),
-        );
-        entry_hash_of_digest(self.prev, self.seq, RECV, digest)
+        message.received_hash(self.seq, self.prev)
     }
 
     /// Whether this acknowledges the message: it is by the message's receiver, which is listed and not the sender, it has the
