@@ -1,0 +1,9 @@
+use Rattle.item_forms.specs.declared.forms.Fields.TheVariants as form
+use Rattle.proofs.specs.FramedItems.{framed}
+use Rattle.proofs.proofs.Written.{two_behind}
+use Rattle.proofs.proofs.encoding.put_two_auths.Goals as goal
+
+pub returns : goal.returns
+returns c =
+    two_behind c.args.writer.now c.u8.new.self c.put_framed.new.writer c.put_framed-2.new.writer (framed (form.Auth c.args.first.now)) (framed (form.Auth c.args.second.now)) 1
+    c.in_ok-u8.ensures c.in_ok-put_framed.ensures c.in_ok-put_framed-2.ensures

@@ -1,0 +1,87 @@
+//! Items behind their lengths, as texts with several items hold them one behind the other.
+
+ghost use Rattle.std.specs.Prelude.{◌+◌, ◌≡◌, ◌≤◌, length};
+ghost use Rattle.log_chain.specs.Fields.{Writes};
+ghost use Rattle.proofs.specs.within.Writing.{Puts};
+ghost use Rattle.outcome.specs.Outcome.{Took};
+ghost use Rattle.item_forms.specs.declared.fault.DecodeFault.TheVariants as fault;
+ghost use Rattle.item_forms.specs.Forms.{shown};
+ghost use Rattle.item_forms.specs.Spelling.{Fits};
+ghost use Rattle.proofs.specs.FramedItems.{framed, framed_at, is_other_tag};
+
+use evidence_item::{DecodeFault, Form, Item};
+use log_chain::{FieldReader, FieldWriter};
+use outcome::Memory;
+use std::alloc::Global;
+
+/// The greatest number of bytes of an item's spelling: that of a segment with as many entries, as long contents and as long a
+/// signature as allowed.
+pub const LONGEST_ITEM: usize = 536_933_529;
+
+/// Whether the bytes begin with another tag than the wanted one.
+fn is_other_tag(wanted: Option<u8>, bytes: &[u8]) -> bool
+    ensures { result ≡ is_other_tag wanted bytes.now }
+{
+    match wanted {
+        None => false,
+        Some(tag) => match bytes {
+            [] => false,
+            [first, ..] => *first != tag,
+        },
+    }
+}
+
+/// Reads an item behind its length, which is of the wanted tag where one is wanted.
+///
+/// It is refused with the first of these: `Truncated` (40) of the length, `TooLong` (42) where it is above [`LONGEST_ITEM`],
+/// `Truncated` where fewer bytes are left, `BadTag` (41) where they begin with another tag than the wanted one, and what
+/// [`Item::decode`] tells of them. `Memory` may come in place of any of its faults.
+#[tactic(auto, unfolding(crate::specs::FramedItems::framed_at))]
+pub fn read_framed(
+    alloc: Global,
+    wanted: Option<u8>,
+    reader: &mut FieldReader,
+) -> Result<Item, DecodeFault>
+    ensures { Took fault.Memory (λ item. item.fields) result reader.new (framed_at wanted reader.old) }
+{
+    let body = reader.bytes(LONGEST_ITEM)?;
+    if is_other_tag(wanted, body) {
+        return Err(DecodeFault::BadTag);
+    }
+    let item = Item::decode(alloc, body)?;
+    Ok(item)
+}
+
+/// How many bytes an item of this form has with its length in front.
+#[tactic(auto, using(crate::proofs::Written::framed_length, item_forms::proofs::SpellingLengths::spelling_bound))]
+pub fn framed_len(form: Form<'_>) -> usize
+    requires { Fits (shown form) }
+    ensures len { result ≡ length (framed (shown form.entry)) }
+    ensures bound { result ≤ LONGEST_ITEM + 4 }
+{
+    4 + form.encoded_len()
+}
+
+/// The length, and then the item; after a refusal a part of them may be written.
+#[tactic(auto, using(item_forms::proofs::SpellingLengths::spelling_bound))]
+pub(crate) fn put_framed(writer: &mut FieldWriter, form: Form<'_>) -> Result<(), Memory>
+    requires { Fits (shown form) }
+    ensures { Puts result writer.old writer.new (framed (shown form.entry)) }
+{
+    writer.u32(form.encoded_len() as u32)?;
+    form.encode_to(writer)?;
+    Ok(())
+}
+
+/// Writes an item of this form behind its length, behind what is written. Where memory runs out, nothing of it is written.
+pub fn write_framed(writer: &mut FieldWriter, form: Form<'_>) -> Result<(), Memory>
+    requires { Fits (shown form) }
+    ensures { Writes result writer.old writer.new (framed (shown form.entry)) }
+{
+    let before = writer.written();
+    if let Err(memory) = put_framed(writer, form) {
+        writer.truncate(before);
+        return Err(memory);
+    }
+    Ok(())
+}
