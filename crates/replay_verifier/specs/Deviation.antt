@@ -3,7 +3,7 @@
 -- A list that does not conform deviates at the entry behind its longest prefix that conforms. Why is told by a table: each of its
 -- lines is a test of that entry, of the node's state there and of the SEND entries that are awaited there, and a reason. The
 -- reason is that of the first line whose test holds.
-use Rattle.std.specs.Prelude.{◌≡◌, ℕ, ◌+◌, ◌≤◌, ◌==◌, ◌&&◌, ◌||◌, not, nat_le, nat_lt, List, [], ◌∷◌, ◌++◌, length, map, Option, Some, None, is_none, Bool, true, false, if◌then◌else◌}
+use Rattle.std.specs.Prelude.{◌≡◌, ℕ, ◌+◌, ◌≤◌, ◌==◌, ◌&&◌, ◌||◌, not, nat_le, nat_lt, List, [], ◌∷◌, ◌++◌, length, map, Option, Some, None, option_map, is_none, Bool, true, false, if◌then◌else◌}
 use Rattle.std.specs.Str.{bytes_eq}
 use Rattle.lms_sign.specs.declared.key.PublicKey.{PublicKey}
 use Rattle.log_chain.specs.declared.entry.Entry.{Entry}
@@ -15,7 +15,7 @@ use Rattle.replay_verifier.specs.declared.verdict.Reason.TheVariants as reason
 use Rattle.replay_verifier.specs.declared.verdict.Verdict.{Verdict}
 use Rattle.replay_verifier.specs.declared.verdict.Verdict.TheVariants as verdict
 use Rattle.replay_verifier.specs.Conforming.{Setting, Act, act, init_act, send_act, is_short, Begins, Stand, at_rest, Leads, Conforms}
-use Rattle.replay_verifier.specs.Quotes.{Quote, receipt_of, is_genuine}
+use Rattle.replay_verifier.specs.Quotes.{Quote, receipt_of, is_genuine, signed_hash}
 
 -- ---- places
 
@@ -151,9 +151,13 @@ abbrev pub IsVerdict : {S : Type 0} → Setting S → List ℕ → List Entry �
 IsVerdict z prev log verdict.Conforms = Conforms z prev log
 IsVerdict z prev log (verdict.Deviates at why) = DeviatesAt z prev log at why
 
--- Of each entry, whether it is a RECV that quotes genuinely.
+-- The entry is a RECV that quotes genuinely.
 abbrev pub is_genuine_entry : List (ℕ × PublicKey) → ℕ → Entry → Bool
 is_genuine_entry ds me e = (e.kind == RECV) && quotes_genuinely ds me (receipt_of e.content)
 
-abbrev pub genuine_entries : List (ℕ × PublicKey) → ℕ → List Entry → List Bool
-genuine_entries ds me log = map (is_genuine_entry ds me) log
+-- The hash of the statement that the entry quotes, where it is a RECV that quotes genuinely; and the same of each entry of a list.
+abbrev pub quoted_hash : List (ℕ × PublicKey) → ℕ → Entry → Option (List ℕ)
+quoted_hash ds me e = if is_genuine_entry ds me e then option_map (signed_hash me) (receipt_of e.content) else None
+
+abbrev pub quoted_hashes : List (ℕ × PublicKey) → ℕ → List Entry → List (Option (List ℕ))
+quoted_hashes ds me log = map (quoted_hash ds me) log

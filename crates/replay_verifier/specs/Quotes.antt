@@ -1,5 +1,5 @@
 -- What a RECV entry quotes of the message that came (PeerReview, SOSP 2007: commitment).
-use Rattle.std.specs.Prelude.{◌≡◌, ◌≢◌, ◌↔◌, ℕ, ◌-◌, ◌<◌, ◌^◌, ◌==◌, ◌&&◌, not, Bool, IsTrue, List, ◌++◌, Option, Result, Ok}
+use Rattle.std.specs.Prelude.{◌≡◌, ◌≢◌, ◌↔◌, ℕ, ◌-◌, ◌<◌, ◌^◌, ◌==◌, ◌&&◌, not, Bool, IsTrue, List, ◌++◌, Option, Some, None, Result, Ok, if◌then◌else◌}
 use Rattle.std.specs.Int.{w32, w64, to_be_bytes}
 use Rattle.std.specs.Result.{result_ok}
 use Rattle.lms_sign.specs.declared.key.PublicKey.{PublicKey}
@@ -70,6 +70,10 @@ pub record IsGenuine (ds : List (ℕ × PublicKey)) (me : ℕ) (q : Quote) : Typ
 -- The same as a test, for definitions that compute with it.
 abbrev pub is_genuine : List (ℕ × PublicKey) → ℕ → Quote → Bool
 is_genuine ds me q = not (q.from == me) && is_signed ds q.from q.seq (signed_hash me q) q.sig
+
+-- The hash that the sender signed, where the quote is genuine.
+abbrev pub genuine_hash : List (ℕ × PublicKey) → ℕ → Quote → Option (List ℕ)
+genuine_hash ds me q = if is_genuine ds me q then Some (signed_hash me q) else None
 
 -- ---- laws, which `laws` proves
 

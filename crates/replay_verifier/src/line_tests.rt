@@ -1,13 +1,13 @@
 //! The tests of the table of reasons, for an entry that is not the first: each is computed by itself, from what it asks of.
 
-ghost use Rattle.std.specs.Prelude.{◌≡◌, ◌==◌, ◌&&◌, ◌||◌, IfOk, List, map, nat_lt, not, ℕ};
+ghost use Rattle.std.specs.Prelude.{◌≡◌, ◌==◌, ◌&&◌, ◌||◌, IfOk, List, is_some, map, nat_lt, not, ℕ};
 ghost use Rattle.lms_sign.specs.declared.key.PublicKey.{PublicKey};
 ghost use Rattle.std.specs.Str.{bytes_eq};
 ghost use Rattle.log_chain.specs.declared.kind.TheConstants.{CHECKPOINT, INIT, RECV, SEND};
 ghost use Rattle.replay_verifier.specs.declared.output.Output.{Output};
 ghost use Rattle.replay_verifier.specs.Conforming.{Stand, act, init_act, is_short, send_act, setting_of};
-ghost use Rattle.replay_verifier.specs.Deviation.{After, is_at_rest, is_bad_content, is_other, is_same_act, quotes_genuinely};
-ghost use Rattle.replay_verifier.specs.Quotes.{quoted, receipt_of};
+ghost use Rattle.replay_verifier.specs.Deviation.{After, is_at_rest, is_bad_content, is_genuine_entry, is_other, is_same_act, quoted_hash};
+ghost use Rattle.replay_verifier.specs.Quotes.{quoted};
 ghost use Rattle.replay_verifier.specs.within.Stepping.{awaited_from};
 
 use crate::limits::{LONGEST_PAYLOAD, LONGEST_STATE};
@@ -16,8 +16,8 @@ use crate::program::Program;
 use crate::receipt::Receipt;
 use authenticators::{Directory, NodeId};
 use lms_sign::LONGEST_SIGNATURE;
-use log_chain::Entry;
 use log_chain::kind::{CHECKPOINT, INIT, RECV, SEND, TIMER};
+use log_chain::{Entry, Hash};
 use outcome::Memory;
 use std::alloc::Global;
 
@@ -50,15 +50,18 @@ fn is_short(receipt: &Receipt) -> bool
     receipt.sig.len() <= LONGEST_SIGNATURE && receipt.payload.len() <= LONGEST_PAYLOAD
 }
 
-/// Whether the entry is a RECV that quotes genuinely. This verifies a signature.
-pub(crate) fn quotes_genuinely(directory: &Directory, me: NodeId, entry: &Entry) -> bool
-    ensures { result ≡ (entry.now.kind == RECV && quotes_genuinely directory.now me (receipt_of entry.now.content)) }
+/// The hash of the statement that the entry quotes, where it is a RECV that quotes genuinely. This verifies a signature.
+pub(crate) fn quoted_hash(directory: &Directory, me: NodeId, entry: &Entry) -> Option<Hash>
+    ensures hash { result ≡ quoted_hash directory.now me entry.now }
+    ensures test { is_some result ≡ is_genuine_entry directory.now me entry.now }
 {
-    entry.kind == RECV
-        && match Receipt::read(entry.content.as_slice()) {
-            Some(receipt) => receipt.is_valid(directory, me),
-            None => false,
-        }
+    if entry.kind != RECV {
+        return None;
+    }
+    match Receipt::read(entry.content.as_slice()) {
+        Some(receipt) => receipt.genuine_hash(directory, me),
+        None => None,
+    }
 }
 
 /// Line 3.

@@ -5,15 +5,15 @@ ghost use Rattle.outcome.specs.Bytes.{IsBytes};
 ghost use Rattle.replay_verifier.specs.declared.verdict.Reason.{Reason};
 ghost use Rattle.replay_verifier.specs.declared.verdict.Verdict.TheVariants as verdict;
 ghost use Rattle.replay_verifier.specs.Conforming.{Conforms, setting_of};
-ghost use Rattle.replay_verifier.specs.Deviation.{DeviatesAt, First, IsVerdict, genuine_entries};
+ghost use Rattle.replay_verifier.specs.Deviation.{DeviatesAt, First, IsVerdict, quoted_hashes};
 ghost use Rattle.replay_verifier.specs.ReplayLaws.{AreBytes};
 ghost use Rattle.replay_verifier.specs.within.Courses.{ended};
 ghost use Rattle.replay_verifier.specs.within.Stepping.{judge};
 
 use crate::course::{Course, follow, verdict_of};
-use crate::flags::QuoteFlags;
-use crate::line_tests::quotes_genuinely;
+use crate::line_tests::quoted_hash;
 use crate::program::Program;
+use crate::quoted::QuotedHashes;
 use crate::replayer::Replayer;
 use crate::standing::Standing;
 use crate::verdict::Verdict;
@@ -32,7 +32,7 @@ fn replay_rest<P: Program>(
 {
     let mut standing = standing;
     for (index, entry) in rest.iter().enumerate() {
-        let genuine = quotes_genuinely(replayer.directory, replayer.me, entry);
+        let genuine = quoted_hash(replayer.directory, replayer.me, entry).is_some();
         standing = match replayer.advance(standing, entry, genuine)? {
             Ok(next) => next,
             Err(reason) => return Ok(Verdict::Deviates {
@@ -66,27 +66,27 @@ fn replay_all<P: Program>(
 pub struct Replayed {
     /// Whether the list conforms, and if not where and why it deviates.
     pub verdict: Verdict,
-    /// For each entry whether it is a RECV that quotes genuinely, also behind a deviation.
-    pub quotes: QuoteFlags,
+    /// For each entry the hash of the statement that it quotes, where it is a RECV that quotes genuinely, also behind a deviation.
+    pub quotes: QuotedHashes,
 }
 
-/// The course over all entries, after the hash `prev`, and the answer for each entry.
+/// The course over all entries, after the hash `prev`, and for each entry the hash that it quotes genuinely.
 fn follow_all<P: Program>(
     replayer: &Replayer<P>,
     prev: Hash,
     entries: &[Entry],
-) -> Result<(Course<P::State>, Vec<bool>), Memory>
+) -> Result<(Course<P::State>, Vec<Option<Hash>>), Memory>
     ensures verdict { IfOk result (λ r. judge (setting_of replayer.now.directory.now replayer.now.me P.means) prev First 0 entries.now ≡ ended r.0) }
-    ensures quotes { IfOk result (λ r. r.1.items ≡ genuine_entries replayer.now.directory.now replayer.now.me entries.now) }
+    ensures quotes { IfOk result (λ r. r.1.items ≡ quoted_hashes replayer.now.directory.now replayer.now.me entries.now) }
 {
     let mut course = Course::Begins;
-    let mut flags = Vec::with_capacity(replayer.alloc, entries.len())?;
+    let mut quotes = Vec::with_capacity(replayer.alloc, entries.len())?;
     for (at, entry) in entries.iter().enumerate() {
-        let genuine = quotes_genuinely(replayer.directory, replayer.me, entry);
-        flags.push(genuine)?;
-        course = follow(replayer, prev, course, at, entry, genuine)?;
+        let quote = quoted_hash(replayer.directory, replayer.me, entry);
+        quotes.push(quote)?;
+        course = follow(replayer, prev, course, at, entry, quote.is_some())?;
     }
-    Ok((course, flags))
+    Ok((course, quotes))
 }
 
 /// A node's number is below 2^32.
@@ -138,10 +138,10 @@ pub fn replay<P: Program>(
     Ok(verdict)
 }
 
-/// What [`replay`] tells of the entries, and for each entry whether it is a RECV that quotes genuinely, also behind a
-/// deviation.
+/// What [`replay`] tells of the entries, and for each entry the hash of the statement that it quotes, where it is a RECV that
+/// quotes genuinely, also behind a deviation.
 ///
-/// One pass over all entries: the signature of each quote is verified once. Behind a deviation nothing else is computed. `Memory`
+/// One pass over all entries: each quote is hashed once, and its signature is verified once. Behind a deviation nothing else is computed. `Memory`
 /// as in [`replay`], and where there is no room for the answers.
 pub fn replay_with_quotes<P: Program>(
     alloc: Global,
@@ -152,7 +152,7 @@ pub fn replay_with_quotes<P: Program>(
     entries: &[Entry],
 ) -> Result<Replayed, Memory>
     ensures verdict { IfOk result (λ r. IsVerdict (setting_of directory.now me P.means) prev entries.now r.verdict) }
-    ensures quotes { IfOk result (λ r. r.quotes ≡ genuine_entries directory.now me entries.now) }
+    ensures quotes { IfOk result (λ r. r.quotes ≡ quoted_hashes directory.now me entries.now) }
 {
     are_bytes(entries);
     node_fits(me);
@@ -162,8 +162,8 @@ pub fn replay_with_quotes<P: Program>(
         directory,
         me,
     };
-    let (course, flags) = follow_all(&replayer, prev, entries)?;
+    let (course, quotes) = follow_all(&replayer, prev, entries)?;
     let verdict = verdict_of(course);
-    let quotes = QuoteFlags::from_vec(flags);
+    let quotes = QuotedHashes::from_vec(quotes);
     Ok(Replayed { verdict, quotes })
 }

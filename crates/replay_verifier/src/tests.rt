@@ -171,6 +171,27 @@ fn the_signed_hash_is_that_of_the_send_entry(rt: HostRuntime) -> Result<(), Fail
     Ok(())
 }
 
+/// The hash of the entry that the content quotes genuinely at the node, if it does.
+fn genuine_hash_at(directory: &Directory, content: &[u8], me: u32) -> Option<Hash> {
+    match Receipt::read(content) {
+        Some(receipt) => receipt.genuine_hash(directory, NodeId(me)),
+        None => None,
+    }
+}
+
+#[test]
+fn a_genuine_receipt_is_told_by_the_hash_of_its_entry(rt: HostRuntime) -> Result<(), Fail> {
+    let alloc = rt.alloc();
+    let directory = signer_and_receiver(alloc)?;
+    let sig = hex::decode(alloc, signature_text())?;
+    let content = content_of(alloc, &sig)?;
+    let text = hex::decode(alloc, entry_hash_text())?;
+    let hash = Hash(*text.as_slice().as_array::<32>().ok_or("a hash")?);
+    assert_eq!(rt; genuine_hash_at(&directory, &content, 2), Some(hash));
+    assert_eq!(rt; genuine_hash_at(&directory, &content, 1), None);
+    Ok(())
+}
+
 #[test]
 fn a_receipt_is_valid_at_its_receiver(rt: HostRuntime) -> Result<(), Fail> {
     let alloc = rt.alloc();
