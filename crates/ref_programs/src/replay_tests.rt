@@ -5,7 +5,7 @@ use crate::{Relay, Tally};
 use authenticators::{Directory, NodeId, statement_text};
 use lms_sign::{LmsType, OtsType, PublicKey, SecretKey};
 use log_chain::{ByteString, Entry, Hash, base_hash, entry_hash, kind};
-use replay_verifier::{Program, Reason, Verdict, quote_flags, replay, replay_with_quotes};
+use replay_verifier::{Program, Reason, Verdict, quoted_hashes, replay, replay_with_quotes};
 use std::alloc::Global;
 use std::test::Fail;
 
@@ -72,19 +72,24 @@ fn content_to(alloc: Global, to: u32, payload: &[u8]) -> Result<ByteString, Fail
     Ok(ByteString::from_vec(content))
 }
 
-/// What a RECV entry quotes of the other node's message, which stands at 7 after 32 zero bytes.
+/// The hash of the other node's SEND entry of the message, which stands at 7 after 32 zero bytes.
+fn sent_hash(alloc: Global, me: u8, payload: &[u8]) -> Result<Hash, Fail> {
+    let sent = Entry {
+        seq: 7,
+        kind: kind::SEND,
+        content: content_to(alloc, u32::from(me), payload)?,
+    };
+    Ok(entry_hash(Hash([0; 32]), &sent))
+}
+
+/// What a RECV entry quotes of that message, with the last byte changed by `change`.
 fn quote_of(
     alloc: Global,
     nodes: &mut Nodes,
     payload: &[u8],
     change: u8,
 ) -> Result<ByteString, Fail> {
-    let sent = Entry {
-        seq: 7,
-        kind: kind::SEND,
-        content: content_to(alloc, u32::from(nodes.me), payload)?,
-    };
-    let hash = entry_hash(Hash([0; 32]), &sent);
+    let hash = sent_hash(alloc, nodes.me, payload)?;
     let sig = nodes.key.sign(alloc, &statement_text(7, hash), [9; 32])?;
     let mut content = Vec::new(alloc);
     content.extend_from_slice(&u32::from(nodes.other).to_be_bytes())?;
@@ -380,11 +385,9 @@ fn quotes_behind_a_deviation_are_told(rt: HostRuntime) -> Result<(), Fail> {
         &log,
     )?;
     assert_eq!(rt; replayed.verdict, deviates(1, Reason::ExtraOutput));
-    assert_eq!(rt;
-        replayed.quotes.as_slice(),
-        [false, false, true, false].as_slice()
-    );
-    let quotes = quote_flags(alloc, &nodes.directory, NodeId(2), &log)?;
-    assert_eq!(rt; quotes.as_slice(), [false, false, true, false].as_slice());
+    let quoted = [None, None, Some(sent_hash(alloc, 2, b"X")?), None];
+    assert_eq!(rt; replayed.quotes.as_slice(), quoted.as_slice());
+    let quotes = quoted_hashes(alloc, &nodes.directory, NodeId(2), &log)?;
+    assert_eq!(rt; quotes.as_slice(), quoted.as_slice());
     Ok(())
 }
