@@ -1,5 +1,5 @@
 -- Verdict and findings of an item are one.
-use Rattle.std.proofs.Common.{◌≡◌, ℕ, List, Option, Some, None, Bool, refl, sym, ap, ◌∙◌}
+use Rattle.std.proofs.Common.{◌≡◌, ℕ, List, Option, Some, None, refl, sym, ap, ◌∙◌}
 use Rattle.lms_sign.specs.declared.key.PublicKey.{PublicKey}
 use Rattle.replay_verifier.specs.declared.verdict.Verdict.{Verdict}
 use Rattle.replay_verifier.specs.declared.verdict.Verdict.TheVariants as verdict
@@ -10,7 +10,8 @@ use Rattle.replay_verifier.specs.ReplayLaws.{DeviatingListsDoNotConform, ListsDe
 use Rattle.log_chain.specs.declared.entry.Entry.{Entry}
 use Rattle.item_forms.specs.declared.forms.Fields.{Fields}
 use Rattle.item_forms.specs.declared.forms.Fields.TheVariants as form
-use Rattle.evidence_item.specs.Checking.{Findings, AreFindings, IsOwnVerdict}
+use Rattle.evidence_item.specs.declared.findings.Findings.{Findings}
+use Rattle.evidence_item.specs.Checking.{AreFindings, IsOwnVerdict}
 
 module _ {S : Type 0} (once : ListsDeviateOnce S) (not_both : DeviatingListsDoNotConform S) where
   one_told : (z : Setting S) (prev : List ℕ) (log : List Entry) (v w : Verdict) → IsVerdict z prev log v → IsVerdict z prev log w → v ≡ w
@@ -30,9 +31,4 @@ module _ {S : Type 0} (once : ListsDeviateOnce S) (not_both : DeviatingListsDoNo
   one_verdict ds program (form.Ack x) v w a b = a ∙ sym b
 
 pub one_finding : (ds : List (ℕ × PublicKey)) (x : Fields) (f g : Findings) → AreFindings ds x f → AreFindings ds x g → f ≡ g
-one_finding ds (form.Auth x) f g a b = absurd a
-one_finding ds (form.Segment s) f g a b =
-    ap (λ (hs : List (List ℕ)). record f { hashes = hs }) (a.0 ∙ sym b.0) ∙ ap (λ (qs : List Bool). record g { quotes = qs }) (a.1 ∙ sym b.1)
-one_finding ds (form.Audit x) f g a b = absurd a
-one_finding ds (form.Send x) f g a b = absurd a
-one_finding ds (form.Ack x) f g a b = absurd a
+one_finding ds x f g a b = let e : Some f ≡ Some g = sym a ∙ b in cc e

@@ -19,12 +19,13 @@ use Rattle.replay_verifier.specs.declared.verdict.Verdict.{Verdict}
 use Rattle.replay_verifier.specs.Meaning.{Meaning}
 use Rattle.evidence_item.specs.declared.fault.ItemFault.{ItemFault}
 use Rattle.evidence_item.specs.declared.fault.ItemFault.TheVariants.{BadSignature}
+use Rattle.evidence_item.specs.declared.findings.Findings.{Findings}
 use Rattle.item_forms.specs.declared.forms.AuditChallenge.{AuditChallenge}
 use Rattle.item_forms.specs.declared.forms.Fields.{Fields}
 use Rattle.item_forms.specs.declared.forms.Fields.TheVariants as form
 use Rattle.item_forms.specs.declared.forms.Segment.{Segment}
 use Rattle.item_forms.specs.declared.forms.Statement.{Statement}
-use Rattle.evidence_item.specs.Checking.{Checked, Findings, IsChecked}
+use Rattle.evidence_item.specs.Checking.{Checked, IsChecked}
 use Rattle.evidence_item.specs.CheckingLaws.{FaultsComeEarly, ValidItemsAreSigned}
 use Rattle.item_forms.specs.Pieces.{Piece}
 use Rattle.item_forms.specs.Segments.{has_no_entry}

@@ -5,16 +5,14 @@ use Rattle.log_chain.specs.Chain.{hashes}
 use Rattle.replay_verifier.specs.declared.verdict.Verdict.{Verdict}
 use Rattle.replay_verifier.specs.Conforming.{setting_of}
 use Rattle.replay_verifier.specs.Meaning.{Meaning}
-use Rattle.replay_verifier.specs.Deviation.{IsVerdict, genuine_entries}
+use Rattle.replay_verifier.specs.Deviation.{IsVerdict, quoted_hashes}
 use Rattle.item_forms.specs.declared.forms.Fields.{Fields}
 use Rattle.item_forms.specs.declared.forms.Fields.TheVariants as form
 use Rattle.item_forms.specs.Pieces.{Piece}
+use Rattle.evidence_item.specs.declared.findings.Findings.{Findings}
+use Rattle.evidence_item.specs.declared.findings.Findings.TheVariants as found
+use Rattle.evidence_item.specs.Statements.{acknowledged, sent}
 use Rattle.evidence_item.specs.Validity.{IsValid}
-
--- What is found of a segment: the hash of each entry, and whether it is a RECV entry that quotes genuinely.
-pub record Findings : Type 0 where
-  pub hashes : List (List ℕ)
-  pub quotes : List Bool
 
 -- A checked item, as contracts see it.
 pub record Checked : Type 0 where
@@ -22,13 +20,22 @@ pub record Checked : Type 0 where
   pub verdict : Option Verdict
   pub findings : Option Findings
 
--- The findings are those of the item under the directory. Nothing is found of an item that is no segment.
+-- What is found of an item under the directory, besides its fields: the hashes of the statements that it holds.
+-- * Of a segment: the hash of each entry, and of each entry the hash of the statement that it quotes, where it is a RECV entry that
+--   quotes genuinely.
+-- * Of a message that its receiver is asked to acknowledge: the hash of the sender's statement of the SEND entry.
+-- * Of an acknowledged message: that hash, and the hash of the receiver's statement of the RECV entry.
+-- Nothing of the other items: the hashes of their statements stand in their fields.
+abbrev pub findings_of : List (ℕ × PublicKey) → Fields → Option Findings
+findings_of ds (form.Auth a) = None
+findings_of ds (form.Segment s) = Some (found.Segment (record { hashes = hashes s.prev s.entries; quotes = quoted_hashes ds s.node s.entries }))
+findings_of ds (form.Audit c) = None
+findings_of ds (form.Send m) = Some (found.Send (sent m).hash)
+findings_of ds (form.Ack a) = Some (found.Ack (sent a.message).hash (acknowledged a).hash)
+
+-- The findings are those of the item under the directory.
 abbrev pub AreFindings : List (ℕ × PublicKey) → Fields → Findings → Type 0
-AreFindings ds (form.Auth a) f = ⊥
-AreFindings ds (form.Segment s) f = (f.hashes ≡ hashes s.prev s.entries) × (f.quotes ≡ genuine_entries ds s.node s.entries)
-AreFindings ds (form.Audit c) f = ⊥
-AreFindings ds (form.Send m) f = ⊥
-AreFindings ds (form.Ack a) f = ⊥
+AreFindings ds x f = findings_of ds x ≡ Some f
 
 -- The item is a segment.
 abbrev pub is_segment : Fields → Bool
@@ -38,13 +45,13 @@ is_segment (form.Audit c) = false
 is_segment (form.Send m) = false
 is_segment (form.Ack a) = false
 
--- Of a segment there are findings.
+-- Of a segment, of a message and of an acknowledged message there are findings.
 abbrev pub IsFound : Fields → Option Findings → Type 0
 IsFound (form.Auth a) f = Unit {0}
 IsFound (form.Segment s) f = IsTrue (is_some f)
 IsFound (form.Audit c) f = Unit {0}
-IsFound (form.Send m) f = Unit {0}
-IsFound (form.Ack a) f = Unit {0}
+IsFound (form.Send m) f = IsTrue (is_some f)
+IsFound (form.Ack a) f = IsTrue (is_some f)
 
 -- A segment's verdict is that of replay, and no other item has one.
 abbrev pub IsOwnVerdict : {S : Type 0} → List (ℕ × PublicKey) → Meaning S → Fields → Option Verdict → Type 0

@@ -10,11 +10,12 @@ use Rattle.replay_verifier.specs.Meaning.{Meaning}
 use Rattle.replay_verifier.specs.Sending.{is_listed}
 use Rattle.evidence_item.specs.declared.fault.ItemFault.{ItemFault}
 use Rattle.evidence_item.specs.declared.fault.ItemFault.TheVariants.{BadSignature}
+use Rattle.evidence_item.specs.declared.findings.Findings.{Findings}
 use Rattle.item_forms.specs.declared.forms.AuditChallenge.{AuditChallenge}
 use Rattle.item_forms.specs.declared.forms.Fields.{Fields}
 use Rattle.item_forms.specs.declared.forms.Segment.{Segment}
 use Rattle.item_forms.specs.declared.forms.Statement.{Statement}
-use Rattle.evidence_item.specs.Checking.{Findings, AreFindings, IsOwnVerdict}
+use Rattle.evidence_item.specs.Checking.{AreFindings, IsOwnVerdict}
 use Rattle.evidence_item.specs.Statements.{IsSigned, named, statements_of}
 use Rattle.evidence_item.specs.Validity.{IsValid, IsValidAudit, IsValidSegment, early_fault, fault_of, nodes_of}
 

@@ -1,20 +1,21 @@
 //! Checked items.
 
 ghost use Rattle.std.specs.Prelude.{◌≡◌, IfOk, None, OnErr, OnOk, option_copied};
-ghost use Rattle.item_forms.specs.declared.forms.Fields.TheVariants.{Segment as segment_form};
-ghost use Rattle.evidence_item.specs.Checking.{AreFindings, IsChecked, IsFound};
+ghost use Rattle.item_forms.specs.declared.forms.Fields.TheVariants as form;
+ghost use Rattle.item_forms.specs.Forms.{shown};
+ghost use Rattle.evidence_item.specs.Checking.{AreFindings, IsChecked, IsFound, findings_of};
 
-use crate::findings::{Findings, hashes_of};
+use crate::findings::{Findings, SegmentFindings, hashes_of};
 use authenticators::Directory;
 use item_forms::{Form, Item, Segment};
 use outcome::Memory;
-use replay_verifier::{Program, Verdict, quote_flags};
+use replay_verifier::{Program, Verdict, quoted_hashes};
 use std::alloc::Global;
 use std::fmt;
 use std::marker::{Model, PhantomData};
 
 /// A valid item with what checking it told: the verdict of replay under the program `P`, where it is a segment, and what was
-/// found of the segment on the way. A contract sees the three.
+/// found of the item on the way. A contract sees the three.
 ///
 /// Which directory it was checked under stands in no value: each call that asks for a checked item says which one it means.
 #[derive(Drop)]
@@ -84,7 +85,7 @@ impl<P> Checked<P> {
         self.verdict.as_ref()
     }
 
-    /// What was found, where the item is a segment and this was not made of parts alone.
+    /// What was found, where there is something to be found of the item and this was not made of parts alone.
     pub fn findings(&self) -> Option<&Findings>
         ensures { option_copied result ≡ self.now.findings }
     {
@@ -137,18 +138,38 @@ impl<P> fmt::Debug for Checked<P> {
 }
 
 /// What is found of a segment: one pass for the hashes, and one for the quotes. Nothing is replayed.
-fn found_of(alloc: Global, directory: &Directory, segment: &Segment) -> Result<Findings, Memory>
-    ensures { IfOk result (λ f. AreFindings directory.now (segment_form segment.now) f) }
+fn of_segment(alloc: Global, directory: &Directory, segment: &Segment) -> Result<Findings, Memory>
+    ensures { IfOk result (λ f. AreFindings directory.now (form.Segment segment.now) f) }
 {
     let entries = segment.entries.as_slice();
     let hashes = hashes_of(alloc, segment.prev, entries)?;
-    let quotes = quote_flags(alloc, directory, segment.node, entries)?;
-    Ok(Findings::new(hashes, quotes))
+    let quotes = quoted_hashes(alloc, directory, segment.node, entries)?;
+    Ok(Findings::Segment(SegmentFindings { hashes, quotes }))
+}
+
+/// What is found of an item, where something is.
+fn findings_of(
+    alloc: Global,
+    directory: &Directory,
+    form: Form<'_>,
+) -> Result<Option<Findings>, Memory>
+    ensures { IfOk result (λ f. f ≡ findings_of directory.now (shown form.entry)) }
+{
+    match form {
+        Form::Auth(_) | Form::Audit(_) => Ok(None),
+        Form::Segment(segment) => Ok(Some(of_segment(alloc, directory, segment)?)),
+        Form::Send(message) => Ok(Some(Findings::Send(message.signed_hash()))),
+        Form::Ack(ack) => Ok(Some(Findings::Ack {
+            sent: ack.message.signed_hash(),
+            received: ack.message.received_hash(ack.seq, ack.prev),
+        })),
+    }
 }
 
 impl<P: Program> Checked<P> {
-    /// Finds of a segment what was not found yet: the hash of each entry, and whether it is a RECV that quotes genuinely. It
-    /// replays nothing, and changes neither item nor verdict. With `Memory` nothing changes.
+    /// Finds what was not found yet: of a segment the hash of each entry and of what it quotes genuinely, of a message and of an
+    /// acknowledged one the hashes of their statements. It replays nothing, and changes neither item nor verdict. With `Memory`,
+    /// which only a segment can have, nothing changes.
     pub fn find(&mut self, alloc: Global, directory: &Directory) -> Result<(), Memory>
         requires { IsChecked directory.now P.means self.old }
         ensures checked { IsChecked directory.now P.means self.new }
@@ -156,14 +177,9 @@ impl<P: Program> Checked<P> {
         ensures refused { OnErr result (self.new ≡ self.old) }
         ensures found { OnOk result (IsFound self.new.item.fields self.new.findings) }
     {
-        if self.findings.is_some() {
-            return Ok(());
+        if self.findings.is_none() {
+            self.findings = findings_of(alloc, directory, self.item.form())?;
         }
-        let Form::Segment(segment) = self.item.form() else {
-            return Ok(());
-        };
-        let findings = found_of(alloc, directory, segment)?;
-        self.findings = Some(findings);
         Ok(())
     }
 }

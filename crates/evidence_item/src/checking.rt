@@ -7,16 +7,16 @@ ghost use Rattle.outcome.specs.Outcome.{Gives};
 ghost use Rattle.evidence_item.specs.declared.fault.ItemFault.{ItemFault as fault};
 ghost use Rattle.evidence_item.specs.declared.fault.ItemFault.TheVariants.{Memory};
 ghost use Rattle.item_forms.specs.declared.forms.Fields.TheVariants as form;
-ghost use Rattle.evidence_item.specs.Checking.{IsChecked, IsFound, is_segment};
+ghost use Rattle.evidence_item.specs.Checking.{IsChecked, IsFound, findings_of, is_segment};
 ghost use Rattle.item_forms.specs.Forms.{shown};
 ghost use Rattle.item_forms.specs.Segments.{has_no_entry};
-ghost use Rattle.evidence_item.specs.Statements.{acknowledged, end_of, is_valid_statement, named, sent};
+ghost use Rattle.evidence_item.specs.Statements.{end_of, is_valid_statement, named, sent};
 ghost use Rattle.evidence_item.specs.Validity.{comes_late, early_fault, fault_of, starts_badly};
 ghost use Rattle.evidence_item.specs.within.Judging.{IsJudged, first_is_valid};
 
 use crate::checked::Checked;
 use crate::fault::ItemFault;
-use crate::findings::{Findings, HashList, hashes_of};
+use crate::findings::{Findings, HashList, SegmentFindings, hashes_of};
 use authenticators::{Authenticator, Directory, NodeId};
 use commitment::Message;
 use item_forms::{AckItem, AuditChallenge, Form, Item, Segment, Statement};
@@ -87,18 +87,6 @@ fn audit_fault(directory: &Directory, challenge: &AuditChallenge) -> Option<Item
     }
 }
 
-/// Whether the sender's key verifies its statement of the SEND entry.
-fn is_sent(directory: &Directory, message: &Message) -> bool
-    ensures { result ≡ is_valid_statement directory.now (sent message.now) }
-{
-    directory.verifies(
-        message.from,
-        message.seq,
-        message.signed_hash(),
-        message.sig.as_slice(),
-    )
-}
-
 /// Why a message is refused whatever its signature is, if it is.
 fn parties_fault(directory: &Directory, message: &Message) -> Option<ItemFault>
     ensures { result ≡ early_fault directory.now (form.Send message.now) }
@@ -112,38 +100,18 @@ fn parties_fault(directory: &Directory, message: &Message) -> Option<ItemFault>
     }
 }
 
-/// Why a message is refused, if it is.
-fn message_fault(directory: &Directory, message: &Message) -> Option<ItemFault>
-    ensures { result ≡ fault_of directory.now (form.Send message.now) }
+/// The hash of a message's SEND entry, which is computed once; or why the message is refused.
+fn check_message(directory: &Directory, message: &Message) -> Result<Hash, ItemFault>
+    ensures { result ≡ unless (fault_of directory.now (form.Send message.now)) (sent message.now).hash }
 {
     if let Some(fault) = parties_fault(directory, message) {
-        Some(fault)
-    } else if !is_sent(directory, message) {
-        Some(ItemFault::BadSignature)
-    } else {
-        None
+        return Err(fault);
     }
-}
-
-/// Whether the receiver's key verifies its statement of the RECV entry.
-fn is_acknowledged(directory: &Directory, ack: &AckItem) -> bool
-    ensures { result ≡ is_valid_statement directory.now (acknowledged ack.now) }
-{
-    let hash = ack.message.received_hash(ack.seq, ack.prev);
-    directory.verifies(ack.message.to, ack.seq, hash, ack.sig.as_slice())
-}
-
-/// Why an acknowledged message is refused, if it is.
-fn ack_fault(directory: &Directory, ack: &AckItem) -> Option<ItemFault>
-    ensures { result ≡ fault_of directory.now (form.Ack ack.now) }
-{
-    if let Some(fault) = parties_fault(directory, &ack.message) {
-        Some(fault)
-    } else if !is_sent(directory, &ack.message) || !is_acknowledged(directory, ack) {
-        Some(ItemFault::BadSignature)
-    } else {
-        None
+    let hash = message.signed_hash();
+    if !directory.verifies(message.from, message.seq, hash, message.sig.as_slice()) {
+        return Err(ItemFault::BadSignature);
     }
+    Ok(hash)
 }
 
 /// Whether the first of the entries neither begins a log nor is a CHECKPOINT.
@@ -246,11 +214,40 @@ fn judge_segment<P: Program>(
     )?;
     Ok(Judged {
         verdict: Some(replayed.verdict),
-        findings: Some(Findings::new(hashes, replayed.quotes)),
+        findings: Some(Findings::Segment(SegmentFindings {
+            hashes,
+            quotes: replayed.quotes,
+        })),
     })
 }
 
-/// Of an item that is no segment nothing is found.
+/// What is found of a message.
+fn judge_send(directory: &Directory, message: &Message) -> Result<Judged, ItemFault>
+    ensures { result ≡ unless (fault_of directory.now (form.Send message.now)) (record { verdict = None; findings = findings_of directory.now (form.Send message.now) }) }
+{
+    let sent = check_message(directory, message)?;
+    Ok(Judged {
+        verdict: None,
+        findings: Some(Findings::Send(sent)),
+    })
+}
+
+/// What is found of an acknowledged message. The hash of the RECV entry is computed once.
+fn judge_ack(directory: &Directory, ack: &AckItem) -> Result<Judged, ItemFault>
+    ensures { result ≡ unless (fault_of directory.now (form.Ack ack.now)) (record { verdict = None; findings = findings_of directory.now (form.Ack ack.now) }) }
+{
+    let sent = check_message(directory, &ack.message)?;
+    let received = ack.message.received_hash(ack.seq, ack.prev);
+    if !directory.verifies(ack.message.to, ack.seq, received, ack.sig.as_slice()) {
+        return Err(ItemFault::BadSignature);
+    }
+    Ok(Judged {
+        verdict: None,
+        findings: Some(Findings::Ack { sent, received }),
+    })
+}
+
+/// Of a statement and of an audit challenge nothing is found.
 fn judge_other(fault: Option<ItemFault>) -> Result<Judged, ItemFault>
     ensures { result ≡ unless fault (record { verdict = None; findings = None }) }
 {
@@ -279,8 +276,8 @@ fn judge<P: Program>(
         Form::Segment(segment) => judge_segment(alloc, program, directory, segment),
         Form::Auth(authenticator) => judge_other(authenticator_fault(directory, authenticator)),
         Form::Audit(challenge) => judge_other(audit_fault(directory, challenge)),
-        Form::Send(message) => judge_other(message_fault(directory, message)),
-        Form::Ack(ack) => judge_other(ack_fault(directory, ack)),
+        Form::Send(message) => judge_send(directory, message),
+        Form::Ack(ack) => judge_ack(directory, ack),
     }
 }
 
@@ -288,8 +285,8 @@ fn judge<P: Program>(
 /// these: `UnknownNode` (44), `SelfMessage` (45), `EmptySegment` (46), `BadStart` (47), `BadRange` (48), `BadSignature` (49).
 ///
 /// A segment with entries of any kind, order or content is valid: its verdict tells what is wrong with it. Each signature is
-/// verified once, of the item and of what its RECV entries quote, and each content is hashed once for the chain. Only a segment
-/// takes memory, after its 44, 46 and 47: `Memory` may come in place of its 49, or of the checked segment.
+/// verified once, of the item and of what its RECV entries quote, and what is signed is hashed once. Only a segment takes
+/// memory, after its 44, 46 and 47: `Memory` may come in place of its 49, or of the checked segment.
 pub fn check_item<P: Program>(
     alloc: Global,
     program: &P,

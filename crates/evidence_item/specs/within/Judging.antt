@@ -5,7 +5,8 @@ use Rattle.replay_verifier.specs.declared.verdict.Verdict.{Verdict}
 use Rattle.replay_verifier.specs.Meaning.{Meaning}
 use Rattle.item_forms.specs.declared.forms.Fields.{Fields}
 use Rattle.item_forms.specs.declared.forms.Statement.{Statement}
-use Rattle.evidence_item.specs.Checking.{Findings, AreFindings, IsFound, IsOwnVerdict}
+use Rattle.evidence_item.specs.declared.findings.Findings.{Findings}
+use Rattle.evidence_item.specs.Checking.{AreFindings, IsFound, IsOwnVerdict}
 use Rattle.evidence_item.specs.Statements.{is_valid_statement, named}
 use Rattle.evidence_item.specs.Validity.{fault_of}
 
