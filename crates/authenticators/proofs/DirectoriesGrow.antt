@@ -1,5 +1,5 @@
 -- A directory with one node more, whose number and key are new, is a directory.
-use Rattle.std.proofs.Common.{◌≡◌, ℕ, ◌<◌, false, List, [], ◌∷◌, ◌++◌, length, sym, ap, ◌∙◌, subst, append_assoc, arith}
+use Rattle.std.proofs.Common.{◌≡◌, ℕ, ◌<◌, false, List, [], ◌∷◌, ◌++◌, length, sym, subst, append_assoc, arith}
 use Rattle.std.specs.Prelude.{is_some}
 use Rattle.std.proofs.lemmas.List.{append-nil, length-append}
 use Rattle.lms_sign.specs.declared.key.PublicKey.{PublicKey}

@@ -5,5 +5,6 @@ mod DirectoriesGrow
 pub mod DirectoryTexts
 pub mod ReadNodes
 pub mod StatementSets
+pub mod StatementUnions
 pub mod Statements
 mod Written

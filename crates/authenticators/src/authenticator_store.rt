@@ -1,14 +1,18 @@
 //! A set of statements.
 
-ghost use Rattle.std.specs.Prelude.{◌≡◌, ◌↔◌, IsTrue, length, ◌⊎◌, false, [], Ok, IfOk, IfErr, OnOk, OnErr, IfNone, IfSome, Contains, ◌==◌, ◌&&◌, ◌||◌, nat_lt, nat_le};
+ghost use Rattle.std.specs.Prelude.{◌≡◌, ◌↔◌, ◌+◌, ◌<◌, ◌≤◌, IsTrue, length, ◌⊎◌, false, [], Ok, IfOk, IfErr, IsOk, OnOk, OnErr, IfNone, IfSome, Contains, ◌==◌, ◌&&◌, ◌||◌, nat_lt, nat_le, vec_capacity, vec_len};
 ghost use Rattle.authenticators.specs.declared.authenticator.Authenticator.{Authenticator};
-ghost use Rattle.authenticators.specs.StatementSet.{Conflict, IsAscending, IsAt, IsInRange, IsPart, NoConflict, NoConflictOf};
+ghost use Rattle.authenticators.specs.StatementSet.{Conflict, IsAscending, IsAt, IsInRange, IsPart, IsUnion, NoConflict, NoConflictOf};
 
 use crate::authenticator::Authenticator;
 use crate::node::NodeId;
+use outcome::Memory;
 use std::alloc::Global;
 use std::marker::Model;
 use thiserror::Error;
+
+/// Up to so many statements are put into a store one by one, and more of them all at once.
+const FEW: usize = 16;
 
 /// A statement that could not be put into a store, since a growth was refused. It is given back.
 #[derive(Debug, Drop, Error)]
@@ -83,6 +87,18 @@ impl AuthenticatorStore {
         insert(&mut self.held, authenticator)
     }
 
+    /// Puts all of the statements into the set, and those that are held already or stand twice only once. It checks no
+    /// signature. Where a growth is refused, and only there, the answer is `Memory` and the store is as it was.
+    ///
+    /// A few are inserted one after the other. More of them are sorted together with those that are held, so that n
+    /// statements take n log n comparisons.
+    pub fn insert_all(&mut self, statements: Vec<Authenticator>) -> Result<(), Memory>
+        ensures added { OnOk result (IsUnion self.old statements.items self.new) }
+        ensures unchanged { OnErr result (self.new ≡ self.old) }
+    {
+        insert_all(&mut self.held, statements)
+    }
+
     /// The statements of the node with this number, ascending by hash and signature. It takes no memory.
     pub fn at(&self, node: NodeId, seq: u64) -> &[Authenticator]
         ensures { IsPart (IsAt node seq) self.now result.now }
@@ -119,6 +135,11 @@ fn insert(
     ensures given_back { IfErr result (λ refused. refused.0 ≡ authenticator) }
     ensures unchanged { OnErr result (held.new.items ≡ held.old.items) }
     ensures ascending { IsAscending held.new.items }
+
+    // With room it has no refusal, and takes the room of one statement.
+    ensures room { vec_len held.old < vec_capacity held.old → IsOk result }
+    ensures len { vec_len held.new ≤ vec_len held.old + 1 }
+    ensures capacity { vec_capacity held.old ≤ vec_capacity held.new }
 {
     let Err(place) = held.binary_search(&authenticator) else {
         return Ok(false);
@@ -127,6 +148,44 @@ fn insert(
         return Err(InsertRefused(refused.value));
     }
     Ok(true)
+}
+
+fn insert_all(held: &mut Vec<Authenticator>, statements: Vec<Authenticator>) -> Result<(), Memory>
+    requires { IsAscending held.old.items }
+    ensures added { OnOk result (IsUnion held.old.items statements.items held.new.items) }
+    ensures unchanged { OnErr result (held.new.items ≡ held.old.items) }
+    ensures ascending { IsAscending held.new.items }
+{
+    held.reserve(statements.len())?;
+    if statements.len() <= FEW {
+        insert_each(held, statements);
+    } else {
+        sort_in(held, statements);
+    }
+    Ok(())
+}
+
+/// Inserts one statement after the other. There is room for all of them.
+fn insert_each(held: &mut Vec<Authenticator>, mut statements: Vec<Authenticator>)
+    requires ascending { IsAscending held.old.items }
+    requires room { vec_len held.old + vec_len statements ≤ vec_capacity held.old }
+    ensures added { IsUnion held.old.items statements.items held.new.items }
+    ensures ascending { IsAscending held.new.items }
+{
+    while let Some(statement) = statements.pop() {
+        let _ = insert(held, statement);
+    }
+}
+
+/// Sorts the statements in among those that are held. There is room for all of them.
+fn sort_in(held: &mut Vec<Authenticator>, mut statements: Vec<Authenticator>)
+    requires { vec_len held.old + vec_len statements ≤ vec_capacity held.old }
+    ensures added { IsUnion held.old.items statements.items held.new.items }
+    ensures ascending { IsAscending held.new.items }
+{
+    let _ = held.append(&mut statements);
+    held.sort_unstable();
+    held.dedup();
 }
 
 /// Whether the statement stands before all of the node with this number.

@@ -165,3 +165,38 @@ fn statements_are_found_by_number(rt: HostRuntime) -> Result<(), Fail> {
     assert!(rt; store.range(NodeId(4), 0, u64::MAX).is_empty());
     Ok(())
 }
+
+/// `count` statements of node 1, of the numbers from 3 on, each twice and the last first.
+fn statements_from_three(alloc: Global, count: u8) -> Result<Vec<Authenticator>, Fail> {
+    let mut given = Vec::new(alloc);
+    for place in (0..count).rev() {
+        let seq = 3 + place as u64;
+        given.push(statement(alloc, 1, seq, 0, 0)?)?;
+        given.push(statement(alloc, 1, seq, 0, 0)?)?;
+    }
+    Ok(given)
+}
+
+/// How many statements are held after these were put in at once, where those of the numbers 0 to 4 were held before; none
+/// where they do not stand one a number, from 0 on.
+fn held_with(alloc: Global, count: u8) -> Result<Option<usize>, Fail> {
+    let mut store = AuthenticatorStore::new(alloc);
+    for seq in 0..5 {
+        insert(alloc, &mut store, (1, seq, 0, 0))?;
+    }
+    store.insert_all(statements_from_three(alloc, count)?)?;
+    let held = store.as_slice();
+    let in_order = held
+        .iter()
+        .enumerate()
+        .all(|(place, s)| s.seq == place as u64);
+    Ok(in_order.then_some(held.len()))
+}
+
+#[test]
+fn statements_are_put_in_at_once(rt: HostRuntime) -> Result<(), Fail> {
+    assert_eq!(rt; held_with(rt.alloc(), 0)?, Some(5));
+    assert_eq!(rt; held_with(rt.alloc(), 3)?, Some(6));
+    assert_eq!(rt; held_with(rt.alloc(), 12)?, Some(15));
+    Ok(())
+}

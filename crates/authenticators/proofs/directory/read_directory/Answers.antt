@@ -1,4 +1,4 @@
-use Rattle.std.proofs.Common.{◌≡◌, [], ⊎_elim, ap, ◌∙◌, arith, length, ℕ, List}
+use Rattle.std.proofs.Common.{◌≡◌, [], ⊎_elim, ap, ◌∙◌, arith, length}
 use Rattle.std.proofs.lemmas.Bool.{eqb-true, eqb-false}
 use Rattle.authenticators.proofs.Beginnings.{begins, some}
 use Rattle.authenticators.proofs.ReadNodes.{none_read}

@@ -1,4 +1,4 @@
-use Rattle.std.proofs.Common.{◌≡◌, ◌++◌, ap, ◌∙◌, ℕ, List}
+use Rattle.std.proofs.Common.{◌++◌, ap, ◌∙◌, ℕ, List}
 use Rattle.std.specs.Int.{w32, to_be_bytes}
 use Rattle.lms_sign.specs.KeyText.{key_text}
 use Rattle.authenticators.proofs.Written.{two_texts}

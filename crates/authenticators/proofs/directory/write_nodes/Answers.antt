@@ -1,4 +1,3 @@
-use Rattle.std.proofs.Common.{◌≡◌}
 use Rattle.authenticators.proofs.Written.{one_part_more}
 use Rattle.authenticators.specs.DirectoryText.{node_text}
 use Rattle.authenticators.proofs.directory.write_nodes.Goals as goal
