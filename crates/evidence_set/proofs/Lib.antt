@@ -1,5 +1,6 @@
 pub mod AnswerTests
 pub mod ImportedSets
+pub mod IndicationCases
 pub mod Joins
 pub mod OneIndication
 pub mod SetLists

@@ -17,10 +17,10 @@ use Rattle.evidence_set.specs.Held.{QuotesOf, quoted, quote_in, quote_of, quotes
 
 -- ---- members of lists
 
-nothing : {X : Type 0} (x : X) → Contains [] x → ⊥
+pub nothing : {X : Type 0} (x : X) → Contains [] x → ⊥
 nothing x c = let below : c.0 < 0 = c.1 in omega arith
 
-member_cases : {X : Type 0} (y : X) (xs : List X) (x : X) → Contains (y ∷ xs) x → (y ≡ x) ⊎ Contains xs x
+pub member_cases : {X : Type 0} (y : X) (xs : List X) (x : X) → Contains (y ∷ xs) x → (y ≡ x) ⊎ Contains xs x
 member_cases y xs x c = elim (Contains-append_cases (y ∷ []) xs x c) [
   | inl one ↦ elim (Contains-push_cases [] y x one) [ inl none ↦ absurd (nothing x none) | inr is ↦ inl is ]
   | inr more ↦ inr more

@@ -3,6 +3,7 @@
 ghost use Rattle.evidence_set.specs.Challenges.{TestsAnswers};
 ghost use Rattle.evidence_set.specs.Exports.{ExportsAreImported};
 ghost use Rattle.evidence_set.specs.Held.{ListsWhatIsHeld};
+ghost use Rattle.evidence_set.specs.IndicationLaws.{EvidenceStays, ExposesNodes, SuspectsNodes};
 ghost use Rattle.evidence_set.specs.Indications.{IndicationsAreOne};
 ghost use Rattle.evidence_set.specs.ItemSets.{JoinsAreLeastUpperBounds, JoinsAsExpected, SetsAreLists, SetsAsExpected, SetsCount};
 
@@ -58,4 +59,19 @@ pub fn the_test_is_of_answers()
 /// A set gives a node one indication.
 pub fn indications_are_one<S>()
     ensures { IndicationsAreOne S }
+{}
+
+/// Two hashes of one number, a statement that contradicts a segment, and a segment that does not conform expose a node.
+pub fn faults_expose<S>()
+    ensures { ExposesNodes S }
+{}
+
+/// A challenge alone makes its node suspected and no other one, an answer clears it, and nothing is said without items.
+pub fn challenges_suspect<S>()
+    ensures { SuspectsNodes S }
+{}
+
+/// More items take no exposure back, and leave no answered challenge unanswered.
+pub fn evidence_stays<S>()
+    ensures { EvidenceStays S }
 {}
