@@ -18,7 +18,7 @@ use Rattle.evidence_item.specs.Statements.{acknowledged, first_named, named, sen
 use Rattle.evidence_set.specs.declared.indication.Indication.TheVariants.{Trusted, Suspected}
 use Rattle.evidence_set.specs.Challenges.{Answers, is_against}
 use Rattle.evidence_set.specs.Held.{Holds, IsHeld}
-use Rattle.evidence_set.specs.Indications.{HasSegment, IsExposed, IsIndication, IsUnanswered}
+use Rattle.evidence_set.specs.Indications.{HasSegment, IsExposed, IsIndication, IsUnanswered, SaysTwo}
 use Rattle.evidence_set.specs.IndicationLaws.{EvidenceStays, ExposesNodes, SuspectsNodes}
 use Rattle.evidence_set.specs.ItemSets.{Items, Has, IsWithin, SomeItem, insert, none}
 use Rattle.evidence_set.proofs.Joins.{as_expected}
@@ -188,6 +188,41 @@ suspects = record {
 
 -- ---- what exposes
 
+auth_alone : (ds : List (ℕ × PublicKey)) (a t : Authenticator) → Holds ds (form.Auth a) t → t.node ≡ a.node
+auth_alone ds a t h = elim (member_cases a [] t h) [ inl is ↦ ap (λ (u : Authenticator). u.node) (sym is) | inr more ↦ absurd (nothing t more) ]
+
+auth_no_segment : (a : Authenticator) (s : Segment) → form.Auth a ≡ form.Segment s → ⊥
+auth_no_segment a s e = absurd cc
+
+not_against : (j : ℕ) (a : Authenticator) → IsTrue (is_against j (form.Auth a)) → ⊥
+not_against j a e = absurd cc
+
+module _ {S : Type 0} (ds : List (ℕ × PublicKey)) (program : Meaning S) (x y : Piece) (a b : Authenticator) (j : ℕ) (is : x.fields ≡ form.Auth a) (is' : y.fields ≡ form.Auth b) (other : j ≢ a.node) (other' : j ≢ b.node) where
+  none_of_node : (t : Authenticator) → IsHeld ds (insert (insert none x) y) j t → ⊥
+  none_of_node t h = elim (of_two (λ f. Holds ds f t) x y (form.Auth a) (form.Auth b) is is' h.stands) [
+    | inl second ↦ other' (sym h.of ∙ auth_alone ds b t second)
+    | inr first ↦ other (sym h.of ∙ auth_alone ds a t first)
+  ]
+
+  auths_say_nothing : IsIndication ds program (insert (insert none x) y) j Trusted
+  auths_say_nothing = (
+    not_exposed ds program (insert (insert none x) y) j (λ t u h k same. absurd (none_of_node t h))
+        (λ s h. elim (of_two (λ f. f ≡ form.Segment s) x y (form.Auth a) (form.Auth b) is is' h.stands) [ inl second ↦ auth_no_segment b s second | inr first ↦ auth_no_segment a s first ]),
+    λ some. elim (of_two (IsUnanswered (insert (insert none x) y) j) x y (form.Auth a) (form.Auth b) is is' some) [ inl second ↦ not_against j b second.against | inr first ↦ not_against j a first.against ],
+  )
+
+node_of : (s t : Segment) → form.Segment s ≡ form.Segment t → s.node ≡ t.node
+node_of s t e = cc
+
+module _ {S : Type 0} (ds : List (ℕ × PublicKey)) (program : Meaning S) (x : Piece) (s : Segment) (j : ℕ) (is : x.fields ≡ form.Segment s) (other : j ≢ s.node) where
+  no_segment_of_node : HasNoSegment (insert none x) j
+  no_segment_of_node t h = other (sym h.of ∙ sym (node_of s t (of_one (λ f. f ≡ form.Segment t) x (form.Segment s) is h.stands)))
+
+  only_by_statements : IsExposed ds program (insert none x) j → SaysTwo ds (insert none x) j
+  only_by_statements (inl two) = two
+  only_by_statements (inr (inl denied)) = absurd (no_segment_of_node denied.segment denied.has)
+  only_by_statements (inr (inr deviating)) = absurd (no_segment_of_node deviating.segment deviating.has)
+
 pub exposes : {S : Type 0} → ExposesNodes S
 exposes = record {
   two_hashes = λ ds program E x y a b stated stated' two. inl (record {
@@ -206,6 +241,8 @@ exposes = record {
   }));
   deviating = λ ds program E y s segment deviates. inr (inr (record { segment = s; has = record { of = refl; stands = (y, segment.0, segment.1) }; deviates = deviates }));
   not_suspected = λ ds program E j exposed suspected. suspected.0 exposed;
+  other_statements = λ ds program x y a b j is is' other other'. auths_say_nothing ds program x y a b j is is' other other';
+  other_segment = λ ds program x s j is other exposed. only_by_statements ds program x s j is other exposed;
 }
 
 -- ---- greater sets

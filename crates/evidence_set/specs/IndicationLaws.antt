@@ -14,7 +14,7 @@ use Rattle.item_forms.specs.declared.forms.Segment.{Segment}
 use Rattle.item_forms.specs.Pieces.{Piece}
 use Rattle.evidence_set.specs.declared.indication.Indication.TheVariants.{Trusted, Suspected, Exposed}
 use Rattle.evidence_set.specs.Held.{Holds}
-use Rattle.evidence_set.specs.Indications.{IsExposed, IsIndication, IsUnanswered}
+use Rattle.evidence_set.specs.Indications.{IsExposed, IsIndication, IsUnanswered, SaysTwo}
 use Rattle.evidence_set.specs.ItemSets.{Items, Has, IsWithin, insert, none}
 
 -- An item of the set holds the statement.
@@ -26,12 +26,14 @@ abbrev pub IsSegment : Items → Piece → Segment → Type 0
 IsSegment E y s = Has E y × (y.fields ≡ form.Segment s)
 
 -- What exposes a node: two hashes of one number; a statement that contradicts a segment of the node's log; a segment that does not
--- conform. An exposed node is not suspected.
+-- conform. An exposed node is not suspected. Statements expose no other node, and a segment another one only by what it quotes.
 pub record ExposesNodes (S : Type 0) : Type 0 where
   pub two_hashes : (ds : List (ℕ × PublicKey)) (program : Meaning S) (E : Items) (x y : Piece) (a b : Authenticator) → IsStated ds E x a → IsStated ds E y b → AreTwoHashes a b → IsIndication ds program E a.node Exposed
   pub denied : (ds : List (ℕ × PublicKey)) (program : Meaning S) (E : Items) (x y : Piece) (a : Authenticator) (s : Segment) → IsStated ds E x a → IsSegment E y s → a.node ≡ s.node → Contradicts a.seq a.hash s → IsIndication ds program E s.node Exposed
   pub deviating : (ds : List (ℕ × PublicKey)) (program : Meaning S) (E : Items) (y : Piece) (s : Segment) → IsSegment E y s → ¬ (Conforms (setting_of ds s.node program) s.prev s.entries) → IsIndication ds program E s.node Exposed
   pub not_suspected : (ds : List (ℕ × PublicKey)) (program : Meaning S) (E : Items) (j : ℕ) → IsIndication ds program E j Exposed → IsIndication ds program E j Suspected → ⊥
+  pub other_statements : (ds : List (ℕ × PublicKey)) (program : Meaning S) (x y : Piece) (a b : Authenticator) (j : ℕ) → x.fields ≡ form.Auth a → y.fields ≡ form.Auth b → j ≢ a.node → j ≢ b.node → IsIndication ds program (insert (insert none x) y) j Trusted
+  pub other_segment : (ds : List (ℕ × PublicKey)) (program : Meaning S) (x : Piece) (s : Segment) (j : ℕ) → x.fields ≡ form.Segment s → j ≢ s.node → IsExposed ds program (insert none x) j → SaysTwo ds (insert none x) j
 
 -- What makes a node suspected, and what clears it: a challenge that stands alone in the set; its answer. A challenge says nothing
 -- of other nodes, and the empty set nothing of any.

@@ -61,7 +61,8 @@ pub fn indications_are_one<S>()
     ensures { IndicationsAreOne S }
 {}
 
-/// Two hashes of one number, a statement that contradicts a segment, and a segment that does not conform expose a node.
+/// Two hashes of one number, a statement that contradicts a segment, and a segment that does not conform expose a node, and no
+/// other one.
 pub fn faults_expose<S>()
     ensures { ExposesNodes S }
 {}
