@@ -1,0 +1,7 @@
+pub mod AnswerTests
+pub mod ImportedSets
+pub mod IndicationCases
+pub mod Joins
+pub mod OneIndication
+pub mod SetLists
+pub mod WhatIsHeld
