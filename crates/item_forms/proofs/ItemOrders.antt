@@ -17,8 +17,9 @@ use Rattle.item_forms.specs.declared.forms.Fields.{Fields}
 use Rattle.item_forms.specs.declared.forms.Fields.TheVariants as form
 use Rattle.item_forms.specs.declared.forms.Statement.{Statement}
 use Rattle.item_forms.specs.Pieces.{Piece, by_bytes, same_piece}
+use Rattle.item_forms.specs.Groups.{message_order, text_order}
 use Rattle.item_forms.specs.Spelling.{statement_spelling, entry_spelling, optional_spelling, auth_spelling, segment_spelling, audit_spelling, message_spelling, ack_spelling, spelling, FitsStatement, FitsEntry, FitsAuth, FitsSegment, FitsAudit, FitsMessage, FitsAck, Fits}
-use Rattle.item_forms.specs.within.Orders.{text_order, statement_order, entry_order, optional_order, auth_order, segment_order, audit_order, message_order, ack_order, fields_order}
+use Rattle.item_forms.specs.within.Orders.{statement_order, entry_order, optional_order, auth_order, segment_order, audit_order, ack_order, fields_order}
 use Rattle.item_forms.proofs.FieldOrders.{IsOrdered, u8_order, u32_order, u64_order, hash_order, bytes_order, list_order, both_order, struct_order, then_equal}
 use Rattle.item_forms.proofs.ItemTexts.{one_item, three, four, six, with_kind}
 

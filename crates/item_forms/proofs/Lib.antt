@@ -1,5 +1,6 @@
 pub mod EntryPasses
 pub mod FieldOrders
+pub mod GroupOrders
 pub mod ItemOrders
 pub mod ItemTexts
 pub mod SpellingBytes

@@ -51,6 +51,14 @@ message_spelling m = to_be_bytes w32 m.from ++ to_be_bytes w32 m.to ++ to_be_byt
 abbrev pub ack_spelling : AckItem → List ℕ
 ack_spelling a = message_spelling a.message ++ to_be_bytes w64 a.seq ++ a.prev ++ bytes_text a.sig
 
+-- The tag of a form.
+abbrev pub tag_of : Fields → ℕ
+tag_of (form.Auth a) = 1
+tag_of (form.Segment s) = 2
+tag_of (form.Audit c) = 3
+tag_of (form.Send m) = 4
+tag_of (form.Ack a) = 5
+
 -- The form's tag, and its fields.
 abbrev pub spelling : Fields → List ℕ
 spelling (form.Auth a) = 1 ∷ auth_spelling a

@@ -1,5 +1,6 @@
 //! Laws over the definitions. Each is a function that computes nothing: its contract is the law.
 
+ghost use Rattle.item_forms.specs.Groups.{GroupsAscend, GroupsHold};
 ghost use Rattle.item_forms.specs.Segments.{PairsAreTested};
 ghost use Rattle.item_forms.specs.Pieces.{Piece};
 ghost use Rattle.item_forms.specs.SpellingLaws.{ItemsAreOrdered, ItemsAreReadAsSpelled, ItemsHaveOneText, SpellingsAreShort};
@@ -31,6 +32,16 @@ pub fn spellings_are_short()
 /// The order of items is total, and items that are equal in it are equal.
 pub fn items_are_ordered()
     ensures { ItemsAreOrdered }
+{}
+
+/// The items of a group stand beside each other in the order of items.
+pub fn groups_ascend()
+    ensures { GroupsAscend }
+{}
+
+/// What stands neither before a group nor behind it is in it, and nothing else is.
+pub fn groups_hold()
+    ensures { GroupsHold }
 {}
 
 /// `==` of items is true exactly of the same form with the same fields.

@@ -9,12 +9,14 @@ pub use authenticators::{Authenticator, NodeId};
 pub use commitment::Message;
 pub use fault::{DecodeFault, TooLong};
 pub use forms::{AckItem, AuditChallenge, Fields, Form, Segment, Statement};
+pub use group::Group;
 pub use item::Item;
 pub use log_chain::{ByteString, Entry, EntryList, Hash};
 pub use outcome::Memory;
 
 mod fault;
 mod forms;
+mod group;
 mod item;
 pub mod laws;
 mod lengths;

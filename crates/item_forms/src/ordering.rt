@@ -2,7 +2,8 @@
 
 ghost use Rattle.std.specs.Prelude.{◌≡◌};
 ghost use Rattle.std.specs.Cmp.Lexicographic.{slice_cmp};
-ghost use Rattle.item_forms.specs.within.Orders.{ack_order, audit_order, auth_order, block_order, counted_order, entry_order, fields_order, message_order, optional_order, segment_order, statement_order, tag_of, text_order};
+ghost use Rattle.item_forms.specs.within.Orders.{ack_order, audit_order, auth_order, counted_order, entry_order, fields_order, optional_order, segment_order, statement_order};
+ghost use Rattle.item_forms.specs.Groups.{block_order, message_order, text_order};
 ghost use Rattle.std.proofs.Common.{rules};
 ghost use Rattle.std.specs.Cmp.{partial_order_from_own_ties};
 ghost use Rattle.std.specs.Cmp.Lexicographic.{pointwise};
@@ -10,7 +11,7 @@ ghost use Rattle.std.specs.Cmp.Rules.{comparing};
 ghost use Rattle.std.specs.Ordering.{as_partial_cmp, nat_cmp, on};
 ghost use Rattle.std.specs.Prelude.{◌↔◌, IsTrue, nat_eq};
 ghost use Rattle.item_forms.specs.Pieces.{by_bytes};
-ghost use Rattle.item_forms.specs.Spelling.{spelling};
+ghost use Rattle.item_forms.specs.Spelling.{spelling, tag_of};
 
 use crate::forms::{AckItem, AuditChallenge, Fields, Segment, Statement};
 use crate::item::Item;
@@ -124,7 +125,7 @@ fn compare_audits(a: &AuditChallenge, b: &AuditChallenge) -> Ordering
         .then_with(|| compare_statements(&a.last, &b.last))
 }
 
-fn compare_messages(a: &Message, b: &Message) -> Ordering
+pub(crate) fn compare_messages(a: &Message, b: &Message) -> Ordering
     ensures { result ≡ message_order a.now b.now }
 {
     a.from
@@ -147,7 +148,7 @@ fn compare_acks(a: &AckItem, b: &AckItem) -> Ordering
 }
 
 /// The tag that stands in front of the fields.
-fn tag_of(fields: &Fields) -> u8
+pub(crate) fn tag_of(fields: &Fields) -> u8
     ensures { result ≡ tag_of fields.now }
 {
     match fields {

@@ -1,11 +1,12 @@
 //! Values from outside, and each public call once on its happy path.
 
 use crate::{
-    Authenticator, ByteString, DecodeFault, Entry, Form, Hash, Item, Message, NodeId, Statement,
-    TooLong,
+    Authenticator, ByteString, DecodeFault, Entry, Form, Group, Hash, Item, Message, NodeId,
+    Statement, TooLong,
 };
 use log_chain::{FieldReader, FieldWriter};
 use std::alloc::Global;
+use std::cmp::Ordering;
 use std::test::Fail;
 
 /// The statement of node 1 of number 5 and a hash of zeros, with an empty signature.
@@ -228,6 +229,48 @@ fn items_are_ordered_as_their_texts(rt: HostRuntime) -> Result<(), Fail> {
             );
         }
     }
+    Ok(())
+}
+
+/// Where the item of the form stands beside a group, which its tag tells and a node or a message of this number.
+fn place(alloc: Global, form: u8, tag: u8, number: u32) -> Result<Ordering, Fail> {
+    let item = item(alloc, form, 5)?;
+    let message = message(alloc, number as u64)?;
+    let group = match tag {
+        2 => Group::Segments(NodeId(number)),
+        3 => Group::AuditChallenges(NodeId(number)),
+        4 => Group::SendChallenges,
+        _ => Group::Acknowledgements(&message),
+    };
+    Ok(item.cmp_group(&group))
+}
+
+fn places(alloc: Global, tag: u8, number: u32) -> Result<[Ordering; 6], Fail> {
+    Ok([
+        place(alloc, 1, tag, number)?,
+        place(alloc, 2, tag, number)?,
+        place(alloc, 3, tag, number)?,
+        place(alloc, 4, tag, number)?,
+        place(alloc, 5, tag, number)?,
+        place(alloc, 6, tag, number)?,
+    ])
+}
+
+#[test]
+fn items_stand_before_in_or_behind_a_group(rt: HostRuntime) -> Result<(), Fail> {
+    let (less, equal, greater) = (Ordering::Less, Ordering::Equal, Ordering::Greater);
+    let segments = [less, equal, greater, greater, greater, greater];
+    assert_eq!(rt; places(rt.alloc(), 2, 1)?, segments);
+    let audits = [less, less, equal, greater, greater, equal];
+    assert_eq!(rt; places(rt.alloc(), 3, 1)?, audits);
+    let sends = [less, less, less, equal, greater, less];
+    assert_eq!(rt; places(rt.alloc(), 4, 1)?, sends);
+    let acknowledgements = [less, less, less, less, equal, less];
+    assert_eq!(rt; places(rt.alloc(), 5, 6)?, acknowledgements);
+    assert_eq!(rt; place(rt.alloc(), 2, 2, 0)?, greater);
+    assert_eq!(rt; place(rt.alloc(), 2, 2, 2)?, less);
+    assert_eq!(rt; place(rt.alloc(), 5, 5, 5)?, greater);
+    assert_eq!(rt; place(rt.alloc(), 5, 5, 7)?, less);
     Ok(())
 }
 

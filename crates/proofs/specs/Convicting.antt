@@ -1,6 +1,7 @@
 -- Which proofs convict a node, and why the others are refused (PeerReview, SOSP 2007: verifiable evidence).
 use Rattle.std.specs.Prelude.{◌≡◌, ◌⊎◌, ℕ, List, [], ◌∷◌, Option, Some, None, Result, Ok, Err}
 use Rattle.lms_sign.specs.declared.key.PublicKey.{PublicKey}
+use Rattle.authenticators.specs.StatementSet.{Conflict}
 use Rattle.replay_verifier.specs.Conforming.{Conforms, setting_of}
 use Rattle.replay_verifier.specs.Meaning.{Meaning}
 use Rattle.evidence_item.specs.declared.fault.ItemFault.{ItemFault}
@@ -12,7 +13,7 @@ use Rattle.proofs.specs.declared.fault.ProofFault.{ProofFault}
 use Rattle.proofs.specs.declared.fault.ProofFault.TheVariants as fault
 use Rattle.proofs.specs.declared.proof.Parts.{Parts}
 use Rattle.proofs.specs.declared.proof.Parts.TheVariants as parts
-use Rattle.proofs.specs.Contradictions.{AreTwoHashes, Contradicts}
+use Rattle.proofs.specs.Contradictions.{Contradicts}
 use Rattle.proofs.specs.ProofTexts.{items_of}
 use Rattle.proofs.specs.Refusals.{of_item}
 
@@ -26,7 +27,7 @@ IsNonconforming ds program s = ¬ Conforms (setting_of ds s.node program) s.prev
 -- * or a segment does not conform.
 abbrev pub Convicts : {S : Type 0} → List (ℕ × PublicKey) → Meaning S → ℕ → Parts → Type 0
 Convicts ds program node (parts.TwoAuths a b) =
-    IsValid ds (form.Auth a) × IsValid ds (form.Auth b) × (a.node ≡ node) × AreTwoHashes a b
+    IsValid ds (form.Auth a) × IsValid ds (form.Auth b) × (a.node ≡ node) × Conflict a b
 Convicts ds program node (parts.AuthSegment a s) =
     IsValid ds (form.Auth a) × IsValid ds (form.Segment s) × (a.node ≡ node) × (s.node ≡ node) × Contradicts a.seq a.hash s
 Convicts ds program node (parts.Nonconforming s) =
