@@ -56,7 +56,7 @@ HasNoSegment E j = (s : Segment) → HasSegment E j s → ⊥
 
 module _ {S : Type 0} (ds : List (ℕ × PublicKey)) (program : Meaning S) where
   not_exposed : (E : Items) (j : ℕ) → SayOne ds E j → HasNoSegment E j → IsExposed ds program E j → ⊥
-  not_exposed E j one no_segment (inl two) = two.conflict.hash (one two.one two.other two.one_held two.other_held two.conflict.seq)
+  not_exposed E j one no_segment (inl two) = two.conflict.two_hashes (one two.one two.other two.one_held two.other_held two.conflict.one_number)
   not_exposed E j one no_segment (inr (inl denied)) = no_segment denied.segment denied.has
   not_exposed E j one no_segment (inr (inr deviating)) = no_segment deviating.segment deviating.has
 
@@ -229,7 +229,7 @@ exposes = record {
     one = a;
     other = b;
     one_held = record { of = refl; stands = (x, stated.0, stated.1) };
-    other_held = record { of = sym two.node; stands = (y, stated'.0, stated'.1) };
+    other_held = record { of = sym two.one_node; stands = (y, stated'.0, stated'.1) };
     conflict = two;
   });
   denied = λ ds program E x y a s stated segment one_node contradicts. inr (inl (record {

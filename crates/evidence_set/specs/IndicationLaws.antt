@@ -3,7 +3,8 @@ use Rattle.std.specs.Prelude.{◌≡◌, ◌≢◌, ℕ, ◌<◌, List, IfSome}
 use Rattle.lms_sign.specs.declared.key.PublicKey.{PublicKey}
 use Rattle.authenticators.specs.declared.authenticator.Authenticator.{Authenticator}
 use Rattle.commitment.specs.declared.message.Message.{Message}
-use Rattle.proofs.specs.Contradictions.{AreTwoHashes, Contradicts}
+use Rattle.authenticators.specs.StatementSet.{Conflict}
+use Rattle.proofs.specs.Contradictions.{Contradicts}
 use Rattle.replay_verifier.specs.Conforming.{Conforms, setting_of}
 use Rattle.replay_verifier.specs.Meaning.{Meaning}
 use Rattle.item_forms.specs.declared.forms.AckItem.{AckItem}
@@ -28,7 +29,7 @@ IsSegment E y s = Has E y × (y.fields ≡ form.Segment s)
 -- What exposes a node: two hashes of one number; a statement that contradicts a segment of the node's log; a segment that does not
 -- conform. An exposed node is not suspected. Statements expose no other node, and a segment another one only by what it quotes.
 pub record ExposesNodes (S : Type 0) : Type 0 where
-  pub two_hashes : (ds : List (ℕ × PublicKey)) (program : Meaning S) (E : Items) (x y : Piece) (a b : Authenticator) → IsStated ds E x a → IsStated ds E y b → AreTwoHashes a b → IsIndication ds program E a.node Exposed
+  pub two_hashes : (ds : List (ℕ × PublicKey)) (program : Meaning S) (E : Items) (x y : Piece) (a b : Authenticator) → IsStated ds E x a → IsStated ds E y b → Conflict a b → IsIndication ds program E a.node Exposed
   pub denied : (ds : List (ℕ × PublicKey)) (program : Meaning S) (E : Items) (x y : Piece) (a : Authenticator) (s : Segment) → IsStated ds E x a → IsSegment E y s → a.node ≡ s.node → Contradicts a.seq a.hash s → IsIndication ds program E s.node Exposed
   pub deviating : (ds : List (ℕ × PublicKey)) (program : Meaning S) (E : Items) (y : Piece) (s : Segment) → IsSegment E y s → ¬ (Conforms (setting_of ds s.node program) s.prev s.entries) → IsIndication ds program E s.node Exposed
   pub not_suspected : (ds : List (ℕ × PublicKey)) (program : Meaning S) (E : Items) (j : ℕ) → IsIndication ds program E j Exposed → IsIndication ds program E j Suspected → ⊥

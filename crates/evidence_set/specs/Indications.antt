@@ -6,7 +6,8 @@
 use Rattle.std.specs.Prelude.{◌≡◌, ℕ, List, IsTrue, ◌⊎◌}
 use Rattle.lms_sign.specs.declared.key.PublicKey.{PublicKey}
 use Rattle.authenticators.specs.declared.authenticator.Authenticator.{Authenticator}
-use Rattle.proofs.specs.Contradictions.{AreTwoHashes, Contradicts}
+use Rattle.authenticators.specs.StatementSet.{Conflict}
+use Rattle.proofs.specs.Contradictions.{Contradicts}
 use Rattle.replay_verifier.specs.Conforming.{Conforms, setting_of}
 use Rattle.replay_verifier.specs.Meaning.{Meaning}
 use Rattle.item_forms.specs.declared.forms.Fields.{Fields}
@@ -29,7 +30,7 @@ pub record SaysTwo (ds : List (ℕ × PublicKey)) (E : Items) (j : ℕ) : Type 0
   pub other : Authenticator
   pub one_held : IsHeld ds E j one
   pub other_held : IsHeld ds E j other
-  pub conflict : AreTwoHashes one other
+  pub conflict : Conflict one other
 
 -- An authenticator of node j contradicts a segment of its log.
 pub record Denies (ds : List (ℕ × PublicKey)) (E : Items) (j : ℕ) : Type 0 where
