@@ -1,12 +1,14 @@
 //! Authenticators: signed statements of a node about its log (PeerReview, SOSP 2007).
 
-ghost use Rattle.std.specs.Prelude.{◌≡◌, ◌↔◌, IsTrue};
+ghost use Rattle.std.specs.Prelude.{◌≡◌, ◌↔◌, IfOk, IsTrue};
 ghost use Rattle.authenticators.specs.Statement.{Signed, is_signed, statement_text};
 
 use crate::directory::Directory;
 use crate::node::NodeId;
 use lms_sign::verify;
 use log_chain::{ByteString, Hash};
+use outcome::Memory;
+use std::alloc::Global;
 
 /// A node's signature of the number and the hash of an entry of its log. Two of one number and two hashes show that the
 /// node keeps more than one log.
@@ -49,5 +51,18 @@ impl Authenticator {
         ensures test { result ≡ is_signed directory.now self.now.node self.now.seq self.now.hash self.now.sig }
     {
         directory.verifies(self.node, self.seq, self.hash, self.sig.as_slice())
+    }
+
+    /// A copy.
+    pub fn try_clone(&self, alloc: Global) -> Result<Authenticator, Memory>
+        ensures { IfOk result (λ copy. copy ≡ self.now) }
+    {
+        let sig = self.sig.try_clone(alloc)?;
+        Ok(Authenticator {
+            node: self.node,
+            seq: self.seq,
+            hash: self.hash,
+            sig,
+        })
     }
 }

@@ -7,7 +7,7 @@ ghost use Rattle.proofs.specs.declared.proof.Parts.TheVariants as parts;
 ghost use Rattle.proofs.specs.Cases.{Case};
 ghost use Rattle.proofs.specs.ProofTexts.{FitsParts, auth_part_at, auth_segment_at, form_parts_at, nonconforming_at, proof_at, proof_of, proof_text, segment_part_at, two_auths_at};
 
-use crate::framing::{framed_len, put_framed, read_framed};
+use crate::framing::{framed_len, read_framed, write_framed};
 use crate::proof::{Parts, Proof};
 use authenticators::Authenticator;
 use evidence_item::{DecodeFault, Fields, Form, Segment};
@@ -147,8 +147,8 @@ fn put_two_auths(
     ensures { OnOk result (writer.new ≡ writer.old ++ proof_text (parts.TwoAuths first.now second.now)) }
 {
     writer.u8(1)?;
-    put_framed(writer, Form::Auth(first))?;
-    put_framed(writer, Form::Auth(second))?;
+    write_framed(writer, Form::Auth(first))?;
+    write_framed(writer, Form::Auth(second))?;
     Ok(())
 }
 
@@ -161,8 +161,8 @@ fn put_auth_segment(
     ensures { OnOk result (writer.new ≡ writer.old ++ proof_text (parts.AuthSegment auth.now segment.now)) }
 {
     writer.u8(2)?;
-    put_framed(writer, Form::Auth(auth))?;
-    put_framed(writer, Form::Segment(segment))?;
+    write_framed(writer, Form::Auth(auth))?;
+    write_framed(writer, Form::Segment(segment))?;
     Ok(())
 }
 
@@ -171,7 +171,7 @@ fn put_nonconforming(writer: &mut FieldWriter, segment: &Segment) -> Result<(), 
     ensures { OnOk result (writer.new ≡ writer.old ++ proof_text (parts.Nonconforming segment.now)) }
 {
     writer.u8(3)?;
-    put_framed(writer, Form::Segment(segment))?;
+    write_framed(writer, Form::Segment(segment))?;
     Ok(())
 }
 

@@ -2,7 +2,6 @@
 
 ghost use Rattle.std.specs.Prelude.{◌+◌, ◌≡◌, ◌≤◌, length};
 ghost use Rattle.log_chain.specs.Fields.{Writes};
-ghost use Rattle.proofs.specs.within.Writing.{Puts};
 ghost use Rattle.outcome.specs.Outcome.{Took};
 ghost use Rattle.item_forms.specs.declared.fault.DecodeFault.TheVariants as fault;
 ghost use Rattle.item_forms.specs.Forms.{shown};
@@ -62,24 +61,15 @@ pub fn framed_len(form: Form<'_>) -> usize
     4 + form.encoded_len()
 }
 
-/// The length, and then the item; after a refusal a part of them may be written.
-#[tactic(auto, using(item_forms::proofs::SpellingLengths::spelling_bound))]
-pub(crate) fn put_framed(writer: &mut FieldWriter, form: Form<'_>) -> Result<(), Memory>
-    requires { Fits (shown form) }
-    ensures { Puts result writer.old writer.new (framed (shown form.entry)) }
-{
-    writer.u32(form.encoded_len() as u32)?;
-    form.encode_to(writer)?;
-    Ok(())
-}
-
 /// Writes an item of this form behind its length, behind what is written. Where memory runs out, nothing of it is written.
+#[tactic(auto, using(item_forms::proofs::SpellingLengths::spelling_bound))]
 pub fn write_framed(writer: &mut FieldWriter, form: Form<'_>) -> Result<(), Memory>
     requires { Fits (shown form) }
     ensures { Writes result writer.old writer.new (framed (shown form.entry)) }
 {
     let before = writer.written();
-    if let Err(memory) = put_framed(writer, form) {
+    writer.u32(form.encoded_len() as u32)?;
+    if let Err(memory) = form.encode_to(writer) {
         writer.truncate(before);
         return Err(memory);
     }
