@@ -256,3 +256,18 @@ fn a_refusal_stays(rt: HostRuntime) -> Result<(), Fail> {
     );
     Ok(())
 }
+
+/// Whether what is read of a container is written as that container again.
+fn is_written_again(alloc: Global) -> Result<bool, Fail> {
+    let mut signer = make_signer(alloc)?;
+    let text = container(alloc, &mut signer, [5, 6])?;
+    let items = read_all(alloc, &Tally, &signer.directory, MAGIC, &text)?;
+    let again = write_all(alloc, MAGIC, &items)?;
+    Ok(again.as_slice() == text.as_slice())
+}
+
+#[test]
+fn what_is_read_is_written_again(rt: HostRuntime) -> Result<(), Fail> {
+    assert!(rt; is_written_again(rt.alloc())?);
+    Ok(())
+}
