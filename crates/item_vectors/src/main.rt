@@ -5,6 +5,8 @@
 //! segment), `conforms`, or `deviates PLACE NUMBER NAME`. Each line is answered anew, and one that is answered otherwise is told.
 #![tactic(auto)]
 
+ghost use Rattle.std.specs.Prelude.{◌≡◌, ◌+◌, ◌-◌, ◌^◌, if◌then◌else◌, min};
+
 use anyhow::{Result, bail};
 use authenticators::Directory;
 use evidence_item::{Checked, Item, check_item};
@@ -86,7 +88,10 @@ struct Counts {
 
 impl Counts {
     /// The counts with one answer more.
-    fn with(self, agrees: bool) -> Counts {
+    fn with(self, agrees: bool) -> Counts
+        ensures agreed { result.agreed ≡ (if agrees then min (self.agreed + 1) (2 ^ 32 - 1) else self.agreed) }
+        ensures differed { result.differed ≡ (if agrees then self.differed else min (self.differed + 1) (2 ^ 32 - 1)) }
+    {
         if agrees {
             Counts {
                 agreed: self.agreed.saturating_add(1),
