@@ -90,8 +90,8 @@ impl AuthenticatorStore {
     /// Puts all of the statements into the set, and those that are held already or stand twice only once. It checks no
     /// signature. Where a growth is refused, and only there, the answer is `Memory` and the store is as it was.
     ///
-    /// A few are inserted one after the other. More of them are sorted together with those that are held, so that n
-    /// statements take n log n comparisons.
+    /// Up to sixteen are inserted one after the other. More of them are sorted together with those that are held, which
+    /// takes n log n comparisons, where n counts both.
     pub fn insert_all(&mut self, statements: Vec<Authenticator>) -> Result<(), Memory>
         ensures added { OnOk result (IsUnion self.old statements.items self.new) }
         ensures unchanged { OnErr result (self.new ≡ self.old) }
