@@ -6,7 +6,6 @@ use Rattle.lms_sign.specs.Signing.{PrivateKey, key_after, public_key, signature}
 use Rattle.log_chain.specs.declared.entry.Entry.{Entry}
 use Rattle.log_chain.specs.Chain.{base, chain_end}
 use Rattle.log_chain.specs.History.{History, grown}
-use Rattle.log_chain.proofs.Chains.{chain_end-append}
 use Rattle.authenticators.specs.declared.authenticator.Authenticator.{Authenticator}
 use Rattle.authenticators.specs.Statement.{statement_text}
 use Rattle.replay_verifier.specs.declared.output.Output.{Output}
@@ -16,7 +15,7 @@ use Rattle.commitment.specs.declared.message.Ack.{Ack}
 use Rattle.commitment.specs.declared.committing.Signatures.{Signatures}
 use Rattle.commitment.specs.within.Blanks.{all_of}
 use Rattle.commitment.specs.Accounts.{Account, next_seq, next_entry, next_hash, next_signature, received, recv_act, ack_next, sent_next, message_next}
-use Rattle.commitment.proofs.Entries.{next-push}
+use Rattle.commitment.proofs.Entries.{chain_end-push, next-push}
 
 -- What the log and the key made of an entry: the history after the one of the account, the entry's number, the hash before it,
 -- its own hash, and its signature.
@@ -46,7 +45,7 @@ is_next a x h h' place prev same at grows =
       next = ap next_seq entries ∙ next-push a.entries (next_entry a x);
       seq = seq;
       before = before;
-      hash = ap (λ (p : List ℕ). chain_end p h'.entries) prev' ∙ ap (chain_end base) entries ∙ chain_end-append base a.entries (next_entry a x ∷ []);
+      hash = ap (λ (p : List ℕ). chain_end p h'.entries) prev' ∙ ap (chain_end base) entries ∙ chain_end-push base a.entries (next_entry a x);
     }
 
 -- each copy of its signature

@@ -3,7 +3,6 @@ use Rattle.std.proofs.Common.{◌≡◌, ℕ, zero, suc, ◌-◌, ◌<◌, List,
 use Rattle.lms_sign.specs.declared.key.PublicKey.{PublicKey}
 use Rattle.log_chain.specs.declared.entry.Entry.{Entry}
 use Rattle.log_chain.specs.Chain.{chain_end, entry_hash, hashes}
-use Rattle.log_chain.proofs.Chains.{length-hashes}
 use Rattle.authenticators.specs.Statement.{is_signed}
 use Rattle.item_forms.specs.Segments.{has_no_entry, last_seq}
 
@@ -18,9 +17,9 @@ hash_at_end prev (f ∷ []) (suc n) h l e = absurd (omega arith)
 hash_at_end prev (f ∷ g ∷ es) zero h l e = absurd (omega arith)
 hash_at_end prev (f ∷ g ∷ es) (suc n) h l e = hash_at_end (entry_hash prev f) (g ∷ es) n h (omega arith) e
 
-pub end_hash : (prev : List ℕ) (es : List Entry) (known : List (List ℕ)) (h : List ℕ) → known ≡ hashes prev es → 0 < length known → h ≡ get_or known (length known - 1) h → h ≡ chain_end prev es
-end_hash prev es known h k l e =
-    let m : length known ≡ length es = ap length k ∙ length-hashes prev es in
+pub end_hash : (prev : List ℕ) (es : List Entry) (known : List (List ℕ)) (h : List ℕ) → length (hashes prev es) ≡ length es → known ≡ hashes prev es → 0 < length known → h ≡ get_or known (length known - 1) h → h ≡ chain_end prev es
+end_hash prev es known h counted k l e =
+    let m : length known ≡ length es = ap length k ∙ counted in
     hash_at_end prev es (length known - 1) h (omega arith) (e ∙ ap (λ (w : List (List ℕ)). get_or w (length known - 1) h) k)
 
 pub same_signed : (ds : List (ℕ × PublicKey)) (node m n : ℕ) (g h s t : List ℕ) → m ≡ n → g ≡ h → s ≡ t → is_signed ds node m g s ≡ is_signed ds node n h t

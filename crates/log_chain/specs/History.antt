@@ -1,5 +1,5 @@
 -- A secure history: a log whose numbers rise, with the hash of each entry (PeerReview, SOSP 2007).
-use Rattle.std.specs.Prelude.{ℕ, ◌-◌, ◌==◌, ◌&&◌, Bool, true, List, [], ◌∷◌, ◌++◌, length, filter, max, Option, Some, None, Result, Ok, Err, nat_lt, nat_le, slice_get, if◌then◌else◌}
+use Rattle.std.specs.Prelude.{◌≡◌, ℕ, ◌-◌, ◌<◌, ◌==◌, ◌&&◌, Bool, true, List, [], ◌∷◌, ◌++◌, length, filter, max, Option, Some, None, Result, Ok, Err, nat_lt, nat_le, slice_get, slice_index_or, if◌then◌else◌}
 use Rattle.std.specs.List.{list_any}
 use Rattle.log_chain.specs.declared.entry.Entry.{Entry}
 use Rattle.log_chain.specs.declared.fault.AppendFault.{AppendFault}
@@ -72,6 +72,11 @@ between from to es = filter (λ e. nat_le from e.seq && nat_le e.seq to) es
 -- Whether an entry has the number.
 abbrev pub has_seq : ℕ → List Entry → Bool
 has_seq seq es = list_any (λ e. e.seq == seq) es
+
+-- An entry stands at the place of the list and has the number.
+pub record StandsAt (es : List Entry) (seq place : ℕ) : Type 0 where
+  pub within : place < length es
+  pub is : (d : Entry) → (slice_index_or es place d).seq ≡ seq
 
 -- An entry's number, beside the end of the chain.
 abbrev pub stamp : History → Option Entry → Option (ℕ × List ℕ)

@@ -1,9 +1,9 @@
 //! Tests of a new entry, and places of entries among numbers that rise.
 
-ghost use Rattle.std.specs.Prelude.{◌≡◌, IfErr, IfOk, IfSome, IsTrue, None, OnOk, Some, is_some};
+ghost use Rattle.std.specs.Prelude.{◌≡◌, IfErr, IfOk, IfSome, None, OnOk, Some, is_some};
 ghost use Rattle.log_chain.specs.Chain.{Rising};
-ghost use Rattle.log_chain.specs.History.{append_fault, are_ends, has_seq, segment_fault};
-ghost use Rattle.log_chain.specs.within.Places.{IsCut, IsPlace, StandsAt};
+ghost use Rattle.log_chain.specs.History.{StandsAt, append_fault, are_ends, has_seq, segment_fault};
+ghost use Rattle.log_chain.specs.within.Places.{IsCut};
 
 use crate::entry::Entry;
 use crate::fault::{AppendFault, SegmentFault};
@@ -25,22 +25,14 @@ pub(crate) fn append_fault(entries: &[Entry], entry: &Entry) -> Option<AppendFau
     None
 }
 
-/// The place where an entry of this number stands or would stand, by binary search.
-pub(crate) fn place_of(entries: &[Entry], seq: u64) -> usize
+/// The place of the entry with the number, if there is one, in a list whose numbers rise. It is looked up by binary search, and
+/// takes no memory.
+pub fn place_of(entries: &[Entry], seq: u64) -> Option<usize>
     requires { Rising entries.now }
-    ensures { IsPlace entries.now seq result }
+    ensures has { is_some result ≡ has_seq seq entries.now }
+    ensures stands { IfSome result (λ place. StandsAt entries.now seq place) }
 {
-    entries.partition_point(|entry| entry.seq < seq)
-}
-
-/// Whether an entry has the number, whose place is known.
-pub(crate) fn stands_at(entries: &[Entry], seq: u64, place: usize) -> bool
-    requires rising { Rising entries.now }
-    requires place { IsPlace entries.now seq place }
-    ensures has { result ≡ has_seq seq entries.now }
-    ensures stands { IsTrue result → StandsAt entries.now seq place }
-{
-    place < entries.len() && entries[place].seq == seq
+    entries.binary_search_by_key(&seq, |entry| entry.seq).ok()
 }
 
 /// The places between which the entries from one number to another stand, if both are numbers of entries.
@@ -52,14 +44,8 @@ fn cut_of(entries: &[Entry], from: u64, to: u64) -> Option<(usize, usize)>
     if from > to {
         return None;
     }
-    let start = place_of(entries, from);
-    if !stands_at(entries, from, start) {
-        return None;
-    }
-    let last = place_of(entries, to);
-    if !stands_at(entries, to, last) {
-        return None;
-    }
+    let start = place_of(entries, from)?;
+    let last = place_of(entries, to)?;
     Some((start, last + 1))
 }
 

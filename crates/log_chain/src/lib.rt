@@ -3,7 +3,8 @@
 //! - `FieldReader` reads a field as `specs/Fields.antt` says, and a refusal leaves its place. `FieldWriter` writes the
 //!   fields' texts one behind the other. `proofs/Codec.antt` and the files beside it put both together for formats.
 //! - `entry_hash` and `chain_end` are those of `specs/Chain.antt`; `laws` has what follows of the definitions alone.
-//! - `SecureHistory` keeps each entry's hash, takes only numbers that rise, and cuts segments.
+//! - `SecureHistory` keeps each entry's hash, takes only numbers that rise, and cuts segments. `place_of` looks an entry's number
+//!   up among numbers that rise.
 #![tactic(auto)]
 
 pub use byte_string::ByteString;
@@ -12,6 +13,7 @@ pub use entry_list::EntryList;
 pub use fault::{AppendFault, FieldFault, SegmentFault};
 pub use field_reader::FieldReader;
 pub use field_writer::FieldWriter;
+pub use finding::place_of;
 pub use hash::{Hash, base_hash};
 pub use limits::{LONGEST_CONTENT, MOST_ENTRIES};
 pub use outcome::Memory;

@@ -13,7 +13,7 @@ use crate::byte_string::ByteString;
 use crate::entry::{Entry, entry_hash};
 use crate::entry_list::EntryList;
 use crate::fault::{AppendFault, SegmentFault};
-use crate::finding::{append_fault, place_of, segment_places, stands_at};
+use crate::finding::{append_fault, place_of, segment_places};
 use crate::hash::{Hash, base_hash};
 use outcome::Memory;
 use std::alloc::Global;
@@ -134,10 +134,7 @@ impl SecureHistory {
     pub fn hash_at(&self, seq: u64) -> Option<Hash>
         ensures { result ≡ hash_at self.now seq }
     {
-        let place = place_of(&self.entries, seq);
-        if !stands_at(&self.entries, seq, place) {
-            return None;
-        }
+        let place = place_of(&self.entries, seq)?;
         Some(self.hash_before(place + 1))
     }
 

@@ -4,7 +4,7 @@ use crate::entry::hashed_text;
 use crate::{
     AppendFault, AppendRefused, ByteString, Entry, EntryList, FieldFault, FieldReader, FieldWriter,
     Hash, SecureHistory, SegmentFault, base_hash, chain_end, entry_hash, entry_hash_of_digest,
-    kind,
+    kind, place_of,
 };
 use sha2::{Digest, Sha256};
 use std::alloc::{AllocError, Global};
@@ -227,6 +227,23 @@ fn a_history_keeps_the_chain(rt: HostRuntime) -> Result<(), Fail> {
     assert!(rt; prev == base_hash());
     assert_eq!(rt; entries.len(), 1);
     assert_eq!(rt; history.segment(9, 7).err(), Some(SegmentFault::NoEntry));
+    Ok(())
+}
+
+#[test]
+fn an_entry_is_found_by_its_number(rt: HostRuntime) -> Result<(), Fail> {
+    let mut history = SecureHistory::new(rt.alloc());
+    assert!(rt; place_of(history.entries(), 1).is_none());
+    for entry in three_entries(rt.alloc())? {
+        let appended = history.append(entry.seq, entry.kind, entry.content);
+        assert!(rt; appended.is_ok());
+    }
+    let entries = history.entries();
+    assert_eq!(rt; place_of(entries, 1), Some(0));
+    assert_eq!(rt; place_of(entries, 7), Some(1));
+    assert_eq!(rt; place_of(entries, 9), Some(2));
+    assert!(rt; place_of(entries, 8).is_none());
+    assert!(rt; place_of(entries, 10).is_none());
     Ok(())
 }
 

@@ -9,6 +9,7 @@ ghost use Rattle.item_forms.specs.Spelling.{Fits};
 ghost use Rattle.proofs.specs.FramedItems.{framed, framed_at, is_other_tag};
 
 use evidence_item::{DecodeFault, Form, Item};
+use item_forms::laws::spellings_are_short;
 use log_chain::{FieldReader, FieldWriter};
 use outcome::Memory;
 use std::alloc::Global;
@@ -52,21 +53,22 @@ pub fn read_framed(
 }
 
 /// How many bytes an item of this form has with its length in front.
-#[tactic(auto, using(crate::proofs::Written::framed_length, item_forms::proofs::SpellingLengths::spelling_bound))]
+#[tactic(auto, using(crate::proofs::Written::framed_length))]
 pub fn framed_len(form: Form<'_>) -> usize
     requires { Fits (shown form) }
     ensures len { result ≡ length (framed (shown form.entry)) }
     ensures bound { result ≤ LONGEST_ITEM + 4 }
 {
+    spellings_are_short();
     4 + form.encoded_len()
 }
 
 /// Writes an item of this form behind its length, behind what is written. Where memory runs out, nothing of it is written.
-#[tactic(auto, using(item_forms::proofs::SpellingLengths::spelling_bound))]
 pub fn write_framed(writer: &mut FieldWriter, form: Form<'_>) -> Result<(), Memory>
     requires { Fits (shown form) }
     ensures { Writes result writer.old writer.new (framed (shown form.entry)) }
 {
+    spellings_are_short();
     let before = writer.written();
     writer.u32(form.encoded_len() as u32)?;
     if let Err(memory) = form.encode_to(writer) {

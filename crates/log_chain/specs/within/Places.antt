@@ -1,18 +1,7 @@
--- How a history finds an entry among numbers that rise: by its place in the list.
-use Rattle.std.specs.Prelude.{◌≡◌, ℕ, ◌-◌, ◌<◌, ◌≤◌, List, length, take, drop, slice_index_or}
+-- How a history finds the entries between two numbers: by their places in the list.
+use Rattle.std.specs.Prelude.{◌≡◌, ℕ, ◌-◌, ◌≤◌, List, length, take, drop}
 use Rattle.log_chain.specs.declared.entry.Entry.{Entry}
 use Rattle.log_chain.specs.History.{below, between}
-
--- The numbers before the place are below seq, and those from the place on are not.
-pub record IsPlace (es : List Entry) (seq i : ℕ) : Type 0 where
-  pub bound : i ≤ length es
-  pub before : (k : ℕ) (d : Entry) → k < i → (slice_index_or es k d).seq < seq
-  pub after : (k : ℕ) (d : Entry) → i ≤ k → k < length es → seq ≤ (slice_index_or es k d).seq
-
--- An entry stands at the place and has the number.
-pub record StandsAt (es : List Entry) (seq i : ℕ) : Type 0 where
-  pub within : i < length es
-  pub is : (d : Entry) → (slice_index_or es i d).seq ≡ seq
 
 -- The entries between two numbers are those from the place start up to before the place end.
 pub record IsCut (es : List Entry) (from to start end : ℕ) : Type 0 where

@@ -1,14 +1,18 @@
-use Rattle.std.proofs.Common.{ltb, ltb-true, ltb-false, arith, rules}
-use Rattle.std.proofs.lemmas.List.Sorted.{IsPartitionPoint-from_clause, IsPartitionedBy-ltb}
-use Rattle.log_chain.proofs.Finds.{non_decreasing}
+use Rattle.std.proofs.Common.{◌≡◌, rules}
+use Rattle.std.specs.Prelude.{IfSome, is_some}
+use Rattle.std.proofs.lemmas.List.Sorted.{answers_always}
+use Rattle.log_chain.specs.History.{StandsAt, has_seq}
+use Rattle.log_chain.proofs.Finds.{searched}
 use Rattle.log_chain.proofs.finding.place_of.Goals as goal
 
-pub returns : goal.returns
-returns c =
-    let parted = IsPartitionedBy-ltb (λ e. e.seq) _ c.args.seq (non_decreasing _ c.requires) in
-    let point = IsPartitionPoint-from_clause (λ e. ltb e.seq c.args.seq) _ _ c.partition_point.ensures.partitioned parted (λ a r q k. search rules) in
-    record {
-      bound = c.partition_point.ensures.bound;
-      before = λ k d lt. ltb-true _ _ (point.0 k d (omega arith) lt);
-      after = λ k d le within. ltb-false _ _ (point.1 k d le within);
-    }
+found : (c : goal.After-ok) → (is_some c.ok.result ≡ has_seq c.args.seq c.args.entries.now) × IfSome c.ok.result (λ place. StandsAt c.args.entries.now c.args.seq place)
+found c =
+    let facts = c.binary_search_by_key.ensures in
+    let by_number = facts.position (λ e. e.seq) (answers_always _ _ _ (λ f a r g called. search rules)) in
+    rw c.ok.ensures.value (searched c.args.entries.now c.args.seq c.binary_search_by_key.result c.requires facts.bound by_number)
+
+pub returns-clause-has : goal.returns-clause-has
+returns-clause-has c = (found c).0
+
+pub returns-clause-stands : goal.returns-clause-stands
+returns-clause-stands c = (found c).1

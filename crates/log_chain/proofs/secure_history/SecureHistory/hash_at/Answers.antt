@@ -1,16 +1,15 @@
-use Rattle.std.proofs.Common.{◌∙◌, sym, rules}
+use Rattle.std.proofs.Common.{◌∙◌}
 use Rattle.log_chain.specs.within.Keeping.{seen}
 use Rattle.log_chain.proofs.Finds.{hash_none, hash_some}
 use Rattle.log_chain.proofs.secure_history.SecureHistory.hash_at.Goals as goal
 
-pub returns-then-not-stands_at : goal.returns-then-not-stands_at
-returns-then-not-stands_at c =
-    let has = sym c.if-not-stands_at.true ∙ rw c.deref-2.ensures.value at c.stands_at.ensures.has in
-    rw (← c.self.view_is) (hash_none (seen c.self.inside) c.args.seq has)
+pub returns-in_err-place : goal.returns-in_err-place
+returns-in_err-place c =
+    let has = rw c.deref.ensures.value at c.in_err-place.ensures.has in
+    c.from_residual.ensures ∙ rw (← c.self.view_is) (hash_none (seen c.self.inside) c.args.seq has)
 
 pub returns : goal.returns
 returns c =
-    let has = sym c.if-not-stands_at.false ∙ rw c.deref-2.ensures.value at c.stands_at.ensures.has in
-    let place = rw c.deref.ensures.value at c.place_of-place.ensures in
-    let stands = rw c.deref-2.ensures.value at (c.stands_at.ensures.stands (search rules)) in
-    rw (c.hash_before.ensures, ← c.self.view_is) (hash_some (seen c.self.inside) c.args.seq c.place_of-place.result has c.self.invariant.rising place stands)
+    let has = rw c.deref.ensures.value at c.in_ok-place.ensures.has in
+    let stands = rw c.deref.ensures.value at c.in_ok-place.ensures.stands in
+    rw (c.hash_before.ensures, ← c.self.view_is) (hash_some (seen c.self.inside) c.args.seq c.in_ok-place.place has c.self.invariant.rising stands)
