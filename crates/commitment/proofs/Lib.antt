@@ -4,6 +4,7 @@ mod Entries
 mod Grown
 mod HonestNodes
 mod KeptItems
+mod NextKept
 mod NodeCalls
 mod NodeGrowth
 mod Placed

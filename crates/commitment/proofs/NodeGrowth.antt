@@ -8,10 +8,10 @@ use Rattle.log_chain.specs.Chain.{base, Rising}
 use Rattle.log_chain.specs.History.{last_entry}
 use Rattle.outcome.proofs.ByteLists.{spelled_in_eight}
 use Rattle.replay_verifier.specs.declared.output.Output.{Output}
-use Rattle.replay_verifier.specs.Conforming.{Act, act, Block, IsProper, Rests, Setting, head_act, send_act, sent_by, step_of}
+use Rattle.replay_verifier.specs.Conforming.{Act, act, Block, Checkpoints, IsProper, Rests, Setting, head_act, send_act, sent_by, step_of}
 use Rattle.replay_verifier.specs.Meaning.{Meaning, Ticked}
 use Rattle.replay_verifier.proofs.Growing.{rests_block}
-use Rattle.commitment.specs.Accounts.{Account, all_sent, next_entry, next_seq, number_of, randomizer, received, recv_act, sent_next}
+use Rattle.commitment.specs.Accounts.{Account, all_sent, logged, next_entry, next_seq, number_of, randomizer, received, recv_act, sent_next}
 use Rattle.authenticators.specs.Directory.{key_at}
 use Rattle.log_chain.specs.declared.limits.TheConstants.{MOST_ENTRIES}
 use Rattle.commitment.specs.Nodes.{IsNode, NodeState, setting, tick}
@@ -110,6 +110,15 @@ module _ {S : Type 0} (Is : S → Type 0) (p : Meaning S) where
         state = state;
         me = omega (arith, is.me, same);
       }
+
+  -- A node that has logged a checkpoint.
+  pub node_checkpointed : (n : NodeState S) → IsNode Is p n → length n.account.entries + 1 ≤ MOST_ENTRIES
+      → IsNode Is p (record { directory = n.directory; account = logged n.account (head_act (setting p n) n.state Checkpoints); state = n.state })
+  node_checkpointed n is limit =
+      let a = n.account in
+      let x : Act = head_act (setting p n) n.state Checkpoints in
+      let up = next_rising a x is.rests.rising (rests_last (setting p n) a.entries n.state is.rests) in
+      node_after n Checkpoints x (logged a x) (logged a x) is tt refl refl refl refl (nothing_sent (logged a x) up) limit is.state
 
 -- the account with a receipt: its log, and the same node and public key
 pub received_entries : (a : Account) (c : List ℕ) (n : ℕ) (content : List ℕ) → (received a c n content).entries ≡ a.entries ++ next_entry a (recv_act content) ∷ []

@@ -91,9 +91,13 @@ pub statement_is : (a : Account) (c : List ℕ) (x : Act) (seq : ℕ) (hash sig 
     → ◌≡◌ {A = Authenticator} (record { node = a.me; seq = seq; hash = hash; sig = sig }) (record { node = a.me; seq = next_seq a.entries; hash = next_hash a x; sig = next_signature a c x })
 statement_is a c x seq hash sig s h g = λ j. record { node = a.me; seq = s j; hash = h j; sig = g j }
 
+-- The key verifies what it signs of the next entry.
+abbrev pub NextVerifies : Account → List ℕ → Act → Type 0
+NextVerifies a c x = Verifies (public_key a.key) (statement_text (next_seq a.entries) (next_hash a x)) (next_signature a c x)
+
 -- what was verified is the statement
 pub next_verifies : (a : Account) (c : List ℕ) (x : Act) (seq : ℕ) (hash sig : List ℕ) → seq ≡ next_seq a.entries → hash ≡ next_hash a x → sig ≡ next_signature a c x
-    → Verifies (public_key a.key) (statement_text seq hash) sig → Verifies (public_key a.key) (statement_text (next_seq a.entries) (next_hash a x)) (next_signature a c x)
+    → Verifies (public_key a.key) (statement_text seq hash) sig → NextVerifies a c x
 next_verifies a c x seq hash sig s h g v =
     subst (λ (t : List ℕ). Verifies (public_key a.key) (statement_text (next_seq a.entries) (next_hash a x)) t) g
     (subst (λ (t : List ℕ). Verifies (public_key a.key) (statement_text (next_seq a.entries) t) sig) h

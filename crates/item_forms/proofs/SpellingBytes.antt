@@ -33,18 +33,12 @@ number_32 n =
     let f_2 : IsBytes t_2 = cell (n / 65536) t_1 f_1 in
     cell (n / 16777216) t_2 f_2
 
+-- its four higher bytes stand before the others
 number_64 : (n : ℕ) → IsBytes (to_be_bytes w64 n)
 number_64 n =
-    let t_0 : List ℕ = n % 256 ∷ [] in
-    let f_0 : IsBytes t_0 = cell n [] IsBytes-none in
-    let t_1 : List ℕ = n / 256 % 256 ∷ t_0 in
-    let f_1 : IsBytes t_1 = cell (n / 256) t_0 f_0 in
-    let t_2 : List ℕ = n / 65536 % 256 ∷ t_1 in
-    let f_2 : IsBytes t_2 = cell (n / 65536) t_1 f_1 in
-    let t_3 : List ℕ = n / 16777216 % 256 ∷ t_2 in
-    let f_3 : IsBytes t_3 = cell (n / 16777216) t_2 f_2 in
+    let t_3 : List ℕ = to_be_bytes w32 n in
     let t_4 : List ℕ = n / 4294967296 % 256 ∷ t_3 in
-    let f_4 : IsBytes t_4 = cell (n / 4294967296) t_3 f_3 in
+    let f_4 : IsBytes t_4 = cell (n / 4294967296) t_3 (number_32 n) in
     let t_5 : List ℕ = n / 1099511627776 % 256 ∷ t_4 in
     let f_5 : IsBytes t_5 = cell (n / 1099511627776) t_4 f_4 in
     let t_6 : List ℕ = n / 281474976710656 % 256 ∷ t_5 in

@@ -13,11 +13,19 @@ use Rattle.commitment.specs.Accounts.{Account, ack_next, all_sent, messages, ran
 use Rattle.commitment.specs.Limits.{room_fault}
 use Rattle.commitment.specs.Messages.{quote}
 use Rattle.commitment.specs.Nodes.{IsNode, NodeState, receipt, receives, setting}
-use Rattle.commitment.proofs.NodeCalls.{is_heard, receives_is, receives_not}
+use Rattle.commitment.proofs.NodeCalls.{IsHeard, is_heard, receives_is, receives_not}
 use Rattle.commitment.proofs.NodeGrowth.{HasLast, next_last, next_rising, node_after, received_entries, received_key, received_me, rests_last, sent_on}
 use Rattle.commitment.proofs.Ready.{fits}
 use Rattle.commitment.proofs.Receipts.{receipt_fits, receipt_proper, receipt_reads, receivable_by}
+use Rattle.commitment.proofs.node.Node.receive.Given.{Over}
+use Rattle.commitment.proofs.node.Node.receive.Goals.{After-sent-outputs}
 use Rattle.commitment.proofs.node.Node.receive.Goals as goal
+
+-- the node has stepped on the message, which is new to it
+stepped : (g : Over) (c : After-sent-outputs g) → IsHeard g.P.Program.means (record { directory = c.self.inside.directory; account = c.self.inside.log.account; state = c.self.inside.state }) c.args.message.now c.in_ok-step.step c.sent-outputs.result.items
+stepped g c =
+    is_heard g.P.Program.means _ c.args.message.now c.me-me.result _ _ c.in_ok-step.step c.sent-outputs.result.items c.me-me.ensures c.in_default.ensures c.in_ok-content.ensures c.in_default-ack_of.ensures c.as_slice.ensures c.in_ok-step.ensures
+    c.sent-outputs.ensures.sent
 
 pub message_fits-requires : goal.message_fits-requires
 message_fits-requires g c =
@@ -42,7 +50,7 @@ returns-in_err-ack-clause-refused g c =
     let m = c.args.message.now in
     let st = c.in_ok-step.step in
     let os = c.sent-outputs.result.items in
-    let heard = is_heard p n m c.me-me.result _ _ st os c.me-me.ensures c.in_default.ensures c.in_ok-content.ensures c.in_default-ack_of.ensures c.as_slice.ensures c.in_ok-step.ensures c.sent-outputs.ensures.sent in
+    let heard = stepped g (goal.at.returns-in_err-ack-clause-refused g c).After-sent-outputs in
     let e = c.in_err-ack.field-0.0 in
     let told : (e ≡ Memory) ⊎ (room_fault n.account (length os + 1) (length os + 1) ≡ Some e) = c.in_err-ack.ensures.refused in
     let fails : Fails Memory e (receives p n m c.args.entropy) = elim told [ inl memory ↦ inl memory | inr full ↦ inr (receives_not p n m c.args.entropy st os e heard full) ] in
@@ -58,7 +66,7 @@ invariant_of-self-2 g c =
     let m = c.args.message.now in
     let st = c.in_ok-step.step in
     let os = c.sent-outputs.result.items in
-    let heard = is_heard p n m c.me-me.result _ _ st os c.me-me.ensures c.in_default.ensures c.in_ok-content.ensures c.in_default-ack_of.ensures c.as_slice.ensures c.in_ok-step.ensures c.sent-outputs.ensures.sent in
+    let heard = stepped g (goal.at.invariant_of-self-2 g c).After-sent-outputs in
     let ok = receivable_by n.directory n.account.me c.me-me.result m c.me-me.ensures c.in_default.ensures in
     let quotes = c.message_fits.ensures in
     let is = c.self.invariant in
@@ -86,7 +94,7 @@ returns-clause-done g c =
     let m = c.args.message.now in
     let st = c.in_ok-step.step in
     let os = c.sent-outputs.result.items in
-    let heard = is_heard p n m c.me-me.result _ _ st os c.me-me.ensures c.in_default.ensures c.in_ok-content.ensures c.in_default-ack_of.ensures c.as_slice.ensures c.in_ok-step.ensures c.sent-outputs.ensures.sent in
+    let heard = stepped g (goal.at.returns-clause-done g c).After-sent-outputs in
     let r = randomizer c.args.entropy 0 in
     let content = c.in_ok-content.ensures in
     let account = c.in_ok-ack.ensures.account ∙ ap (λ (t : List ℕ). all_sent (received n.account r m.seq t) c.args.entropy 1 os) content in

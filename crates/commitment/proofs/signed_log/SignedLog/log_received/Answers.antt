@@ -7,17 +7,20 @@ use Rattle.authenticators.specs.declared.authenticator.Authenticator.{Authentica
 use Rattle.outcome.specs.Bytes.{IsBytes}
 use Rattle.commitment.specs.declared.message.Ack.{Ack}
 use Rattle.commitment.specs.declared.committing.Signatures.{Signatures}
-use Rattle.commitment.specs.Accounts.{Kept, Account, IsAccount, IsLogged, next_entry, next_seq, next_signature, received, recv_act, ack_next}
+use Rattle.commitment.specs.Accounts.{Kept, Account, IsAccount, next_signature, received, recv_act, ack_next}
 use Rattle.commitment.specs.within.Blanks.{all_of}
 use Rattle.commitment.specs.within.Keeping.{account_of}
 use Rattle.commitment.proofs.Grown.{account_received}
-use Rattle.commitment.proofs.Placed.{IsNext, ack_is, is_next, next_verifies, received_is, signed_thrice, statement_is}
+use Rattle.commitment.proofs.NextKept.{IsNextKept, is_next_kept}
+use Rattle.commitment.proofs.Placed.{IsNext, NextVerifies, ack_is, is_next, next_verifies, received_is, signed_thrice, statement_is}
 use Rattle.commitment.proofs.signed_log.SignedLog.log_received.Goals as goal
 
 -- What the calls made of the fields.
 record Made (c : goal.After-result-1) : Type 0 where
   next : IsNext (account_of c.self.inside) (recv_act c.args.draft.content) c.self.inside.history c.push-hash.new.history c.next_place-seq.result
+  logged : IsNextKept c.self.inside (recv_act c.args.draft.content) c.push-hash.new.history
   signatures : c.sign-signatures.result ≡ all_of (next_signature (account_of c.self.inside) c.args.c (recv_act c.args.draft.content))
+  verifies : NextVerifies (account_of c.self.inside) c.args.c (recv_act c.args.draft.content)
   account : account_of (record c.self.inside { key = c.sign-signatures.new.key; history = c.push-hash.new.history; signed = c.push_reserved.new.self; acks = c.insert.new.self })
       ≡ received (account_of c.self.inside) c.args.c c.args.draft.send_seq c.args.draft.content
 
@@ -40,32 +43,23 @@ made c =
     let acks = c.in-Ok.ensures.entries ∙ insert_entry-new (pointwise nat_eq) i.acks d.key _ none ∙ ap (λ (p : List ℕ × Ack). i.acks.entries ++ p ∷ []) pair in
     record {
       next = next;
+      logged = is_next_kept i c.args.self.now x c.push-hash.new.history c.next_place-seq.result k c.self.view_is next c.requires.room c.requires.number (lit≤ tt) (subst IsBytes c.as_slice.ensures c.bytes_fit.ensures);
       signatures = signatures;
+      verifies = next_verifies a c.args.c x _ _ _ next.seq hash statement c.sign-signatures.ensures.verifies;
       account = received_is a c.args.c d.send_seq d.content _ _ _ _ c.sign-signatures.ensures.used next.entries signed acks;
     }
 
 pub invariant_of-self : goal.invariant_of-self
 invariant_of-self c =
-    let i = c.self.inside in
-    let a = account_of i in
-    let d = c.args.draft in
-    let x = recv_act d.content in
     let k = c.self.invariant in
     let m = made c in
-    let hash = c.push-hash.ensures.hash ∙ m.next.hash in
-    let statement = ap (λ (s : Signatures). s.statement) m.signatures in
-    let verifies = next_verifies a c.args.c x _ _ _ m.next.seq hash statement c.sign-signatures.ensures.verifies in
-    let later = m.next.next in
-    let room = m.next.room in
-    let had : i.room ≡ c.args.self.now.room = ap (λ (k : Kept). k.room) c.self.view_is in
-    let number = ap (λ (k : Kept). next_seq k.account.entries) c.self.view_is in
-    let fits : IsLogged (next_entry a x) = record { seq = omega (arith, c.requires.number, number); kind = lit≤ tt; content = subst IsBytes c.as_slice.ensures c.bytes_fit.ensures } in
+    let some = m.logged.some in
     record {
-      account = subst IsAccount (sym m.account) (account_received a c.args.c d.send_seq d.content k.account fits c.requires.quoted verifies);
+      account = subst IsAccount (sym m.account) (account_received _ c.args.c c.args.draft.send_seq c.args.draft.content k.account m.logged.fits c.requires.quoted m.verifies);
       base = m.next.prev;
-      fresh = λ n le. k.fresh n (omega arith);
-      history_room = omega (arith, k.history_room);
-      signed_room = omega (arith, k.signed_room, c.push_reserved.ensures.len, c.push_reserved.ensures.capacity, c.requires.room);
+      fresh = m.logged.fresh;
+      history_room = m.logged.room;
+      signed_room = omega (arith, k.signed_room, c.push_reserved.ensures.len, c.push_reserved.ensures.capacity);
       unacknowledged_room = omega (arith, k.unacknowledged_room);
       sent_room = omega (arith, k.sent_room);
       acks_room = omega (arith, k.acks_room, c.in-Ok.ensures.spare);

@@ -8,21 +8,24 @@ use Rattle.authenticators.specs.declared.authenticator.Authenticator.{Authentica
 use Rattle.outcome.specs.Bytes.{IsBytes}
 use Rattle.commitment.specs.declared.message.Message.{Message}
 use Rattle.commitment.specs.declared.committing.Signatures.{Signatures}
-use Rattle.commitment.specs.Accounts.{Kept, Account, IsAccount, IsLogged, next_entry, next_seq, next_signature, sent_next, message_next}
+use Rattle.commitment.specs.Accounts.{Kept, Account, IsAccount, next_seq, next_signature, sent_next, message_next}
 use Rattle.replay_verifier.specs.Conforming.{send_act}
 use Rattle.commitment.specs.within.Blanks.{all_of}
 use Rattle.commitment.specs.within.Drafts.{output_of}
 use Rattle.std.proofs.lemmas.Bool.{ne_eqb}
 use Rattle.commitment.specs.within.Keeping.{account_of}
 use Rattle.commitment.proofs.Grown.{account_sent}
-use Rattle.commitment.proofs.Placed.{IsNext, is_next, lookup-push, message_is, next_verifies, sent_is, signed_thrice, statement_is}
+use Rattle.commitment.proofs.NextKept.{IsNextKept, is_next_kept}
+use Rattle.commitment.proofs.Placed.{IsNext, NextVerifies, is_next, lookup-push, message_is, next_verifies, sent_is, signed_thrice, statement_is}
 use Rattle.commitment.proofs.signed_log.SignedLog.log_sent.Goals as goal
 
 -- What the calls made of the fields.
 record Made (c : goal.After-result-2-1) : Type 0 where
   next : IsNext (account_of c.self.inside) (send_act (output_of c.args.draft)) c.self.inside.history c.push-hash.new.history c.next_place-seq.result
+  logged : IsNextKept c.self.inside (send_act (output_of c.args.draft)) c.push-hash.new.history
   signatures : c.sign-signatures.result ≡ all_of (next_signature (account_of c.self.inside) c.args.c (send_act (output_of c.args.draft)))
   sent : c.insert.new.self.entries ≡ c.self.inside.sent.entries ++ (next_seq c.self.inside.history.entries, message_next (account_of c.self.inside) c.args.c (output_of c.args.draft)) ∷ []
+  verifies : NextVerifies (account_of c.self.inside) c.args.c (send_act (output_of c.args.draft))
   account : account_of (record c.self.inside { key = c.sign-signatures.new.key; history = c.push-hash.new.history; signed = c.push_reserved.new.self; sent = c.insert.new.self; unacknowledged = c.push_reserved-2.new.self })
       ≡ sent_next (account_of c.self.inside) c.args.c (output_of c.args.draft)
 
@@ -49,34 +52,25 @@ made c =
     let unacknowledged = c.push_reserved-2.ensures.items ∙ ap (λ (n : ℕ). i.unacknowledged.items ++ n ∷ []) next.seq in
     record {
       next = next;
+      logged = is_next_kept i c.args.self.now x c.push-hash.new.history c.next_place-seq.result k c.self.view_is next c.requires.room c.requires.number (lit≤ tt) (subst IsBytes (c.as_slice.ensures ∙ c.requires.draft.content) c.bytes_fit.ensures);
       signatures = signatures;
+      verifies = next_verifies a c.args.c x _ _ _ next.seq hash statement c.sign-signatures.ensures.verifies;
       sent = sent;
       account = sent_is a c.args.c (output_of d) _ _ _ _ _ c.sign-signatures.ensures.used next.entries signed sent unacknowledged;
     }
 
 pub invariant_of-self : goal.invariant_of-self
 invariant_of-self c =
-    let i = c.self.inside in
-    let a = account_of i in
-    let d = c.args.draft in
-    let x = send_act (output_of d) in
     let k = c.self.invariant in
     let m = made c in
-    let hash = c.push-hash.ensures.hash ∙ m.next.hash in
-    let statement = ap (λ (s : Signatures). s.statement) m.signatures in
-    let verifies = next_verifies a c.args.c x _ _ _ m.next.seq hash statement c.sign-signatures.ensures.verifies in
-    let later = m.next.next in
-    let room = m.next.room in
-    let had : i.room ≡ c.args.self.now.room = ap (λ (k : Kept). k.room) c.self.view_is in
-    let number = ap (λ (k : Kept). next_seq k.account.entries) c.self.view_is in
-    let fits : IsLogged (next_entry a x) = record { seq = omega (arith, c.requires.number, number); kind = lit≤ tt; content = subst IsBytes (c.as_slice.ensures ∙ c.requires.draft.content) c.bytes_fit.ensures } in
+    let some = m.logged.some in
     record {
-      account = subst IsAccount (sym m.account) (account_sent a c.args.c (output_of d) k.account fits k.fresh verifies);
+      account = subst IsAccount (sym m.account) (account_sent _ c.args.c (output_of c.args.draft) k.account m.logged.fits k.fresh m.verifies);
       base = m.next.prev;
-      fresh = λ n le. ap (lookup (nat_eq n)) m.sent ∙ lookup-push (nat_eq n) i.sent.entries (next_seq i.history.entries) _ (k.fresh n (omega arith)) (ne_eqb n (next_seq i.history.entries) (λ same. omega arith));
-      history_room = omega (arith, k.history_room);
-      signed_room = omega (arith, k.signed_room, c.push_reserved.ensures.len, c.push_reserved.ensures.capacity, c.requires.room);
-      unacknowledged_room = omega (arith, k.unacknowledged_room, c.push_reserved-2.ensures.len, c.push_reserved-2.ensures.capacity, c.requires.room);
+      fresh = λ n le. ap (lookup (nat_eq n)) m.sent ∙ lookup-push (nat_eq n) c.self.inside.sent.entries (next_seq c.self.inside.history.entries) _ (m.logged.fresh n le) (ne_eqb n (next_seq c.self.inside.history.entries) (λ same. omega arith));
+      history_room = m.logged.room;
+      signed_room = omega (arith, k.signed_room, c.push_reserved.ensures.len, c.push_reserved.ensures.capacity);
+      unacknowledged_room = omega (arith, k.unacknowledged_room, c.push_reserved-2.ensures.len, c.push_reserved-2.ensures.capacity);
       sent_room = omega (arith, k.sent_room, c.in-Ok.ensures.spare);
       acks_room = omega (arith, k.acks_room);
     }
