@@ -4,6 +4,6 @@ pub mod GroupOrders
 pub mod ItemOrders
 pub mod ItemTexts
 pub mod SpellingBytes
-pub mod SpellingLengths
+mod SpellingLengths
 pub mod Tagged
 pub mod Written

@@ -17,9 +17,9 @@ use Rattle.item_forms.specs.declared.forms.Fields.TheVariants as form
 use Rattle.item_forms.specs.declared.forms.Segment.{Segment}
 use Rattle.item_forms.specs.Reading.{item_of}
 use Rattle.item_forms.specs.Refusals.{of_field}
+use Rattle.item_forms.specs.SpellingLaws.{SpellingsAreShort}
 use Rattle.item_forms.specs.Spelling.{Fits, FitsAuth, FitsSegment, spelling}
 use Rattle.item_forms.proofs.ItemTexts.{item_texts}
-use Rattle.item_forms.proofs.SpellingLengths.{spelling_bound}
 use Rattle.item_forms.proofs.Tagged.{IsTaken, form_taken, either_taken, none_taken}
 use Rattle.proofs.specs.declared.framing.TheConstants.{LONGEST_ITEM}
 use Rattle.proofs.specs.declared.proof.Parts.{Parts}
@@ -70,22 +70,7 @@ body_at bytes = told_as of_field (bytes_at LONGEST_ITEM bytes)
 body : IsField body_at bytes_text (IsBytesUpTo LONGEST_ITEM)
 body = told of_field (bytes_field LONGEST_ITEM (lit< tt))
 
-pub framed_field : (wanted : Option ℕ) → IsField (framed_at wanted) framed (FitsAs wanted)
-unfolding framed_at
-framed_field wanted = record {
-  takes = λ bytes x rest fits e.
-      let b = bind_ok (body_at bytes) (λ r. tagged_item_of wanted r.0 >>= λ z. Ok (z, r.1)) (x, rest) e in
-      let c = bind_ok (tagged_item_of wanted b.0.0) (λ z. Ok (z, b.0.1)) (x, rest) b.2 in
-      let t = body.takes bytes b.0.0 b.0.1 fits b.1 in
-      let u = body_read wanted b.0.0 c.0 t.1 c.1 in
-      let front : Takes bytes (framed c.0) b.0.1 = subst (λ (y : List ℕ). Takes bytes (bytes_text y) b.0.1) (sym u.0) t.0 in
-      subst (λ (p : Fields × List ℕ). Takes bytes (framed p.0) p.1 × FitsAs wanted p.0) (Ok-inj {E = DecodeFault} (c.0, b.0.1) (x, rest) c.2) (front, u.1);
-  again = λ x rest fits.
-      ap (λ (r : Read (List ℕ) FieldFault). told_as of_field r >>= λ r. tagged_item_of wanted r.0 >>= λ z. let read : Read Fields DecodeFault = Ok (z, r.1) in read) (bytes_again LONGEST_ITEM (spelling x) rest (lit< tt) (spelling_bound x fits.1))
-      ∙ ap (λ (turned : Result Fields DecodeFault). turned >>= λ z. let read : Read Fields DecodeFault = Ok (z, rest) in read) (body_again wanted x fits);
-}
-
--- ---- parts
+-- ---- items of a form
 
 auth_turned : (x : Fields) (a : Authenticator) → FitsAs (Some 1) x → as_auth x ≡ Ok a → (form.Auth a ≡ x) × FitsAuth a
 auth_turned (form.Auth b) a fits e = let same = Ok-inj {E = DecodeFault} b a e in (ap form.Auth (sym same), subst FitsAuth same fits.1)
@@ -94,20 +79,12 @@ auth_turned (form.Audit c) a fits e = absurd cc
 auth_turned (form.Send m) a fits e = absurd cc
 auth_turned (form.Ack b) a fits e = absurd cc
 
-auth_part : IsField auth_part_at (λ a. framed (form.Auth a)) FitsAuth
-unfolding auth_part_at
-auth_part = turned as_auth form.Auth FitsAuth auth_turned (λ a fits. ((refl, fits), refl)) (framed_field (Some 1))
-
 segment_turned : (x : Fields) (s : Segment) → FitsAs (Some 2) x → as_segment x ≡ Ok s → (form.Segment s ≡ x) × FitsSegment s
 segment_turned (form.Auth b) s fits e = absurd cc
 segment_turned (form.Segment t) s fits e = let same = Ok-inj {E = DecodeFault} t s e in (ap form.Segment (sym same), subst FitsSegment same fits.1)
 segment_turned (form.Audit c) s fits e = absurd cc
 segment_turned (form.Send m) s fits e = absurd cc
 segment_turned (form.Ack b) s fits e = absurd cc
-
-segment_part : IsField segment_part_at (λ s. framed (form.Segment s)) FitsSegment
-unfolding segment_part_at
-segment_part = turned as_segment form.Segment FitsSegment segment_turned (λ s fits. ((refl, fits), refl)) (framed_field (Some 2))
 
 -- ---- the three forms, without their numbers
 
@@ -147,56 +124,82 @@ same_taken at at' text Fits same taken bytes y rest fits e = taken bytes y rest 
 abbrev FitsForm : ℕ → Parts → Type 0
 FitsForm number x = (form_of x ≡ number) × FitsParts x
 
-form_again : (x : Parts) (rest : List ℕ) → FitsParts x → form_parts_at (form_of x) (behind_form x ++ rest) ≡ Ok (x, rest)
-unfolding form_parts_at
-form_again (parts.TwoAuths a b) rest fits =
-    two_reads (behind_form (parts.TwoAuths a b) ++ rest)
-    ∙ ap (λ (r : Read (Authenticator × Authenticator) DecodeFault). r >>= λ p. let made : Read Parts DecodeFault = Ok (two p.0, p.1) in made) ((both auth_part auth_part).again (a, b) rest fits)
-form_again (parts.AuthSegment a s) rest fits =
-    auth_segment_reads (behind_form (parts.AuthSegment a s) ++ rest)
-    ∙ ap (λ (r : Read (Authenticator × Segment) DecodeFault). r >>= λ p. let made : Read Parts DecodeFault = Ok (auth_and_segment p.0, p.1) in made) ((both auth_part segment_part).again (a, s) rest fits)
-form_again (parts.Nonconforming s) rest fits =
-    one_reads (behind_form (parts.Nonconforming s) ++ rest)
-    ∙ ap (λ (r : Read Segment DecodeFault). r >>= λ p. let made : Read Parts DecodeFault = Ok (parts.Nonconforming p.0, p.1) in made) (segment_part.again s rest fits)
+-- ---- the readings, as spellings are short
 
-form_field : (number : ℕ) → IsField (form_parts_at number) behind_form (FitsForm number)
-unfolding form_parts_at
-form_field number = record {
-  takes = either_taken _ _ behind_form (FitsForm number) (eqb number 1)
-      (λ is. same_taken _ _ behind_form (FitsForm number) two_reads (form_taken two behind_form (FitsForm number) (λ p. refl) (λ p f. (sym (eqb-true _ _ is), f)) (both auth_part auth_part)))
-      (λ not_1. either_taken _ _ behind_form (FitsForm number) (eqb number 2)
-      (λ is. same_taken _ _ behind_form (FitsForm number) auth_segment_reads (form_taken auth_and_segment behind_form (FitsForm number) (λ p. refl) (λ p f. (sym (eqb-true _ _ is), f)) (both auth_part segment_part)))
-      (λ not_2. either_taken _ _ behind_form (FitsForm number) (eqb number 3)
-      (λ is. same_taken _ _ behind_form (FitsForm number) one_reads (form_taken parts.Nonconforming behind_form (FitsForm number) (λ s. refl) (λ s f. (sym (eqb-true _ _ is), f)) segment_part))
-      (λ not_3. none_taken BadTag behind_form (FitsForm number))));
-  again = λ x rest fits. ap (λ (n : ℕ). form_parts_at n (behind_form x ++ rest)) (sym fits.0) ∙ form_again x rest fits.1;
-}
+module _ (short : SpellingsAreShort) where
+  pub framed_field : (wanted : Option ℕ) → IsField (framed_at wanted) framed (FitsAs wanted)
+  unfolding framed_at
+  framed_field wanted = record {
+    takes = λ bytes x rest fits e.
+        let b = bind_ok (body_at bytes) (λ r. tagged_item_of wanted r.0 >>= λ z. Ok (z, r.1)) (x, rest) e in
+        let c = bind_ok (tagged_item_of wanted b.0.0) (λ z. Ok (z, b.0.1)) (x, rest) b.2 in
+        let t = body.takes bytes b.0.0 b.0.1 fits b.1 in
+        let u = body_read wanted b.0.0 c.0 t.1 c.1 in
+        let front : Takes bytes (framed c.0) b.0.1 = subst (λ (y : List ℕ). Takes bytes (bytes_text y) b.0.1) (sym u.0) t.0 in
+        subst (λ (p : Fields × List ℕ). Takes bytes (framed p.0) p.1 × FitsAs wanted p.0) (Ok-inj {E = DecodeFault} (c.0, b.0.1) (x, rest) c.2) (front, u.1);
+    again = λ x rest fits.
+        ap (λ (r : Read (List ℕ) FieldFault). told_as of_field r >>= λ r. tagged_item_of wanted r.0 >>= λ z. let read : Read Fields DecodeFault = Ok (z, r.1) in read) (bytes_again LONGEST_ITEM (spelling x) rest (lit< tt) (short.most (record { fields = x; fits = fits.1 })))
+        ∙ ap (λ (turned : Result Fields DecodeFault). turned >>= λ z. let read : Read Fields DecodeFault = Ok (z, rest) in read) (body_again wanted x fits);
+  }
 
--- ---- proofs
+  auth_part : IsField auth_part_at (λ a. framed (form.Auth a)) FitsAuth
+  unfolding auth_part_at
+  auth_part = turned as_auth form.Auth FitsAuth auth_turned (λ a fits. ((refl, fits), refl)) (framed_field (Some 1))
 
-pub proof_field : IsField proof_at proof_text FitsParts
-unfolding proof_at
-proof_field =
-    said proof_text FitsParts spelled (λ x f. f.1) (λ x f. (small x, f))
-    (chosen_by form_of form_parts_at behind_form FitsParts (told of_field u8_field) (λ number fits. form_field number))
-  where
-    spelled : (x : Parts) → form_of x ∷ [] ++ behind_form x ≡ proof_text x
-    spelled (parts.TwoAuths a b) = refl
-    spelled (parts.AuthSegment a s) = refl
-    spelled (parts.Nonconforming s) = refl
+  segment_part : IsField segment_part_at (λ s. framed (form.Segment s)) FitsSegment
+  unfolding segment_part_at
+  segment_part = turned as_segment form.Segment FitsSegment segment_turned (λ s fits. ((refl, fits), refl)) (framed_field (Some 2))
 
-    small : (x : Parts) → form_of x < 256
-    small (parts.TwoAuths a b) = lit< tt
-    small (parts.AuthSegment a s) = lit< tt
-    small (parts.Nonconforming s) = lit< tt
+  form_again : (x : Parts) (rest : List ℕ) → FitsParts x → form_parts_at (form_of x) (behind_form x ++ rest) ≡ Ok (x, rest)
+  unfolding form_parts_at
+  form_again (parts.TwoAuths a b) rest fits =
+      two_reads (behind_form (parts.TwoAuths a b) ++ rest)
+      ∙ ap (λ (r : Read (Authenticator × Authenticator) DecodeFault). r >>= λ p. let made : Read Parts DecodeFault = Ok (two p.0, p.1) in made) ((both auth_part auth_part).again (a, b) rest fits)
+  form_again (parts.AuthSegment a s) rest fits =
+      auth_segment_reads (behind_form (parts.AuthSegment a s) ++ rest)
+      ∙ ap (λ (r : Read (Authenticator × Segment) DecodeFault). r >>= λ p. let made : Read Parts DecodeFault = Ok (auth_and_segment p.0, p.1) in made) ((both auth_part segment_part).again (a, s) rest fits)
+  form_again (parts.Nonconforming s) rest fits =
+      one_reads (behind_form (parts.Nonconforming s) ++ rest)
+      ∙ ap (λ (r : Read Segment DecodeFault). r >>= λ p. let made : Read Parts DecodeFault = Ok (parts.Nonconforming p.0, p.1) in made) (segment_part.again s rest fits)
 
-pub proof_texts : IsWhole proof_of proof_text FitsParts
-unfolding proof_of
-proof_texts = to_the_end Trailing proof_field
+  form_field : (number : ℕ) → IsField (form_parts_at number) behind_form (FitsForm number)
+  unfolding form_parts_at
+  form_field number = record {
+    takes = either_taken _ _ behind_form (FitsForm number) (eqb number 1)
+        (λ is. same_taken _ _ behind_form (FitsForm number) two_reads (form_taken two behind_form (FitsForm number) (λ p. refl) (λ p f. (sym (eqb-true _ _ is), f)) (both auth_part auth_part)))
+        (λ not_1. either_taken _ _ behind_form (FitsForm number) (eqb number 2)
+        (λ is. same_taken _ _ behind_form (FitsForm number) auth_segment_reads (form_taken auth_and_segment behind_form (FitsForm number) (λ p. refl) (λ p f. (sym (eqb-true _ _ is), f)) (both auth_part segment_part)))
+        (λ not_2. either_taken _ _ behind_form (FitsForm number) (eqb number 3)
+        (λ is. same_taken _ _ behind_form (FitsForm number) one_reads (form_taken parts.Nonconforming behind_form (FitsForm number) (λ s. refl) (λ s f. (sym (eqb-true _ _ is), f)) segment_part))
+        (λ not_3. none_taken BadTag behind_form (FitsForm number))));
+    again = λ x rest fits. ap (λ (n : ℕ). form_parts_at n (behind_form x ++ rest)) (sym fits.0) ∙ form_again x rest fits.1;
+  }
 
--- What stands at the front of a text is one proof, and the rest is one.
-pub one_front : (x y : Parts) (rest rest' : List ℕ) → FitsParts x → FitsParts y → proof_text x ++ rest ≡ proof_text y ++ rest' → (x ≡ y) × (rest ≡ rest')
-one_front x y rest rest' fits_x fits_y e =
-    let same : ◌≡◌ {A = Read Parts DecodeFault} (Ok (x, rest)) (Ok (y, rest')) = sym (proof_field.again x rest fits_x) ∙ ap proof_at e ∙ proof_field.again y rest' fits_y in
-    let pairs = Ok-inj {E = DecodeFault} (x, rest) (y, rest') same in
-    (ap (λ (p : Parts × List ℕ). p.0) pairs, ap (λ (p : Parts × List ℕ). p.1) pairs)
+  -- ---- proofs
+
+  pub proof_field : IsField proof_at proof_text FitsParts
+  unfolding proof_at
+  proof_field =
+      said proof_text FitsParts spelled (λ x f. f.1) (λ x f. (small x, f))
+      (chosen_by form_of form_parts_at behind_form FitsParts (told of_field u8_field) (λ number fits. form_field number))
+    where
+      spelled : (x : Parts) → form_of x ∷ [] ++ behind_form x ≡ proof_text x
+      spelled (parts.TwoAuths a b) = refl
+      spelled (parts.AuthSegment a s) = refl
+      spelled (parts.Nonconforming s) = refl
+
+      small : (x : Parts) → form_of x < 256
+      small (parts.TwoAuths a b) = lit< tt
+      small (parts.AuthSegment a s) = lit< tt
+      small (parts.Nonconforming s) = lit< tt
+
+  pub proof_texts : IsWhole proof_of proof_text FitsParts
+  unfolding proof_of
+  proof_texts = to_the_end Trailing proof_field
+
+  -- What stands at the front of a text is one proof, and the rest is one.
+  pub one_front : (x y : Parts) (rest rest' : List ℕ) → FitsParts x → FitsParts y → proof_text x ++ rest ≡ proof_text y ++ rest' → (x ≡ y) × (rest ≡ rest')
+  one_front x y rest rest' fits_x fits_y e =
+      let same : ◌≡◌ {A = Read Parts DecodeFault} (Ok (x, rest)) (Ok (y, rest')) = sym (proof_field.again x rest fits_x) ∙ ap proof_at e ∙ proof_field.again y rest' fits_y in
+      let pairs = Ok-inj {E = DecodeFault} (x, rest) (y, rest') same in
+      (ap (λ (p : Parts × List ℕ). p.0) pairs, ap (λ (p : Parts × List ℕ). p.1) pairs)

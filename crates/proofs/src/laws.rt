@@ -9,6 +9,7 @@ ghost use Rattle.proofs.specs.FramedItems.{FramedItemsReadBack};
 ghost use Rattle.proofs.specs.ProofTexts.{ProofTextsHaveOneReading, ProofsHaveOneText};
 
 use crate::proof::{Parts, Proof};
+use item_forms::laws::spellings_are_short;
 
 /// The test of a contradiction is true exactly of what contradicts.
 pub fn contradictions_are_tested()
@@ -23,12 +24,16 @@ pub fn two_hashes_are_tested()
 /// A proof has one text, and that text is read as the proof.
 pub fn proofs_have_one_text()
     ensures { ProofsHaveOneText }
-{}
+{
+    spellings_are_short();
+}
 
 /// Each text is one proof's, and none is a proper prefix of another's.
 pub fn proof_texts_have_one_reading()
     ensures { ProofTextsHaveOneReading }
-{}
+{
+    spellings_are_short();
+}
 
 /// A proof convicts one node, under any directory and program.
 pub fn proofs_convict_one_node<S>()
@@ -43,7 +48,9 @@ pub fn convicting_parts_are_valid<S>()
 /// What is read of an item behind its length is spelled so, and what is spelled so is read.
 pub fn framed_items_read_back()
     ensures { FramedItemsReadBack }
-{}
+{
+    spellings_are_short();
+}
 
 /// `==` of parts is true exactly of the same form with the same parts.
 pub fn parts_are_equal_by_form()

@@ -53,13 +53,12 @@ pub invariant_of-self : goal.invariant_of-self
 invariant_of-self c =
     let k = c.self.invariant in
     let m = made c in
-    let some = m.logged.some in
     record {
       account = subst IsAccount (sym m.account) (account_received _ c.args.c c.args.draft.send_seq c.args.draft.content k.account m.logged.fits c.requires.quoted m.verifies);
       base = m.next.prev;
       fresh = m.logged.fresh;
       history_room = m.logged.room;
-      signed_room = omega (arith, k.signed_room, c.push_reserved.ensures.len, c.push_reserved.ensures.capacity);
+      signed_room = omega (arith, k.signed_room, m.logged.some, c.push_reserved.ensures.len, c.push_reserved.ensures.capacity);
       unacknowledged_room = omega (arith, k.unacknowledged_room);
       sent_room = omega (arith, k.sent_room);
       acks_room = omega (arith, k.acks_room, c.in-Ok.ensures.spare);

@@ -63,14 +63,13 @@ pub invariant_of-self : goal.invariant_of-self
 invariant_of-self c =
     let k = c.self.invariant in
     let m = made c in
-    let some = m.logged.some in
     record {
       account = subst IsAccount (sym m.account) (account_sent _ c.args.c (output_of c.args.draft) k.account m.logged.fits k.fresh m.verifies);
       base = m.next.prev;
       fresh = λ n le. ap (lookup (nat_eq n)) m.sent ∙ lookup-push (nat_eq n) c.self.inside.sent.entries (next_seq c.self.inside.history.entries) _ (m.logged.fresh n le) (ne_eqb n (next_seq c.self.inside.history.entries) (λ same. omega arith));
       history_room = m.logged.room;
-      signed_room = omega (arith, k.signed_room, c.push_reserved.ensures.len, c.push_reserved.ensures.capacity);
-      unacknowledged_room = omega (arith, k.unacknowledged_room, c.push_reserved-2.ensures.len, c.push_reserved-2.ensures.capacity);
+      signed_room = omega (arith, k.signed_room, m.logged.some, c.push_reserved.ensures.len, c.push_reserved.ensures.capacity);
+      unacknowledged_room = omega (arith, k.unacknowledged_room, m.logged.some, c.push_reserved-2.ensures.len, c.push_reserved-2.ensures.capacity);
       sent_room = omega (arith, k.sent_room, c.in-Ok.ensures.spare);
       acks_room = omega (arith, k.acks_room);
     }
