@@ -1,0 +1,9 @@
+mod Added
+mod Bridge
+mod Exposures
+mod Grouped
+mod Merged
+mod Orders
+mod Places
+mod Taken
+mod ToldStatements

@@ -1,0 +1,18 @@
+//! Stores of evidence.
+#![tactic(auto)]
+
+pub use evidence::Evidence;
+pub use fault::{AskFault, NewStoreRefused, TakeRefused, UnknownNode};
+
+mod challenges;
+mod evidence;
+mod exposure;
+mod fault;
+mod findings;
+mod grouping;
+
+mod joining;
+mod merging;
+mod placing;
+mod statements;
+mod taking;
