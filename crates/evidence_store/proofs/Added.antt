@@ -4,7 +4,6 @@ use Rattle.std.specs.Prelude.{◌↔◌}
 use Rattle.std.specs.declared.cmp.Ordering.TheVariants.{Less}
 use Rattle.std.specs.List.{AllByRecursion, Contains, filter, flat_map}
 use Rattle.std.specs.List.Sorted.{IsStrictlySortedBy}
-use Rattle.std.proofs.lemmas.List.Elements.{Contains-append_cases, Contains-append_left, Contains-append_right}
 use Rattle.std.proofs.lemmas.List.Kept.{IsStrictlySortedBy-filter}
 use Rattle.lms_sign.specs.declared.key.PublicKey.{PublicKey}
 use Rattle.authenticators.specs.declared.authenticator.Authenticator.{Authenticator}
@@ -19,61 +18,9 @@ use Rattle.evidence_set.proofs.SetLists.{sets_are_lists}
 use Rattle.evidence_store.specs.within.Kept.{AreHeldOf, AreKept, IsAscending, IsStore, IsWhole, Keeps, by_item, is_kept, pieces, set_of}
 use Rattle.evidence_store.specs.within.Telling.{told_statements}
 use Rattle.evidence_store.proofs.Bridge.{set_has}
+use Rattle.evidence_store.proofs.Members.{of_some, passes, passing, some_of}
 use Rattle.evidence_store.proofs.Places.{kept_decides}
 use Rattle.evidence_store.proofs.ToldStatements.{told_is}
-
--- ---- members of lists
-
-none_here : {X : Type 0} (x : X) → Contains [] x → ⊥
-none_here x c = let below : c.0 < 0 = c.1 in omega arith
-
-here_or_later : {X : Type 0} (y : X) (xs : List X) (x : X) → Contains (y ∷ xs) x → (y ≡ x) ⊎ Contains xs x
-here_or_later y xs x (zero, lt, is) = inl is
-here_or_later y xs x (suc k, lt, is) = inr (k, omega (arith, lt), is)
-
-later : {X : Type 0} (y : X) (xs : List X) (x : X) → Contains xs x → Contains (y ∷ xs) x
-later y xs x (k, lt, is) = (suc k, omega (arith, lt), is)
-
-first : {X : Type 0} (x : X) (xs : List X) → Contains (x ∷ xs) x
-first x xs = (zero, omega arith, refl)
-
--- an element of one of the lists
-of_some : {X A : Type 0} (f : X → List A) (xs : List X) (a : A) → Contains (flat_map f xs) a → (x : X) × Contains xs x × Contains (f x) a
-of_some f [] a has = absurd (none_here a has)
-of_some f (x ∷ xs) a has = elim (Contains-append_cases (f x) (flat_map f xs) a has) [
-  | inl here ↦ (x, first x xs, here)
-  | inr more ↦ let t = of_some f xs a more in (t.0, later x xs t.0 t.1, t.2)
-]
-
-some_of : {X A : Type 0} (f : X → List A) (xs : List X) (a : A) (x : X) → Contains xs x → Contains (f x) a → Contains (flat_map f xs) a
-some_of f [] a x has in_x = absurd (none_here x has)
-some_of f (y ∷ xs) a x has in_x = elim (here_or_later y xs x has) [
-  | inl is ↦ Contains-append_left (f y) (flat_map f xs) a (subst (λ z. Contains (f z) a) (sym is) in_x)
-  | inr more ↦ Contains-append_right (f y) (flat_map f xs) a (some_of f xs a x more in_x)
-]
-
--- an element that passes
-module _ {X : Type 0} (p : X → Bool) where
-  passing_by : (b : Bool) (y : X) (xs : List X) (x : X) → p y ≡ b → Contains (cond b (y ∷ filter p xs) (filter p xs)) x → ((x : X) → Contains (filter p xs) x → Contains xs x × (p x ≡ true)) → Contains (y ∷ xs) x × (p x ≡ true)
-  passing_by true y xs x e has rest = elim (here_or_later y (filter p xs) x has) [
-    | inl is ↦ (subst (λ z. Contains (y ∷ xs) z) is (first y xs), subst (λ z. p z ≡ true) is e)
-    | inr more ↦ let t = rest x more in (later y xs x t.0, t.1)
-  ]
-  passing_by false y xs x e has rest = let t = rest x has in (later y xs x t.0, t.1)
-
-  passing : (xs : List X) (x : X) → Contains (filter p xs) x → Contains xs x × (p x ≡ true)
-  passing [] x has = absurd (none_here x has)
-  passing (y ∷ xs) x has = passing_by (p y) y xs x refl has (λ z h. passing xs z h)
-
-  passes_by : (b : Bool) (y : X) (xs : List X) (x : X) → p y ≡ b → p x ≡ true → (y ≡ x) ⊎ Contains (filter p xs) x → Contains (cond b (y ∷ filter p xs) (filter p xs)) x
-  passes_by true y xs x e h (inl is) = subst (λ z. Contains (y ∷ filter p xs) z) is (first y (filter p xs))
-  passes_by true y xs x e h (inr more) = later y (filter p xs) x more
-  passes_by false y xs x e h (inl is) = absurd (cc (e, h, is))
-  passes_by false y xs x e h (inr more) = more
-
-  passes : (xs : List X) (x : X) → Contains xs x → p x ≡ true → Contains (filter p xs) x
-  passes [] x has h = absurd (none_here x has)
-  passes (y ∷ xs) x has h = passes_by (p y) y xs x refl h (⊎_elim (λ is. inl is) (λ more. inr (passes xs x more h)) (here_or_later y xs x has))
 
 -- ---- the set
 

@@ -1,9 +1,14 @@
 mod Added
 mod Bridge
 mod Exposures
+mod FoundEach
 mod Grouped
+mod Imported
+mod Listed
+mod Members
 mod Merged
 mod Orders
 mod Places
+mod Stores
 mod Taken
 mod ToldStatements

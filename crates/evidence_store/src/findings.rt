@@ -1,9 +1,14 @@
 //! What checking found of the items that are kept.
 
-ghost use Rattle.std.specs.Prelude.{◌≡◌, option_copied};
-ghost use Rattle.evidence_store.specs.within.Kept.{found_hashes};
+ghost use Rattle.std.specs.Prelude.{◌≡◌, OnOk, option_copied};
+ghost use Rattle.evidence_item.specs.Checking.{IsChecked};
+ghost use Rattle.evidence_store.specs.within.Kept.{IsWhole, found_hashes};
 
+use authenticators::Directory;
 use evidence_item::{Checked, Findings, Hash};
+use outcome::Memory;
+use replay_verifier::Program;
+use std::alloc::Global;
 
 /// The hashes of a segment's entries, where they were found.
 pub(crate) fn found_hashes<P>(checked: &Checked<P>) -> Option<&[Hash]>
@@ -14,4 +19,18 @@ pub(crate) fn found_hashes<P>(checked: &Checked<P>) -> Option<&[Hash]>
         Some(Findings::Send(_) | Findings::Ack { .. }) => None,
         None => None,
     }
+}
+
+/// Finds what was not found yet of the item.
+pub(crate) fn find<P: Program>(
+    alloc: Global,
+    directory: &Directory,
+    checked: &mut Checked<P>,
+) -> Result<(), Memory>
+    requires { IsChecked directory.now P.means checked.old }
+    ensures same { (checked.new.item ≡ checked.old.item) × (checked.new.verdict ≡ checked.old.verdict) }
+    ensures checked { IsChecked directory.now P.means checked.new }
+    ensures whole { OnOk result (IsWhole directory.now P.means checked.new) }
+{
+    checked.find(alloc, directory)
 }

@@ -32,7 +32,7 @@ fn statements_of_each<P>(
 }
 
 /// Adds items, none of which is kept: all of them, or, with `Memory`, none.
-fn add_all<P: Program>(
+pub(crate) fn add_all<P: Program>(
     alloc: Global,
     directory: &Directory,
     kept: &mut Vec<Checked<P>>,
