@@ -5,5 +5,6 @@ mod Grouped
 mod Merged
 mod Orders
 mod Places
+mod Singled
 mod Taken
 mod ToldStatements

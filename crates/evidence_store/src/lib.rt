@@ -10,7 +10,6 @@ mod exposure;
 mod fault;
 mod findings;
 mod grouping;
-
 mod joining;
 mod merging;
 mod placing;
