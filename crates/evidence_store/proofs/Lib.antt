@@ -1,4 +1,5 @@
 mod Added
+mod Answered
 mod Bridge
 mod Exposures
 mod Grouped

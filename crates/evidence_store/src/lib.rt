@@ -14,4 +14,5 @@ mod joining;
 mod merging;
 mod placing;
 mod statements;
+mod suspicion;
 mod taking;
