@@ -3,6 +3,7 @@ mod Answered
 mod Bridge
 mod Exposures
 mod Grouped
+mod Indicated
 mod Merged
 mod Orders
 mod Places

@@ -10,6 +10,7 @@ mod exposure;
 mod fault;
 mod findings;
 mod grouping;
+mod indicating;
 mod joining;
 mod merging;
 mod placing;
