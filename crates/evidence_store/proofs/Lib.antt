@@ -1,6 +1,7 @@
 mod Added
 mod Answered
 mod Bridge
+mod Convicted
 mod Exposures
 mod Grouped
 mod Indicated

@@ -5,6 +5,7 @@ pub use evidence::Evidence;
 pub use fault::{AskFault, NewStoreRefused, TakeRefused, UnknownNode};
 
 mod challenges;
+mod convicting;
 mod evidence;
 mod exposure;
 mod fault;
