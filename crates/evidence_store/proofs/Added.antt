@@ -61,7 +61,7 @@ module _ {X : Type 0} (p : X → Bool) where
   ]
   passing_by false y xs x e has rest = let t = rest x has in (later y xs x t.0, t.1)
 
-  passing : (xs : List X) (x : X) → Contains (filter p xs) x → Contains xs x × (p x ≡ true)
+  pub passing : (xs : List X) (x : X) → Contains (filter p xs) x → Contains xs x × (p x ≡ true)
   passing [] x has = absurd (none_here x has)
   passing (y ∷ xs) x has = passing_by (p y) y xs x refl has (λ z h. passing xs z h)
 
@@ -71,7 +71,7 @@ module _ {X : Type 0} (p : X → Bool) where
   passes_by false y xs x e h (inl is) = absurd (cc (e, h, is))
   passes_by false y xs x e h (inr more) = more
 
-  passes : (xs : List X) (x : X) → Contains xs x → p x ≡ true → Contains (filter p xs) x
+  pub passes : (xs : List X) (x : X) → Contains xs x → p x ≡ true → Contains (filter p xs) x
   passes [] x has h = absurd (none_here x has)
   passes (y ∷ xs) x has h = passes_by (p y) y xs x refl h (⊎_elim (λ is. inl is) (λ more. inr (passes xs x more h)) (here_or_later y xs x has))
 
@@ -119,7 +119,7 @@ module _ {S : Type 0} (ds : List (ℕ × PublicKey)) (program : Meaning S) (old 
 -- ---- counts
 
 -- the items ascend as the list does
-pieces_ascend : (kept : List Checked) → IsAscending kept → IsStrictlySortedBy by_bytes (pieces kept)
+pub pieces_ascend : (kept : List Checked) → IsAscending kept → IsStrictlySortedBy by_bytes (pieces kept)
 unfolding IsStrictlySortedBy
 pieces_ascend [] up = tt
 pieces_ascend (c ∷ kept) up = (below c kept up.0, pieces_ascend kept up.1)

@@ -6,6 +6,7 @@ mod Exposures
 mod Grouped
 mod Indicated
 mod Merged
+mod Opened
 mod Orders
 mod Places
 mod Singled

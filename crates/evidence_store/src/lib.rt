@@ -14,6 +14,7 @@ mod grouping;
 mod indicating;
 mod joining;
 mod merging;
+mod opening;
 mod placing;
 mod statements;
 mod suspicion;
