@@ -66,7 +66,7 @@ module _ {S : Type 0} (ds : List (ℕ × PublicKey)) (program : Meaning S) (old 
 -- ---- counts
 
 -- the items ascend as the list does
-pieces_ascend : (kept : List Checked) → IsAscending kept → IsStrictlySortedBy by_bytes (pieces kept)
+pub pieces_ascend : (kept : List Checked) → IsAscending kept → IsStrictlySortedBy by_bytes (pieces kept)
 unfolding IsStrictlySortedBy
 pieces_ascend [] up = tt
 pieces_ascend (c ∷ kept) up = (below c kept up.0, pieces_ascend kept up.1)

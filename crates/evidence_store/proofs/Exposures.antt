@@ -45,7 +45,7 @@ module _ {S : Type 0} (ds : List (ℕ × PublicKey)) (program : Meaning S) (diff
   conforms s (Some verdict.Conforms) own h = own
   conforms s (Some (verdict.Deviates at why)) own h = absurd cc
 
-  departs : (s : Segment) (v : Option Verdict) → IsOwnVerdict ds program (form.Segment s) v → deviates v ≡ true → Conforms (setting_of ds s.node program) s.prev s.entries → ⊥
+  pub departs : (s : Segment) (v : Option Verdict) → IsOwnVerdict ds program (form.Segment s) v → deviates v ≡ true → Conforms (setting_of ds s.node program) s.prev s.entries → ⊥
   departs s None own h all = absurd own
   departs s (Some verdict.Conforms) own h all = absurd cc
   departs s (Some (verdict.Deviates at why)) own h all = differ (setting_of ds s.node program) s.prev s.entries at why own all

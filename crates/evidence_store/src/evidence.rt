@@ -74,9 +74,29 @@ pub trait Evidence<P: Program>: Drop {
         ensures joined { OnOk result (contents self.new ≡ with_items (contents self.old) (Join (contents self.old).items (contents other.now).items)) }
         ensures refused { OnErr result (contents self.new ≡ contents self.old) };
 
+    /// What the items say of the node. It verifies no signature and takes no memory. `UnknownNode` (44) where the directory does not
+    /// list the node.
+    fn indication(&self, node: NodeId) -> Result<Indication, UnknownNode>
+        ensures told { IfOk result (λ i. IsIndication (contents self.now).directory P.means (contents self.now).items node i) }
+        ensures unknown { IsErr result ↔ (is_some (key_at (contents self.now).directory node) ≡ false) };
+
     /// Whether each item of the other store is here too. It takes no memory.
     fn includes(&self, other: &Self) -> bool
         ensures { IsTrue result ↔ IsWithin (contents other.now).items (contents self.now).items };
+
+    /// A proof that convicts the node before anybody who has the directory and the program, where the items expose it. Which proof it
+    /// is, is left open. `UnknownNode` (44) where the directory does not list the node; `Memory`.
+    fn proof(&self, node: NodeId) -> Result<Option<Proof>, AskFault>
+        ensures some { IfOk result (λ p. IsSome p ↔ IsExposed (contents self.now).directory P.means (contents self.now).items node) }
+        ensures convicts { IfOk result (λ p. IfSome p (λ q. Convicts (contents self.now).directory P.means node q.parts)) }
+        ensures unknown { (result ≡ Err ask.UnknownNode) ↔ (is_some (key_at (contents self.now).directory node) ≡ false) };
+
+    /// The challenges against the node that no item answers, in the order of the items' spellings. `UnknownNode` (44) where the
+    /// directory does not list the node; `Memory`.
+    fn open_challenges(&self, node: NodeId) -> Result<Vec<&Item>, AskFault>
+        ensures members { IfOk result (λ found. (x : Piece) → Contains (map (λ i. i.now) found.items) x ↔ (Has (contents self.now).items x × IsUnanswered (contents self.now).items node x.fields)) }
+        ensures ascending { IfOk result (λ found. IsStrictlySortedBy by_bytes (map (λ i. i.now) found.items)) }
+        ensures unknown { (result ≡ Err ask.UnknownNode) ↔ (is_some (key_at (contents self.now).directory node) ≡ false) };
 
     /// The one text of the items: the container `PRSTORE1`.
     fn export(&self) -> Result<Vec<u8>, Memory>

@@ -1,15 +1,17 @@
 //! What exposes a node.
 
-ghost use Rattle.std.specs.Prelude.{◌≡◌, MatchOption, option_copied, true, false};
+ghost use Rattle.std.specs.Prelude.{◌≡◌, IfNone, IfSome, MatchOption, option_copied, true, false};
 ghost use Rattle.std.specs.List.{list_any, All, Contains};
 ghost use Rattle.proofs.specs.Contradictions.{contradicts};
 ghost use Rattle.evidence_item.specs.Checking.{Checked as TheChecked};
-ghost use Rattle.evidence_store.specs.within.Kept.{HasHashes};
-ghost use Rattle.evidence_store.specs.within.Telling.{denies, deviates, is_denied};
+ghost use Rattle.evidence_store.specs.within.Kept.{HasHashes, IsAscending};
+ghost use Rattle.evidence_store.specs.within.Telling.{DeviatesNowhere, IsDenial, IsDeviation, IsUndenied, IsUnexposed, Shows, denies, deviates, is_denied};
 
 use crate::findings::found_hashes;
-use authenticators::Authenticator;
+use crate::grouping::group_of;
+use authenticators::{Authenticator, AuthenticatorStore, NodeId};
 use evidence_item::{Checked, Form};
+use item_forms::Group;
 use proofs::Outline;
 use replay_verifier::Verdict;
 
@@ -40,14 +42,14 @@ fn denier_of<'a, P>(held: &'a [Authenticator], checked: &Checked<P>) -> Option<&
 }
 
 /// A statement, and the segment that it contradicts.
-#[derive(Clone, Copy, Drop)]
+#[derive_where(Clone, Copy)]
 pub(crate) struct Denial<'a, P> {
     pub statement: &'a Authenticator,
     pub segment: &'a Checked<P>,
 }
 
 /// The first of the segments that one of the statements contradicts.
-pub(crate) fn first_denial<'a, P>(
+fn first_denial<'a, P>(
     held: &'a [Authenticator],
     segments: &'a [Checked<P>],
 ) -> Option<Denial<'a, P>>
@@ -74,7 +76,7 @@ fn deviates(verdict: Option<&Verdict>) -> bool
 }
 
 /// The first of the items whose verdict is that the entries deviate.
-pub(crate) fn deviating<P>(segments: &[Checked<P>]) -> Option<&Checked<P>>
+fn deviating<P>(segments: &[Checked<P>]) -> Option<&Checked<P>>
     ensures { MatchOption result (list_any (λ (c : TheChecked). deviates c.verdict) segments.now ≡ false) (λ c. Contains segments.now c.now × (deviates c.now.verdict ≡ true)) }
 {
     for segment in segments {
@@ -83,4 +85,59 @@ pub(crate) fn deviating<P>(segments: &[Checked<P>]) -> Option<&Checked<P>>
         }
     }
     None
+}
+
+/// A statement of the node and a segment of it that are not of one log, where there are such.
+fn denial_of<'a, P>(
+    held: &'a AuthenticatorStore,
+    kept: &'a [Checked<P>],
+    node: NodeId,
+) -> Option<Denial<'a, P>>
+    requires ascending { IsAscending kept.now }
+    requires hashes { (c : TheChecked) → Contains kept.now c → HasHashes c }
+    ensures none { IfNone result (IsUndenied node held.now kept.now) }
+    ensures some { IfSome result (λ d. IsDenial node held.now kept.now d.statement.now d.segment.now) }
+{
+    first_denial(held.of_node(node), group_of(kept, &Group::Segments(node)))
+}
+
+/// A segment of the node that deviates, where there is one.
+fn deviation_of<P>(kept: &[Checked<P>], node: NodeId) -> Option<&Checked<P>>
+    requires { IsAscending kept.now }
+    ensures none { IfNone result (DeviatesNowhere node kept.now) }
+    ensures some { IfSome result (λ c. IsDeviation node kept.now c.now) }
+{
+    deviating(group_of(kept, &Group::Segments(node)))
+}
+
+/// What exposes a node, lent from where it is kept.
+#[derive_where(Clone, Copy)]
+pub(crate) enum Exposure<'a, P> {
+    /// Two statements of one number and two hashes.
+    TwoHashes(&'a Authenticator, &'a Authenticator),
+    /// A statement, and the segment that it contradicts.
+    Denied(Denial<'a, P>),
+    /// A segment that deviates.
+    Deviates(&'a Checked<P>),
+}
+
+/// What exposes the node, where something does. It takes no memory.
+pub(crate) fn exposure_of<'a, P>(
+    held: &'a AuthenticatorStore,
+    kept: &'a [Checked<P>],
+    node: NodeId,
+) -> Option<Exposure<'a, P>>
+    requires ascending { IsAscending kept.now }
+    requires hashes { (c : TheChecked) → Contains kept.now c → HasHashes c }
+    ensures none { IfNone result (IsUnexposed node held.now kept.now) }
+    ensures some { IfSome result (λ e. Shows node held.now kept.now e) }
+{
+    if let Some((one, other)) = held.conflict(node) {
+        return Some(Exposure::TwoHashes(one, other));
+    }
+    if let Some(denial) = denial_of(held, kept, node) {
+        return Some(Exposure::Denied(denial));
+    }
+    let segment = deviation_of(kept, node)?;
+    Some(Exposure::Deviates(segment))
 }

@@ -2,7 +2,6 @@
 
 ghost use Rattle.std.specs.Prelude.{◌≡◌, ◌+◌, IfErr, IfOk, OnErr, OnOk};
 ghost use Rattle.std.specs.List.{All};
-ghost use Rattle.outcome.specs.Bytes.{IsBytes};
 ghost use Rattle.evidence_item.specs.Checking.{IsChecked};
 ghost use Rattle.containers.specs.CheckedItems.{checked_of};
 ghost use Rattle.containers.specs.Container.{import_of};
@@ -14,6 +13,7 @@ ghost use Rattle.evidence_store.specs.within.Kept.{AreKept, IsStore, IsWhole, pi
 use crate::findings::find;
 use crate::joining::drop_kept;
 use crate::merging::add_all;
+use crate::ranges::bytes_fit;
 use authenticators::{AuthenticatorStore, Directory};
 use containers::{Cause, ImportFault, read_all};
 use evidence_item::Checked;
@@ -24,10 +24,6 @@ use std::alloc::Global;
 
 /// The eight bytes by which the text of a set is known.
 pub(crate) const MAGIC: [u8; 8] = *b"PRSTORE1";
-
-fn are_bytes(bytes: &[u8])
-    ensures { IsBytes bytes.now }
-{}
 
 /// Finds of each item what was not found yet.
 fn find_each<P: Program>(
@@ -56,7 +52,7 @@ fn items_of<P: Program>(
     ensures text { IfOk result (λ items. bytes.now ≡ export_of (set_of items.items)) }
     ensures fault { IfErr result (λ f. Refuses f (import_of magic (checked_of directory.now) bytes.now)) }
 {
-    are_bytes(bytes);
+    bytes_fit(bytes);
     exports_are_imported();
     let mut items = read_all(alloc, program, directory, MAGIC, bytes)?;
     let count = items.len() as u64;

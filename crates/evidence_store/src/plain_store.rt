@@ -5,12 +5,15 @@ ghost use Rattle.evidence_item.specs.Checking.{IsChecked};
 ghost use Rattle.evidence_set.specs.ItemSets.{Has, contains, insert};
 ghost use Rattle.evidence_store.specs.Contents.{with_items};
 
+use crate::convicting::proof;
 use crate::evidence::Evidence;
 use crate::fault::{AskFault, NewStoreRefused, TakeRefused, UnknownNode};
 use crate::importing::import;
 use crate::including::includes;
+use crate::indicating::indication;
 use crate::listing::{count, export, item_at};
 use crate::merging::merge;
+use crate::opening::open_challenges;
 use crate::taking::take;
 use authenticators::{AuthenticatorStore, Directory, NodeId};
 use containers::ImportFault;
@@ -100,8 +103,42 @@ impl<P: Program> Evidence<P> for PlainStore<P> {
         )
     }
 
+    fn indication(&self, node: NodeId) -> Result<Indication, UnknownNode> {
+        if !self.directory.contains(node) {
+            return Err(UnknownNode);
+        }
+        Ok(indication(
+            &self.directory,
+            &self.items,
+            &self.statements,
+            node,
+        ))
+    }
+
     fn includes(&self, other: &PlainStore<P>) -> bool {
         includes(&self.items, &other.items)
+    }
+
+    fn proof(&self, node: NodeId) -> Result<Option<Proof>, AskFault> {
+        if !self.directory.contains(node) {
+            return Err(AskFault::UnknownNode);
+        }
+        let found = proof(
+            self.alloc,
+            &self.directory,
+            &self.items,
+            &self.statements,
+            node,
+        )?;
+        Ok(found)
+    }
+
+    fn open_challenges(&self, node: NodeId) -> Result<Vec<&Item>, AskFault> {
+        if !self.directory.contains(node) {
+            return Err(AskFault::UnknownNode);
+        }
+        let found = open_challenges(self.alloc, &self.directory, &self.items, node)?;
+        Ok(found)
     }
 
     fn export(&self) -> Result<Vec<u8>, Memory> {

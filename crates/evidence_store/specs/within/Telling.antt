@@ -18,7 +18,8 @@ use Rattle.evidence_item.specs.declared.findings.SegmentFindings.{SegmentFinding
 use Rattle.evidence_item.specs.Checking.{Checked}
 use Rattle.evidence_item.specs.Statements.{first_named, named, says}
 use Rattle.evidence_set.specs.Challenges.{answers, is_against}
-use Rattle.evidence_store.specs.within.Kept.{SomeKept}
+use Rattle.evidence_store.specs.declared.exposure.Exposure.{Exposure}
+use Rattle.evidence_store.specs.declared.exposure.Exposure.TheVariants as exposure
 
 -- The statement contradicts the item, which is a segment.
 abbrev pub denies : Authenticator → Fields → Bool
@@ -65,11 +66,19 @@ pub record IsKeptOf (j : ℕ) (kept : List Checked) (c : Checked) : Type 0 where
   pub contains : Contains kept c
   pub segment : IsSegmentOf j c.item.fields
 
+-- No statement of node j that is held contradicts a segment of it that is kept.
+abbrev pub IsUndenied : ℕ → List Authenticator → List Checked → Type 0
+IsUndenied j held kept = (c : Checked) → IsKeptOf j kept c → (a : Authenticator) → Contains held a → a.node ≡ j → denies a c.item.fields ≡ false
+
+-- No verdict on a segment of node j that is kept is that it deviates.
+abbrev pub DeviatesNowhere : ℕ → List Checked → Type 0
+DeviatesNowhere j kept = (c : Checked) → IsKeptOf j kept c → deviates c.verdict ≡ false
+
 -- Nothing that is kept exposes node j.
 pub record IsUnexposed (j : ℕ) (held : List Authenticator) (kept : List Checked) : Type 0 where
   pub one_hash : NoConflictOf j held
-  pub undenied : (c : Checked) → IsKeptOf j kept c → (a : Authenticator) → Contains held a → a.node ≡ j → denies a c.item.fields ≡ false
-  pub conforming : (c : Checked) → IsKeptOf j kept c → deviates c.verdict ≡ false
+  pub undenied : IsUndenied j held kept
+  pub conforming : DeviatesNowhere j kept
 
 -- Two statements of node j are held that are in conflict.
 pub record AreTwo (j : ℕ) (held : List Authenticator) (a b : Authenticator) : Type 0 where
@@ -89,6 +98,12 @@ pub record IsDenial (j : ℕ) (held : List Authenticator) (kept : List Checked) 
 pub record IsDeviation (j : ℕ) (kept : List Checked) (c : Checked) : Type 0 where
   pub segment : IsKeptOf j kept c
   pub verdict : deviates c.verdict ≡ true
+
+-- What was found exposes node j.
+abbrev pub Shows : {P : Type 0} → ℕ → List Authenticator → List Checked → Exposure P → Type 0
+Shows j held kept (exposure.TwoHashes a b) = AreTwo j held a.now b.now
+Shows j held kept (exposure.Denied d) = IsDenial j held kept d.statement.now d.segment.now
+Shows j held kept (exposure.Deviates c) = IsDeviation j kept c.now
 
 -- ---- the statements of an item
 
