@@ -48,13 +48,13 @@ module _ {S : Type 0} (ds : List (ℕ × PublicKey)) (program : Meaning S) (old 
   held_by : (held after : List Authenticator) → AreHeldOf ds old held → IsUnion held (flat_map told more) after → AreHeldOf ds new after
   held_by held after before union a = (
     λ has. ⊎_elim
-    (λ h. let s = (before a).0 h in (s.0, (either s.0).1 (inl s.1), s.2))
-    (λ h. let s = of_some told more a h in (s.0, (either s.0).1 (inr s.1), subst (λ (l : List Authenticator). Contains l a) (own s.0 s.1) s.2))
-    ((union a).0 has),
+        (λ h. let s = (before a).0 h in (s.0, (either s.0).1 (inl s.1), s.2))
+        (λ h. let s = of_some told more a h in (s.0, (either s.0).1 (inr s.1), subst (λ (l : List Authenticator). Contains l a) (own s.0 s.1) s.2))
+        ((union a).0 has),
     λ (c, has, stands). (union a).1 (⊎_elim
-    (λ h. inl ((before a).1 (c, h, stands)))
-    (λ h. inr (some_of told more a c h (subst (λ (l : List Authenticator). Contains l a) (sym (own c h)) stands)))
-    ((either c).0 has)),
+        (λ h. inl ((before a).1 (c, h, stands)))
+        (λ h. inr (some_of told more a c h (subst (λ (l : List Authenticator). Contains l a) (sym (own c h)) stands)))
+        ((either c).0 has)),
   )
 
   pub store_joins : (held after : List Authenticator) → IsStore ds program old held → IsAscending new → IsUnion held (flat_map told more) after → IsStore ds program new after

@@ -53,8 +53,8 @@ set_has kept x = (
 pub some_item : (kept : List Checked) (P : Fields → Type 0) → SomeItem (set_of kept) P ↔ SomeKept kept P
 some_item kept P = (
   λ h.
-  let keeps = (set_has kept h.0).0 h.1 in
-  (keeps.0, keeps.1, subst (λ (x : Piece). P x.fields) (sym keeps.2) h.2),
+      let keeps = (set_has kept h.0).0 h.1 in
+      (keeps.0, keeps.1, subst (λ (x : Piece). P x.fields) (sym keeps.2) h.2),
   λ h. (h.0.item, (set_has kept h.0.item).1 (h.0, h.1, refl), h.2),
 )
 
@@ -65,9 +65,9 @@ pub is_held : (ds : List (ℕ × PublicKey)) (kept : List Checked) (held : List 
     → IsHeld ds (set_of kept) j a ↔ (Contains held a × (a.node ≡ j))
 is_held ds kept held j a all = (
   λ h.
-  let some = (some_item kept (λ x. Holds ds x a)).0 h.stands in
-  ((all a).1 (some.0, some.1, (lists_what_is_held ds some.0.item.fields a).1 some.2), h.of),
+      let some = (some_item kept (λ x. Holds ds x a)).0 h.stands in
+      ((all a).1 (some.0, some.1, (lists_what_is_held ds some.0.item.fields a).1 some.2), h.of),
   λ h.
-  let some = (all a).0 h.0 in
-  record { of = h.1; stands = (some_item kept (λ x. Holds ds x a)).1 (some.0, some.1, (lists_what_is_held ds some.0.item.fields a).0 some.2) },
+      let some = (all a).0 h.0 in
+      record { of = h.1; stands = (some_item kept (λ x. Holds ds x a)).1 (some.0, some.1, (lists_what_is_held ds some.0.item.fields a).0 some.2) },
 )

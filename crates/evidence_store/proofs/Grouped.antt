@@ -49,7 +49,7 @@ module _ (g : ItemGroup) where
     up_to_parted = parted by_item up_to kept up (λ x y lower h. turned (up_to x) (up_to y) (λ not. ap is_le (ascend.behind g x.item y.item lower (only_greater (group_cmp g x.item.fields) not))) h)
 
   module _ (hold : GroupsHold) (kept : List Checked) (i j m : ℕ) (from : IsPartitionPoint (λ y. before y ≡ true) (λ y. before y ≡ false) kept i) (to : IsPartitionPoint (λ y. up_to y ≡ true) (λ y. up_to y ≡ false) kept j)
-    (is_max : m ≡ max j i) where
+      (is_max : m ≡ max j i) where
     inside : (c : Checked) → StandsBetween kept i m c → Contains kept c × IsInGroup g c.item.fields
     inside c (k, lo, hi, in_list, is) =
         let not_before : before c ≡ false = subst (λ y. before y ≡ false) is (from.1 k c lo in_list) in

@@ -68,7 +68,7 @@ kept_all kept (d ∷ others) h = rw (h d (first d others)) (kept_all kept others
 pub within : (kept others : List Checked) → IsTrue (each_kept kept others) ↔ IsWithin (set_of others) (set_of kept)
 within kept others = (
   λ h x has.
-  let (c, in_others, is) = (set_has others x).0 has in
-  (set_has kept x).1 (subst (Keeps kept) is ((kept_decides kept c.item).0 (all_kept kept others h c in_others))),
+      let (c, in_others, is) = (set_has others x).0 has in
+      (set_has kept x).1 (subst (Keeps kept) is ((kept_decides kept c.item).0 (all_kept kept others h c in_others))),
   λ h. kept_all kept others (λ c has. (kept_decides kept c.item).1 ((set_has kept c.item).0 (h c.item ((set_has others c.item).1 (c, has, refl))))),
 )

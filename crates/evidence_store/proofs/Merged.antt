@@ -34,8 +34,7 @@ module _ {K : Type 0} (R : K → K → Ordering) (total : IsTotalOrder R) where
   distinct_together (x ∷ xs) ys one other apart =
       let P : K → Type 0 = λ y. eq_by_cmp R x y ≡ false in
       let with_xs : All P xs = All-from_recursion P xs one.0 in
-      let with_ys : All P ys = λ k d inside. apart x (get_or ys k d) (zero, omega arith, refl) (Contains-get_or ys k d inside) in
-      (
+      let with_ys : All P ys = λ k d inside. apart x (get_or ys k d) (zero, omega arith, refl) (Contains-get_or ys k d inside) in (
         recursion_from_All P (xs ++ ys) (All-append P xs ys with_xs with_ys),
         distinct_together xs ys one.1 other (λ a b in_xs in_ys. apart a b (suc in_xs.0, omega (arith, in_xs.1), in_xs.2) in_ys),
       )

@@ -59,9 +59,9 @@ not_kept kept x i place (c, has, is) =
 pub kept_decides : (kept : List Checked) (x : Piece) → Decides (is_kept kept x) (Keeps kept x)
 kept_decides kept x = (
   λ h.
-  let any = Any-from_list_any (λ (c : Checked). is_eq (by_bytes c.item x)) kept h in
-  (any.1, (any.0, any.2, any.3), by_bytes_exact any.1.item x ((Equal-is (by_bytes any.1.item x)).0 any.4)),
+      let any = Any-from_list_any (λ (c : Checked). is_eq (by_bytes c.item x)) kept h in
+      (any.1, (any.0, any.2, any.3), by_bytes_exact any.1.item x ((Equal-is (by_bytes any.1.item x)).0 any.4)),
   λ (c, has, is).
-  let equal : is_eq (by_bytes c.item x) ≡ true = ap (λ (y : Piece). is_eq (by_bytes y x)) is ∙ (Equal-is (by_bytes x x)).1 (tied_itself by_bytes_total x) in
-  list_any-from_Any (λ (k : Checked). is_eq (by_bytes k.item x)) kept (has.0, c, has.1, has.2, equal),
+      let equal : is_eq (by_bytes c.item x) ≡ true = ap (λ (y : Piece). is_eq (by_bytes y x)) is ∙ (Equal-is (by_bytes x x)).1 (tied_itself by_bytes_total x) in
+      list_any-from_Any (λ (k : Checked). is_eq (by_bytes k.item x)) kept (has.0, c, has.1, has.2, equal),
 )

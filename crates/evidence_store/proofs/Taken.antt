@@ -62,13 +62,13 @@ module _ {S : Type 0} (ds : List (ℕ × PublicKey)) (program : Meaning S) (old 
   all_held : (held after : List Authenticator) → AreHeldOf ds old held → IsUnion held (told_statements c.item.fields c.findings) after → AreHeldOf ds new after
   all_held held after before union a = (
     λ has. ⊎_elim
-    (λ h. let s = (before a).0 h in (s.0, (more s.0).1 (inl s.1), s.2))
-    (λ h. (c, (more c).1 (inr refl), subst (λ (l : List Authenticator). Contains l a) own h))
-    ((union a).0 has),
+        (λ h. let s = (before a).0 h in (s.0, (more s.0).1 (inl s.1), s.2))
+        (λ h. (c, (more c).1 (inr refl), subst (λ (l : List Authenticator). Contains l a) own h))
+        ((union a).0 has),
     λ (d, has, stands). (union a).1 (⊎_elim
-    (λ h. inl ((before a).1 (d, h, stands)))
-    (λ is. inr (subst (λ (l : List Authenticator). Contains l a) (sym own) (subst (λ (k : Checked). Contains (authenticators_of ds k.item.fields) a) is stands)))
-    ((more d).0 has)),
+        (λ h. inl ((before a).1 (d, h, stands)))
+        (λ is. inr (subst (λ (l : List Authenticator). Contains l a) (sym own) (subst (λ (k : Checked). Contains (authenticators_of ds k.item.fields) a) is stands)))
+        ((more d).0 has)),
   )
 
   pub store_grows : (held after : List Authenticator) → IsStore ds program old held → IsAscending new → IsUnion held (told_statements c.item.fields c.findings) after → IsStore ds program new after

@@ -18,10 +18,7 @@ use replay_verifier::Program;
 use std::alloc::Global;
 
 /// The statements of all of the items, one item after the other.
-fn statements_of_each<P>(
-    alloc: Global,
-    items: &[Checked<P>],
-) -> Result<Vec<Authenticator>, Memory>
+fn statements_of_each<P>(alloc: Global, items: &[Checked<P>]) -> Result<Vec<Authenticator>, Memory>
     ensures { IfOk result (λ all. all.items ≡ flat_map (λ (c : TheChecked). told_statements c.item.fields c.findings) items.now) }
 {
     let mut statements = Vec::new(alloc);

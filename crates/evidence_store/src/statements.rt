@@ -29,11 +29,7 @@ fn statement(
 }
 
 /// The statement that the entry quotes, where it has this hash.
-fn quote(
-    alloc: Global,
-    entry: &Entry,
-    hash: Option<Hash>,
-) -> Result<Option<Authenticator>, Memory>
+fn quote(alloc: Global, entry: &Entry, hash: Option<Hash>) -> Result<Option<Authenticator>, Memory>
     ensures { IfOk result (λ a. a ≡ told_quote entry.now hash) }
 {
     let Some(hash) = hash else {
@@ -119,7 +115,13 @@ pub(crate) fn write_statements<P>(
         }
         (Form::Audit(challenge), _) => {
             if let Some(first) = &challenge.first {
-                statements.push(statement(alloc, challenge.node, first.seq, first.hash, &first.sig)?)?;
+                statements.push(statement(
+                    alloc,
+                    challenge.node,
+                    first.seq,
+                    first.hash,
+                    &first.sig,
+                )?)?;
             }
             let last = &challenge.last;
             statements.push(statement(alloc, challenge.node, last.seq, last.hash, &last.sig)?)?;
