@@ -130,16 +130,16 @@ fn items_of(alloc: Global, keys: &mut Keys, case: Case) -> Result<(Item, Item), 
 
 /// What a store says.
 #[derive(Clone, Copy, Debug, PartialEq, Eq)]
-struct Said {
+struct Answers {
     count: u64,
     one: Indication,
     two: Indication,
     export: [u8; 32],
 }
 
-fn said(store: &PlainStore<Tally>) -> Result<Said, Fail> {
+fn answers_of(store: &PlainStore<Tally>) -> Result<Answers, Fail> {
     let text = store.export()?;
-    Ok(Said {
+    Ok(Answers {
         count: store.count(),
         one: store.indication(NodeId(1))?,
         two: store.indication(NodeId(2))?,
@@ -172,8 +172,8 @@ fn is_said(
     two: Indication,
     export: &str,
 ) -> Result<bool, Fail> {
-    let first = said(&store_of(alloc, case, false)?)?;
-    let second = said(&store_of(alloc, case, true)?)?;
+    let first = answers_of(&store_of(alloc, case, false)?)?;
+    let second = answers_of(&store_of(alloc, case, true)?)?;
     let export = hex::decode(alloc, export)?;
     Ok(
         first == second
