@@ -239,4 +239,5 @@ def main():
     sys.exit(missing != 0)
 
 
-main()
+if __name__ == "__main__":
+    main()
