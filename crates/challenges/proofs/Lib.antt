@@ -1,0 +1,4 @@
+mod Cuts
+mod Filtered
+mod Lookups
+mod Starts
