@@ -1,5 +1,5 @@
 -- What filters leave of entries whose numbers rise.
-use Rattle.std.proofs.Common.{◌≡◌, ℕ, ◌<◌, ◌≤◌, Bool, true, false, cond, eqb, ltb, leb, List, [], ◌∷◌, ◌++◌, refl, sym, ap, ◌∙◌, arith, inl, inr, subst}
+use Rattle.std.proofs.Common.{◌≡◌, ℕ, ◌<◌, ◌≤◌, Bool, true, false, cond, eqb, ltb, leb, List, [], ◌∷◌, ◌++◌, length, refl, sym, ap, ◌∙◌, arith, inl, inr, subst}
 use Rattle.std.specs.Prelude.{◌&&◌, ◌||◌, filter}
 use Rattle.std.specs.List.{AllByRecursion, list_any}
 use Rattle.std.proofs.lemmas.Bool.{cases_lt, lt-ltb, le-ltb, le-leb, lt-leb, leb-true, ne_eqb, eq-eqb, eqb-true, and_left, and_right}
@@ -91,6 +91,14 @@ kept_element p q keeps (e ∷ es) = go (q e) refl (p e) refl (kept_element p q k
     go true qe c pe rest = ap (list_any p) (filter_yes q e es qe) ∙ ap (λ (b : Bool). p e || b) rest
     go false qe true pe rest = let w : true ≡ false = sym (keeps e pe) ∙ qe in absurd cc
     go false qe false pe rest = ap (list_any p) (filter_no q e es qe) ∙ rest ∙ sym (ap (λ (b : Bool). b || list_any p es) pe)
+
+pub fewer : (test : Entry → Bool) (es : List Entry) → length (filter test es) ≤ length es
+fewer test [] = omega arith
+fewer test (e ∷ es) = go (test e) (fewer test es)
+  where
+    go : (b : Bool) → length (filter test es) ≤ length es → length (cond b (e ∷ filter test es) (filter test es)) ≤ length (e ∷ es)
+    go true h = omega arith
+    go false h = omega arith
 
 -- ---- by numbers, above which the rest stands
 

@@ -73,7 +73,7 @@ pub record Start (log : List Entry) (start : ℕ) : Type 0 where
   pub begins : is_start entry ≡ true
   pub number : start ≡ entry.seq
 
-first_lowest : (n : ℕ) (e : Entry) (es : List Entry) → Rising (e ∷ es) → has_seq n (e ∷ es) ≡ true → e.seq ≤ n
+pub first_lowest : (n : ℕ) (e : Entry) (es : List Entry) → Rising (e ∷ es) → has_seq n (e ∷ es) ≡ true → e.seq ≤ n
 first_lowest n e es up has = elim (cases_lt n e.seq) [
       | inl lt ↦
         let other : eqb e.seq n ≡ false = ne_eqb _ _ (λ same. omega arith) in

@@ -38,10 +38,10 @@ pub record Closes (x y : Fields) : Type 0 where
   pub answers : Answers x y
   pub closed : (E : Items) (j : ℕ) (a b : Piece) → Has E a → Has E b → a.fields ≡ x → b.fields ≡ y → ¬ (IsUnanswered E j x)
 
--- What a node answers closes the challenge.
+-- What a node answers to a valid challenge closes it.
 abbrev pub AnswersClose : Type 0 → Type 0
 AnswersClose S = (p : Meaning S) (old new : NodeState S) (x y : Fields) (entropy : List ℕ) (sent : List Message)
-    → IsAccount old.account → answer_fault old.account.me old.account.entries x ≡ None → IsAnswered p old x entropy new y sent → Closes x y
+    → IsAccount old.account → IsValid old.directory x → answer_fault old.account.me old.account.entries x ≡ None → IsAnswered p old x entropy new y sent → Closes x y
 
 -- ---- what the refusal of an audit shows
 

@@ -7,7 +7,7 @@ pub fn demands_are_valid()
     ensures { DemandsAreValid }
 {}
 
-/// What a node answers closes the challenge: it answers it, and in each set of evidence that has both the challenge is answered.
+/// What a node answers to a valid challenge closes it: it answers the challenge, and in each set of evidence that has both the challenge is answered.
 pub fn answers_close<S>()
     ensures { AnswersClose S }
 {}

@@ -1,0 +1,72 @@
+-- Which challenges a node answers.
+use Rattle.std.proofs.Common.{◌≡◌, ◌≢◌, ℕ, Bool, true, false, cond, eqb, List, Option, Some, None, refl, sym, ap, ◌∙◌}
+use Rattle.std.proofs.lemmas.Bool.{ne_eqb, eq-eqb, eqb-true}
+use Rattle.std.specs.Prelude.{◌&&◌, not}
+use Rattle.log_chain.specs.declared.entry.Entry.{Entry}
+use Rattle.commitment.specs.declared.message.Message.{Message}
+use Rattle.item_forms.specs.declared.forms.AuditChallenge.{AuditChallenge}
+use Rattle.item_forms.specs.declared.forms.Fields.{Fields}
+use Rattle.item_forms.specs.declared.forms.Fields.TheVariants as form
+use Rattle.challenges.specs.declared.fault.AnswerFault.{AnswerFault}
+use Rattle.challenges.specs.declared.fault.AnswerFault.TheVariants.{NotForMe, NotInLog}
+use Rattle.challenges.specs.Answers.{answer_fault, is_first_logged, is_logged, names_entries}
+
+module _ (me : ℕ) (log : List Entry) where
+  -- ---- an audit
+
+  -- the fault by the two tests
+  abbrev pub by_tests : Bool → Bool → Option AnswerFault
+  by_tests mine named = cond (not mine) (Some NotForMe) (cond (not named) (Some NotInLog) None)
+
+  audit_tests : (c : AuditChallenge) → answer_fault me log (form.Audit c) ≡ by_tests (eqb c.node me) (names_entries log (form.Audit c))
+  unfolding answer_fault
+  audit_tests c = refl
+
+  pub audit_other : (c : AuditChallenge) → c.node ≢ me → answer_fault me log (form.Audit c) ≡ Some NotForMe
+  audit_other c other = audit_tests c ∙ ap (λ (b : Bool). by_tests b (names_entries log (form.Audit c))) (ne_eqb _ _ other)
+
+  pub audit_missing : (c : AuditChallenge) → c.node ≡ me → names_entries log (form.Audit c) ≡ false → answer_fault me log (form.Audit c) ≡ Some NotInLog
+  audit_missing c same missing = audit_tests c ∙ (λ i. by_tests (eq-eqb _ _ same i) (missing i))
+
+  pub audit_answered : (c : AuditChallenge) → c.node ≡ me → names_entries log (form.Audit c) ≡ true → answer_fault me log (form.Audit c) ≡ None
+  audit_answered c same named = audit_tests c ∙ (λ i. by_tests (eq-eqb _ _ same i) (named i))
+
+  pub audit_named : (c : AuditChallenge) → answer_fault me log (form.Audit c) ≡ None → names_entries log (form.Audit c) ≡ true
+  audit_named c none = go (eqb c.node me) (names_entries log (form.Audit c)) refl (sym (audit_tests c) ∙ none)
+    where
+      go : (a b : Bool) → names_entries log (form.Audit c) ≡ b → by_tests a b ≡ None → names_entries log (form.Audit c) ≡ true
+      go false b is told = absurd cc
+      go true false is told = absurd cc
+      go true true is told = is
+
+  -- what the refusal of an audit tells
+  pub record IsMissing (c : AuditChallenge) : Type 0 where
+    pub mine : c.node ≡ me
+    pub missing : names_entries log (form.Audit c) ≡ false
+
+  pub audit_told : (c : AuditChallenge) → answer_fault me log (form.Audit c) ≡ Some NotInLog → IsMissing c
+  audit_told c told = go (eqb c.node me) (names_entries log (form.Audit c)) refl refl (sym (audit_tests c) ∙ told)
+    where
+      go : (a b : Bool) → eqb c.node me ≡ a → names_entries log (form.Audit c) ≡ b → by_tests a b ≡ Some NotInLog → IsMissing c
+      go false b mine is told = absurd cc
+      go true true mine is told = absurd cc
+      go true false mine is told = record { mine = eqb-true _ _ mine; missing = is }
+
+  -- ---- a message
+
+  send_tests : (m : Message) → answer_fault me log (form.Send m) ≡ by_tests (eqb m.to me) true
+  unfolding answer_fault
+  send_tests m = refl
+
+  pub send_other : (m : Message) → m.to ≢ me → answer_fault me log (form.Send m) ≡ Some NotForMe
+  send_other m other = send_tests m ∙ ap (λ (b : Bool). by_tests b true) (ne_eqb _ _ other)
+
+  pub send_answered : (m : Message) → m.to ≡ me → answer_fault me log (form.Send m) ≡ None
+  send_answered m same = send_tests m ∙ ap (λ (b : Bool). by_tests b true) (eq-eqb _ _ same)
+
+  pub send_told : (m : Message) → answer_fault me log (form.Send m) ≡ Some NotInLog → ⊥
+  send_told m told = go (eqb m.to me) (sym (send_tests m) ∙ told)
+    where
+      go : (a : Bool) → by_tests a true ≡ Some NotInLog → ⊥
+      go false told = cc
+      go true told = cc
