@@ -1,4 +1,6 @@
+mod Acknowledged
 mod Audits
+mod Closing
 mod Contents
 mod Cuts
 mod Filtered

@@ -8,8 +8,9 @@ use Rattle.item_forms.specs.declared.forms.AuditChallenge.{AuditChallenge}
 use Rattle.item_forms.specs.declared.forms.Fields.{Fields}
 use Rattle.item_forms.specs.declared.forms.Fields.TheVariants as form
 use Rattle.challenges.specs.declared.fault.AnswerFault.{AnswerFault}
-use Rattle.challenges.specs.declared.fault.AnswerFault.TheVariants.{NotForMe, NotInLog}
-use Rattle.challenges.specs.Answers.{answer_fault, is_first_logged, is_logged, names_entries}
+use Rattle.challenges.specs.declared.fault.AnswerFault.TheVariants.{NoAnswerNeeded, NotForMe, NotInLog}
+use Rattle.challenges.specs.Answers.{answer_fault, is_challenge, names_entries}
+use Rattle.evidence_set.specs.Challenges.{is_against}
 
 module _ (me : ℕ) (log : List Entry) where
   -- ---- an audit
@@ -70,3 +71,12 @@ module _ (me : ℕ) (log : List Entry) where
       go : (a : Bool) → by_tests a true ≡ Some NotInLog → ⊥
       go false told = cc
       go true told = cc
+
+  -- ---- no challenge
+
+  pub needs_none : (x : Fields) → is_challenge x ≡ false → answer_fault me log x ≡ Some NoAnswerNeeded
+  unfolding answer_fault
+  needs_none x is = λ i. cond (not (is i)) (Some NoAnswerNeeded) (by_tests (is_against me x) (names_entries log x))
+
+  pub no_challenge : (x : Fields) → is_challenge x ≡ false → answer_fault me log x ≡ Some NotInLog → ⊥
+  no_challenge x is told = let first = needs_none x is in cc

@@ -11,9 +11,11 @@ ghost use Rattle.challenges.specs.within.Refusing.{IsOfRoom, IsRefusedMessage, I
 
 use crate::fault::AnswerFault;
 use crate::ranges::{bytes_fit, hash_fits};
+use commitment::laws::{acks_are_kept, acks_are_valid};
 use commitment::{Ack, Message, Node, NodeFault};
 use item_forms::Item;
 use replay_verifier::Program;
+use replay_verifier::laws::the_test_is_genuine;
 
 /// A refusal to receive a message that is at no fault, under its name here.
 fn told(fault: NodeFault) -> AnswerFault
@@ -46,6 +48,9 @@ pub(crate) fn receive<P: Program + Drop>(
     ensures refused { IfErr result (λ e. IsRefusedMessage P.means node.old message.now entropy e) }
     ensures unchanged { OnErr result (node.new ≡ node.old) }
 {
+    the_test_is_genuine();
+    acks_are_valid();
+    acks_are_kept();
     let _account = node.signed();
     match node.receive(message, entropy) {
         Ok(given) => Ok(given),
