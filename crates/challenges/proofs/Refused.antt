@@ -3,13 +3,17 @@ use Rattle.std.proofs.Common.{◌≡◌, ◌≢◌, ℕ, Bool, true, false, cond
 use Rattle.std.proofs.lemmas.Bool.{ne_eqb, eq-eqb, eqb-true}
 use Rattle.std.specs.Prelude.{◌&&◌, not}
 use Rattle.log_chain.specs.declared.entry.Entry.{Entry}
+use Rattle.replay_verifier.specs.Meaning.{Meaning}
 use Rattle.commitment.specs.declared.message.Message.{Message}
+use Rattle.commitment.specs.Nodes.{NodeState}
 use Rattle.item_forms.specs.declared.forms.AuditChallenge.{AuditChallenge}
 use Rattle.item_forms.specs.declared.forms.Fields.{Fields}
 use Rattle.item_forms.specs.declared.forms.Fields.TheVariants as form
 use Rattle.challenges.specs.declared.fault.AnswerFault.{AnswerFault}
 use Rattle.challenges.specs.declared.fault.AnswerFault.TheVariants.{NoAnswerNeeded, NotForMe, NotInLog}
-use Rattle.challenges.specs.Answers.{answer_fault, is_challenge, names_entries}
+use Rattle.challenges.specs.declared.fault.AnswerFault.TheVariants as fault
+use Rattle.challenges.specs.within.Refusing.{IsRefusedMessage}
+use Rattle.challenges.specs.Answers.{IsRefused, answer_fault, is_challenge, names_entries}
 use Rattle.evidence_set.specs.Challenges.{is_against}
 
 module _ (me : ℕ) (log : List Entry) where
@@ -80,3 +84,25 @@ module _ (me : ℕ) (log : List Entry) where
 
   pub no_challenge : (x : Fields) → is_challenge x ≡ false → answer_fault me log x ≡ Some NotInLog → ⊥
   no_challenge x is told = let first = needs_none x is in cc
+
+-- ---- refusals, as a whole call tells them
+
+pub refused_send : {S : Type 0} (p : Meaning S) (n : NodeState S) (m : Message) (entropy : List ℕ) (e : AnswerFault) → answer_fault n.account.me n.account.entries (form.Send m) ≡ None
+    → IsRefusedMessage p n m entropy e → IsRefused p n (form.Send m) entropy e
+refused_send p n m entropy fault.NoAnswerNeeded none told = absurd told
+refused_send p n m entropy fault.NotForMe none told = absurd told
+refused_send p n m entropy fault.NotInLog none told = absurd told
+refused_send p n m entropy fault.KeySpent none told = (none, told)
+refused_send p n m entropy fault.LogFull none told = (none, told)
+refused_send p n m entropy fault.Memory none told = none
+
+-- two numbers that the test tells apart, and two that it does not
+pub apart : (a b me : ℕ) (r : Bool) → b ≡ me → r ≡ not (eqb a b) → r ≡ true → a ≢ me
+apart a b me r same is told equal = let one = eq-eqb a b (equal ∙ sym same) in let w : true ≡ false = sym told ∙ is ∙ ap not one in absurd cc
+
+pub alike : (a b me : ℕ) (r : Bool) → b ≡ me → r ≡ not (eqb a b) → r ≡ false → a ≡ me
+alike a b me r same is told = go (eqb a b) refl (sym is ∙ told)
+  where
+    go : (v : Bool) → eqb a b ≡ v → not v ≡ false → a ≡ me
+    go true one no_more = eqb-true a b one ∙ same
+    go false one no_more = absurd cc
