@@ -1,6 +1,6 @@
 //! Challenges to node 2 and its answers, with the hashes of its log as a program in Python over its `hashlib` has them.
 
-use crate::samples::{ZEROS, message, new_node, node_with_log, statement};
+use crate::samples::{ZEROS, make_nodes, new_node, node_with_log};
 use crate::{AnswerFault, ChallengeFault, answer, audit_challenge, send_challenge};
 use authenticators::{Authenticator, NodeId};
 use commitment::Node;
@@ -26,7 +26,7 @@ const FOURTH: Hash = Hash([
 /// The hash of entry 6.
 const SIXTH: Hash = Hash([
     0x8e, 0xfd, 0xb9, 0x2f, 0x95, 0xad, 0xed, 0xfc, 0x3b, 0x09, 0x01, 0xb6, 0xcd, 0x71, 0x09, 0x5f,
-    0xbf, 0x3b, 0xa9, 0xe4, 0x1e, 0xa7, 0x21, 0x7e, 0x97, 0xb2, 0xd8, 0x44, 0x59, 0x61, 0x72, 0xf7,
+    0xbf, 0x3b, 0xa9, 0xe4, 0x1e, 0xa7, 0x21, 0x7e, 0x94, 0xb2, 0xd8, 0x44, 0x59, 0x61, 0x72, 0xf7,
 ]);
 
 /// The number of the fault with which the node refuses to answer the item; 0 where it answers.
@@ -38,25 +38,26 @@ fn refusal(alloc: Global, node: &mut Node<Tally>, item: Item) -> Result<u8, Fail
     }
 }
 
-/// What a segment that answers an audit shows: the hash before it and at its end, the first number and the last, and whether it is
-/// valid evidence that comes without messages.
+/// What a segment that answers an audit has: the hash before it and at its end, the first number and the last, and whether it came
+/// without messages.
 #[derive(Clone, Copy, Debug, PartialEq, Eq)]
-struct Shown {
+struct Part {
     prev: Hash,
     end: Hash,
     first: u64,
     last: u64,
-    is_valid: bool,
+    is_alone: bool,
 }
 
-/// What the node shows where it is asked from the entry `first`, if one is given, to entry 6.
-fn shown(alloc: Global, first: Option<(u64, Hash)>) -> Result<Shown, Fail> {
-    let mut node = node_with_log(alloc)?;
+/// What the node shows where it is asked from the entry `first`, if one is given, to entry 6. The answer is valid evidence.
+fn shown(alloc: Global, first: Option<(u64, Hash)>) -> Result<Part, Fail> {
+    let mut nodes = make_nodes(alloc)?;
+    let mut node = node_with_log(alloc, &nodes)?;
     let first = match first {
         None => None,
-        Some((seq, hash)) => Some(statement(alloc, 2, seq, hash)?),
+        Some((seq, hash)) => Some(nodes.two.statement(alloc, seq, hash)?),
     };
-    let item = audit_challenge(first, statement(alloc, 2, 6, SIXTH)?)?;
+    let item = audit_challenge(first, nodes.two.statement(alloc, 6, SIXTH)?)?;
     let challenge = check_item(alloc, &Tally, node.directory(), item)?;
     let given = answer(alloc, &mut node, &challenge, [7; 32])?;
     let is_alone = given.messages.is_empty();
@@ -64,23 +65,23 @@ fn shown(alloc: Global, first: Option<(u64, Hash)>) -> Result<Shown, Fail> {
     let Form::Segment(segment) = checked.item().form() else {
         return Err("a segment".into());
     };
-    Ok(Shown {
+    Ok(Part {
         prev: segment.prev,
         end: chain_end(segment.prev, segment.entries.as_slice()),
         first: segment.first_seq().ok_or("an entry")?,
         last: segment.last_seq().ok_or("an entry")?,
-        is_valid: is_alone,
+        is_alone,
     })
 }
 
 #[test]
 fn an_audit_is_answered_from_the_beginning(rt: HostRuntime) -> Result<(), Fail> {
-    let whole = Shown {
+    let whole = Part {
         prev: base_hash(),
         end: SIXTH,
         first: 1,
         last: 6,
-        is_valid: true,
+        is_alone: true,
     };
     assert_eq!(rt; shown(rt.alloc(), None)?, whole);
     assert_eq!(rt; shown(rt.alloc(), Some((2, SECOND)))?, whole);
@@ -89,58 +90,58 @@ fn an_audit_is_answered_from_the_beginning(rt: HostRuntime) -> Result<(), Fail> 
 
 #[test]
 fn an_audit_is_answered_from_a_checkpoint(rt: HostRuntime) -> Result<(), Fail> {
-    let part = Shown {
+    let part = Part {
         prev: SECOND,
         end: SIXTH,
         first: 3,
         last: 6,
-        is_valid: true,
+        is_alone: true,
     };
     assert_eq!(rt; shown(rt.alloc(), Some((4, FOURTH)))?, part);
     Ok(())
 }
 
-/// The refusal of an audit of the node from its beginning to a number and a hash.
-fn audit_refusal(
-    alloc: Global,
-    node: &mut Node<Tally>,
-    of: u8,
-    seq: u64,
-    hash: Hash,
-) -> Result<u8, Fail> {
-    let item = audit_challenge(None, statement(alloc, of, seq, hash)?)?;
-    refusal(alloc, node, item)
+/// The refusals of audits up to entry 6: of another node, with a wrong hash, and by a node without the entry.
+fn audit_refusals(alloc: Global) -> Result<[u8; 3], Fail> {
+    let mut nodes = make_nodes(alloc)?;
+    let mut node = node_with_log(alloc, &nodes)?;
+    let item = audit_challenge(None, nodes.one.statement(alloc, 6, SIXTH)?)?;
+    let of_another = refusal(alloc, &mut node, item)?;
+    let item = audit_challenge(None, nodes.two.statement(alloc, 6, SECOND)?)?;
+    let of_wrong_hash = refusal(alloc, &mut node, item)?;
+    let mut young = new_node(alloc, &nodes)?;
+    let item = audit_challenge(None, nodes.two.statement(alloc, 6, SIXTH)?)?;
+    let of_none = refusal(alloc, &mut young, item)?;
+    Ok([of_another, of_wrong_hash, of_none])
 }
 
-/// The refusals of audits: of another node, of a wrong hash, and by a node without the entry; and of an item that is no challenge.
-fn refusals(alloc: Global) -> Result<[u8; 5], Fail> {
-    let mut node = node_with_log(alloc)?;
-    let of_another = audit_refusal(alloc, &mut node, 1, 6, SIXTH)?;
-    let of_wrong_hash = audit_refusal(alloc, &mut node, 2, 6, SECOND)?;
-    let of_none = refusal(alloc, &mut node, Item::auth(statement(alloc, 1, 6, SIXTH)?)?)?;
-    let to_another = send_challenge(message(alloc, 2, b"X")?)?;
-    let of_another_message = refusal(alloc, &mut node, to_another)?;
-    let mut young = new_node(alloc)?;
-    let of_missing = audit_refusal(alloc, &mut young, 2, 6, SIXTH)?;
-    Ok([
-        of_another,
-        of_wrong_hash,
-        of_none,
-        of_another_message,
-        of_missing,
-    ])
+/// The refusals of a message to another node, and of a statement, which is no challenge.
+fn other_refusals(alloc: Global) -> Result<[u8; 2], Fail> {
+    let mut nodes = make_nodes(alloc)?;
+    let mut node = new_node(alloc, &nodes)?;
+    let item = send_challenge(nodes.two.message(alloc, 1, b"X")?)?;
+    let of_another = refusal(alloc, &mut node, item)?;
+    let item = Item::auth(nodes.one.statement(alloc, 6, SIXTH)?)?;
+    let of_statement = refusal(alloc, &mut node, item)?;
+    Ok([of_another, of_statement])
 }
 
 #[test]
-fn challenges_are_refused_in_order(rt: HostRuntime) -> Result<(), Fail> {
-    assert_eq!(rt; refusals(rt.alloc())?, [70, 71, 72, 70, 71]);
+fn audits_of_others_and_of_other_logs_are_refused(rt: HostRuntime) -> Result<(), Fail> {
+    assert_eq!(rt; audit_refusals(rt.alloc())?, [70, 71, 71]);
+    Ok(())
+}
+
+#[test]
+fn messages_to_others_and_statements_are_refused(rt: HostRuntime) -> Result<(), Fail> {
+    assert_eq!(rt; other_refusals(rt.alloc())?, [70, 72]);
     Ok(())
 }
 
 /// What answers a message: the number of the RECV entry, the hash before it, how many messages the node sends, how many entries
 /// its log has then, and whether the answer is evidence that is equal to the one of the repetition.
 #[derive(Clone, Copy, Debug, PartialEq, Eq)]
-struct Acknowledged {
+struct Told {
     seq: u64,
     prev: Hash,
     messages: [usize; 2],
@@ -149,9 +150,11 @@ struct Acknowledged {
 }
 
 /// What answers a message that adds one and is asked for twice.
-fn acknowledged(alloc: Global) -> Result<Acknowledged, Fail> {
-    let mut node = node_with_log(alloc)?;
-    let item = send_challenge(message(alloc, 1, &[b'A', 0, 0, 0, 0, 0, 0, 0, 1])?)?;
+fn acknowledged(alloc: Global) -> Result<Told, Fail> {
+    let mut nodes = make_nodes(alloc)?;
+    let mut node = node_with_log(alloc, &nodes)?;
+    let payload = [b'A', 0, 0, 0, 0, 0, 0, 0, 1];
+    let item = send_challenge(nodes.one.message(alloc, 2, &payload)?)?;
     let challenge = check_item(alloc, &Tally, node.directory(), item)?;
     let first = answer(alloc, &mut node, &challenge, [7; 32])?;
     let again = answer(alloc, &mut node, &challenge, [8; 32])?;
@@ -160,7 +163,7 @@ fn acknowledged(alloc: Global) -> Result<Acknowledged, Fail> {
     let Form::Ack(ack) = checked.item().form() else {
         return Err("an acknowledgement".into());
     };
-    Ok(Acknowledged {
+    Ok(Told {
         seq: ack.seq,
         prev: ack.prev,
         messages: [first.messages.len(), again.messages.len()],
@@ -171,7 +174,7 @@ fn acknowledged(alloc: Global) -> Result<Acknowledged, Fail> {
 
 #[test]
 fn a_message_is_acknowledged_once(rt: HostRuntime) -> Result<(), Fail> {
-    let expected = Acknowledged {
+    let expected = Told {
         seq: 7,
         prev: SIXTH,
         messages: [1, 0],
