@@ -75,14 +75,14 @@ covers log c up range names = go c.first range (and_parts (is_first_logged log c
   where
     pairs : (start : ℕ) (s : Statement) → has_pair (logged (chain_end base (below start log)) (between start c.last.seq log)) s.seq s.hash ≡ true → HasPair (logged (chain_end base (below start log)) (between start c.last.seq log)) s.seq s.hash
     pairs start s is = (pairs_tested (logged (chain_end base (below start log)) (between start c.last.seq log)) s.seq s.hash).0 is
+
     go : (first : Option Statement) → IfSome first (λ f. f.seq < c.last.seq) → (is_first_logged log first ≡ true) × (is_logged log c.last ≡ true) → Covers first c.last (shown_from (start_seq log first) log c)
     go None range both =
         let low = first_within log c.last.seq up (entry_of log c.last up both.1).has in
         (base_first log up, pairs (start_seq log None) c.last (covered log (start_seq log None) c.last.seq c.last up low (omega arith) both.1))
     go (Some f) range both =
         let start = start_seq log (Some f) in
-        let low = start_within log f in
-        (
+        let low = start_within log f in (
           pairs start f (covered log start c.last.seq f up low (omega arith) both.0),
           pairs start c.last (covered log start c.last.seq c.last up (omega arith) (omega arith) both.1),
         )
@@ -101,8 +101,10 @@ shown log c shows range names =
   where
     both : (is_first_logged log c.first ≡ true) × (is_logged log c.last ≡ true)
     both = and_parts (is_first_logged log c.first) (is_logged log c.last) names
+
     last : IsEntry log c.last
     last = entry_of log c.last shows.rising both.1
+
     go : (first : Option Statement) → IfSome first (λ f. f.seq < c.last.seq) → is_first_logged log first ≡ true → Start log (start_seq log first) × (start_seq log first ≤ c.last.seq)
     go None range is = start_first log c.last.seq shows.rising shows.one_init last.has
     go (Some f) range is =

@@ -77,6 +77,7 @@ stamped prev (e ∷ es) s at = go (is_signed_kind e.kind) at (stamped (entry_has
   where
     here : Logged
     here = record { seq = e.seq; hash = entry_hash prev e; kind = e.kind; content = e.content }
+
     go : (b : Bool) → Contains (cond b ((e.seq, entry_hash prev e) ∷ stamps (entry_hash prev e) es) (stamps (entry_hash prev e) es)) s
         → (Contains (stamps (entry_hash prev e) es) s → HasPair (logged (entry_hash prev e) es) s.0 s.1) → HasPair (logged prev (e ∷ es)) s.0 s.1
     go true (zero, within, is) step = (here, (zero, omega arith, refl), ap (λ (t : Stamp). t.0) is, ap (λ (t : Stamp). t.1) is)
@@ -98,6 +99,7 @@ missing_of log c fails = go (first_or (is_first_logged log c.first) (is_logged l
     first : (o : Option Statement) → c.first ≡ o → is_first_logged log o ≡ false → Missing log c
     first None is told = absurd cc
     first (Some s) is told = record { statement = s; is_named = inl is; missing = told }
+
     go : (is_first_logged log c.first ≡ false) ⊎ (is_logged log c.last ≡ false) → Missing log c
     go (inl told) = first c.first refl told
     go (inr told) = record { statement = c.last; is_named = inr refl; missing = told }

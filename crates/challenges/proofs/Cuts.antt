@@ -19,8 +19,10 @@ from_there from to n (e ∷ es) le h = go (leb e.seq to) refl (from_there from t
   where
     up : n < e.seq
     up = h.0
+
     in' : leb from e.seq ≡ true
     in' = le-leb _ _ (omega arith)
+
     go : (b : Bool) → leb e.seq to ≡ b → between from to es ≡ up_to to es → between from to (e ∷ es) ≡ up_to to (e ∷ es)
     go true t rest =
         filter_yes (λ e. leb from e.seq && leb e.seq to) e es (and_from _ _ in' t) ∙ ap (λ (xs : List Entry). e ∷ xs) rest ∙ sym (filter_yes (λ e. leb e.seq to) e es t)
@@ -76,8 +78,10 @@ module _ (from to : ℕ) (e : Entry) (es : List Entry) where
     where
       more : last_seq (between from to es) ≡ to
       more = let other : eqb e.seq to ≡ false = ne_eqb _ _ (λ same. omega arith) in rest (rw other at has)
+
       within : leb e.seq to ≡ true
       within = le-leb _ _ (omega arith)
+
       go : (b : Bool) → leb from e.seq ≡ b → last_seq (between from to (e ∷ es)) ≡ to
       go true f = ap last_seq (filter_yes (λ e. leb from e.seq && leb e.seq to) e es (and_from _ _ f within)) ∙ longer e (between from to es) to lt more
       go false f = ap last_seq (filter_no (λ e. leb from e.seq && leb e.seq to) e es (and_left _ _ f)) ∙ more
@@ -186,6 +190,7 @@ same_pairs prev from to seq hash es h low high =
         let up : from ≤ e.seq = omega arith in
         let down : e.seq ≤ to = omega arith in
         and_from _ _ (le-leb _ _ up) (le-leb _ _ down)
+
     tests : (n : ℕ) → ((leb from n && leb n to) && leb n seq) ≡ (leb from n && leb n seq)
     tests n = elim (cases_lt seq n) [
       | inl gt ↦ let past : leb n seq ≡ false = lt-leb _ _ gt in rw past (and_false (leb from n && leb n to) ∙ sym (and_false (leb from n)))

@@ -53,15 +53,16 @@ last_picked test d (f ∷ es) t = go (test f) refl (λ q. last_picked test f es 
     behind : (e : Entry) → Member e (d ∷ es) → Member e (d ∷ f ∷ es)
     behind e (inl same) = inl same
     behind e (inr m) = inr (inr m)
+
     go : (b : Bool) → test f ≡ b → (test f ≡ true → Picked test (f ∷ es)) → Picked test (d ∷ es) → Picked test (d ∷ f ∷ es)
     go true q with_f without =
         let r = with_f q in
         let whole : last_seq (filter test (d ∷ f ∷ es)) ≡ last_seq (filter test (f ∷ es)) =
-            ap last_seq (filter_yes test d (f ∷ es) t ∙ ap (λ (xs : List Entry). d ∷ xs) (filter_yes test f es q)) ∙ ap last_seq (sym (filter_yes test f es q)) in
+        ap last_seq (filter_yes test d (f ∷ es) t ∙ ap (λ (xs : List Entry). d ∷ xs) (filter_yes test f es q)) ∙ ap last_seq (sym (filter_yes test f es q)) in
         record { entry = r.entry; member = inr r.member; passes = r.passes; last = whole ∙ r.last }
     go false q with_f r =
         let whole : last_seq (filter test (d ∷ f ∷ es)) ≡ last_seq (filter test (d ∷ es)) =
-            ap last_seq (filter_yes test d (f ∷ es) t ∙ ap (λ (xs : List Entry). d ∷ xs) (filter_no test f es q)) ∙ ap last_seq (sym (filter_yes test d es t)) in
+        ap last_seq (filter_yes test d (f ∷ es) t ∙ ap (λ (xs : List Entry). d ∷ xs) (filter_no test f es q)) ∙ ap last_seq (sym (filter_yes test d es t)) in
         record { entry = r.entry; member = behind r.entry r.member; passes = r.passes; last = whole ∙ r.last }
 
 -- ---- where a part begins
@@ -75,13 +76,13 @@ pub record Start (log : List Entry) (start : ℕ) : Type 0 where
 
 pub first_lowest : (n : ℕ) (e : Entry) (es : List Entry) → Rising (e ∷ es) → has_seq n (e ∷ es) ≡ true → e.seq ≤ n
 first_lowest n e es up has = elim (cases_lt n e.seq) [
-      | inl lt ↦
-        let other : eqb e.seq n ≡ false = ne_eqb _ _ (λ same. omega arith) in
-        let none : has_seq n es ≡ false = has_seq-above n e.seq es (omega arith) (above_first e es up) in
-        let no : has_seq n (e ∷ es) ≡ false = rw (other, none) refl in
-        absurd cc
-      | inr le ↦ le
-    ]
+  | inl lt ↦
+      let other : eqb e.seq n ≡ false = ne_eqb _ _ (λ same. omega arith) in
+      let none : has_seq n es ≡ false = has_seq-above n e.seq es (omega arith) (above_first e es up) in
+      let no : has_seq n (e ∷ es) ≡ false = rw (other, none) refl in
+      absurd cc
+  | inr le ↦ le
+]
 
 init_begins : (e : Entry) → e.kind ≡ INIT → is_start e ≡ true
 init_begins e is = let init : eqb e.kind INIT ≡ true = eq-eqb _ _ is in rw init refl
@@ -123,6 +124,7 @@ checkpoint e is other = go (eqb e.kind CHECKPOINT) refl
   where
     no_init : eqb e.kind INIT ≡ false
     no_init = ne_eqb _ _ other
+
     go : (b : Bool) → eqb e.kind CHECKPOINT ≡ b → e.kind ≡ CHECKPOINT
     go true k = eqb-true _ _ k
     go false k = let no : is_start e ≡ false = rw (no_init, k) refl in absurd cc

@@ -52,10 +52,10 @@ names_entries log (form.Ack a) = true
 unfoldable pub answer_fault : ℕ → List Entry → Fields → Option AnswerFault
 answer_fault me log x =
     first_line (
-      (not (is_challenge x), fault.NoAnswerNeeded)
-      ∷ (not (is_against me x), fault.NotForMe)
-      ∷ (not (names_entries log x), fault.NotInLog)
-      ∷ []
+    (not (is_challenge x), fault.NoAnswerNeeded)
+    ∷ (not (is_against me x), fault.NotForMe)
+    ∷ (not (names_entries log x), fault.NotInLog)
+    ∷ []
     )
 
 -- ---- the answer to an audit challenge

@@ -34,7 +34,7 @@ fn key_of(alloc: Global, node: u8) -> Result<SecretKey, Fail> {
     Ok(SecretKey::make(alloc, LmsType::H5, OtsType::W1, id, seed)?)
 }
 
-fn signer(alloc: Global, node: u8) -> Result<Signer, Fail> {
+fn make_signer(alloc: Global, node: u8) -> Result<Signer, Fail> {
     Ok(Signer {
         node: NodeId(u32::from(node)),
         key: key_of(alloc, node)?,
@@ -42,8 +42,8 @@ fn signer(alloc: Global, node: u8) -> Result<Signer, Fail> {
 }
 
 pub(crate) fn make_nodes(alloc: Global) -> Result<Nodes, Fail> {
-    let one = signer(alloc, 1)?;
-    let two = signer(alloc, 2)?;
+    let one = make_signer(alloc, 1)?;
+    let two = make_signer(alloc, 2)?;
     let mut directory = Directory::new(alloc);
     directory.add(one.node, one.key.public_key())?;
     directory.add(two.node, two.key.public_key())?;
@@ -56,7 +56,7 @@ pub(crate) fn make_nodes(alloc: Global) -> Result<Nodes, Fail> {
 
 /// Node 2 under Tally, whose log begins with the number 1.
 pub(crate) fn new_node(alloc: Global, nodes: &Nodes) -> Result<Node<Tally>, Fail> {
-    let directory = nodes.directory.try_clone(alloc)?;
+    let directory = nodes.directory.try_clone()?;
     let key = key_of(alloc, 2)?;
     Ok(
         Node::new(alloc, Tally, directory, NodeId(2), key, 1)

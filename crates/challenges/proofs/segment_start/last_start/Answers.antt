@@ -19,8 +19,10 @@ more seq es i e b within is tested = whole ∙ go b tested
   where
     test : Entry → Bool
     test x = is_start x && leb x.seq seq
+
     whole : last_seq (filter test (take (i + 1) es)) ≡ last_seq (filter test (take i es) ++ cond (test e) (e ∷ []) [])
     whole = ap last_seq (filter_more test es i e within ∙ ap (λ (x : Entry). filter test (take i es) ++ cond (test x) (x ∷ []) []) (sym is))
+
     go : (b : Bool) → test e ≡ b → last_seq (filter test (take i es) ++ cond (test e) (e ∷ []) []) ≡ cond b e.seq (last_seq (filter test (take i es)))
     go true t = ap (λ (b : Bool). last_seq (filter test (take i es) ++ cond b (e ∷ []) [])) t ∙ last_pushed (filter test (take i es)) e
     go false t = ap (λ (b : Bool). last_seq (filter test (take i es) ++ cond b (e ∷ []) [])) t ∙ ap last_seq (append-nil (filter test (take i es)))
