@@ -1,0 +1,10 @@
+mod Acknowledged
+mod Audits
+mod Closing
+mod Contents
+mod Cuts
+mod Filtered
+mod Lookups
+mod Parts
+mod Refused
+mod Starts

@@ -1,0 +1,119 @@
+//! For the tests: the nodes 1 and 2 with their keys, and node 2's log of INIT, timers and checkpoints.
+
+use authenticators::{Authenticator, Directory, NodeId, statement_text};
+use commitment::{Message, Node};
+use lms_sign::{LmsType, OtsType, SecretKey};
+use log_chain::{ByteString, Hash};
+use ref_programs::Tally;
+use std::alloc::Global;
+use std::test::Fail;
+
+pub(crate) const ZEROS: Hash = Hash([0; 32]);
+
+/// A node's number, and a key that is equal to the node's.
+#[derive(Drop)]
+pub(crate) struct Signer {
+    node: NodeId,
+    key: SecretKey,
+}
+
+/// The nodes that sign, under their directory.
+#[derive(Drop)]
+pub(crate) struct Nodes {
+    directory: Directory,
+    pub(crate) one: Signer,
+    pub(crate) two: Signer,
+}
+
+/// The key (H5, W1) whose identifier and seed end in the number.
+fn key_of(alloc: Global, node: u8) -> Result<SecretKey, Fail> {
+    let mut id = [0; 16];
+    id[15] = node;
+    let mut seed = [0; 32];
+    seed[31] = node;
+    Ok(SecretKey::make(alloc, LmsType::H5, OtsType::W1, id, seed)?)
+}
+
+fn make_signer(alloc: Global, node: u8) -> Result<Signer, Fail> {
+    Ok(Signer {
+        node: NodeId(u32::from(node)),
+        key: key_of(alloc, node)?,
+    })
+}
+
+pub(crate) fn make_nodes(alloc: Global) -> Result<Nodes, Fail> {
+    let one = make_signer(alloc, 1)?;
+    let two = make_signer(alloc, 2)?;
+    let mut directory = Directory::new(alloc);
+    directory.add(one.node, one.key.public_key())?;
+    directory.add(two.node, two.key.public_key())?;
+    Ok(Nodes {
+        directory,
+        one,
+        two,
+    })
+}
+
+/// Node 2 under Tally, whose log begins with the number 1.
+pub(crate) fn new_node(alloc: Global, nodes: &Nodes) -> Result<Node<Tally>, Fail> {
+    let directory = nodes.directory.try_clone()?;
+    let key = key_of(alloc, 2)?;
+    Ok(
+        Node::new(alloc, Tally, directory, NodeId(2), key, 1)
+            .ok()
+            .ok_or("a node")?,
+    )
+}
+
+/// The same with the log 1 INIT, 2 TIMER, 3 CHECKPOINT, 4 TIMER, 5 TIMER, 6 CHECKPOINT.
+pub(crate) fn node_with_log(alloc: Global, nodes: &Nodes) -> Result<Node<Tally>, Fail> {
+    let mut node = new_node(alloc, nodes)?;
+    node.timer(10, [0; 32])?;
+    node.checkpoint()?;
+    node.timer(20, [0; 32])?;
+    node.timer(30, [0; 32])?;
+    node.checkpoint()?;
+    Ok(node)
+}
+
+impl Signer {
+    fn sign(&mut self, alloc: Global, seq: u64, hash: Hash) -> Result<ByteString, Fail> {
+        let sig = self.key.sign(alloc, &statement_text(seq, hash), [9; 32])?;
+        Ok(ByteString::from_vec(sig))
+    }
+
+    pub(crate) fn statement(
+        &mut self,
+        alloc: Global,
+        seq: u64,
+        hash: Hash,
+    ) -> Result<Authenticator, Fail> {
+        let sig = self.sign(alloc, seq, hash)?;
+        Ok(Authenticator {
+            node: self.node,
+            seq,
+            hash,
+            sig,
+        })
+    }
+
+    /// A message with the number 4.
+    pub(crate) fn message(
+        &mut self,
+        alloc: Global,
+        to: u32,
+        payload: &[u8],
+    ) -> Result<Message, Fail> {
+        let mut message = Message {
+            from: self.node,
+            to: NodeId(to),
+            seq: 4,
+            prev: ZEROS,
+            sig: ByteString::from_vec(Vec::new(alloc)),
+            payload: ByteString::from_slice(alloc, payload)?,
+        };
+        let hash = message.signed_hash();
+        message.sig = self.sign(alloc, 4, hash)?;
+        Ok(message)
+    }
+}
