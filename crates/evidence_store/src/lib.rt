@@ -21,6 +21,8 @@ pub use plain_store::PlainStore;
 pub use proofs::Proof;
 pub use replay_verifier::Program;
 
+#[cfg(test)]
+mod cases;
 mod challenges;
 mod convicting;
 mod evidence;
