@@ -1,7 +1,9 @@
 #!/usr/bin/env python3
-"""Computes, over Python's hashlib alone, the digests of the exports that the tests of stores hold, and looks for each in their file.
+"""Makes the lines that the program store_vectors answers, over Python's hashlib alone, and compares them with its standard input;
+`--write` writes them there.
 
-It shares no code with the crates: the items are signed and spelled here again, from the formats (docs/FORMATS.md) and RFC 8554.
+It shares no code with the crates: the items are signed and spelled here again, from the formats (docs/FORMATS.md) and RFC 8554, and
+what a store says of the nodes stands beside each set of items.
 """
 
 import os
@@ -82,62 +84,121 @@ def demand(message):
     return u8(4) + spelled(message)
 
 
+def directory(keys):
+    text = b"PRDIRECT" + u32(2)
+    for node in (1, 2):
+        key = keys.keys[node]
+        text += u32(node) + u32(5) + u32(key.ots_type) + key.identifier + key.tree[1]
+    return text
+
+
 def export(items):
     items = sorted(set(items))
     return b"PRSTORE1" + u64(len(items)) + b"".join(text(item) for item in items)
 
 
+def demand_and_other_ack():
+    k = Keys()
+    return [demand(k.message(1, 7, b"hello")), k.ack(k.message(1, 8, b"hello"))]
+
+
+def demand_and_ack():
+    k = Keys()
+    message = k.message(1, 7, b"hello")
+    return [demand(message), k.ack(message)]
+
+
+def demand_and_receipt(change):
+    k = Keys()
+    message = k.message(1, 7, b"hello")
+    return [demand(message), k.receiving(message, change)]
+
+
+def checkpoint(k):
+    return k.segment(2, ZEROS, [(7, CHECKPOINT, u64(0))])
+
+
+def beginning(k):
+    return k.segment(2, sha256(), [(3, INIT, u32(2))])
+
+
+TRUSTED = "trusted 0 -"
+NOTHING = f"1 {TRUSTED} 2 {TRUSTED}"
+FIRST = f"1 exposed 0 1 2 {TRUSTED}"
+SECOND = f"1 {TRUSTED} 2 exposed 0 2"
+OPEN = f"1 {TRUSTED} 2 suspected 1 -"
+
+
 def cases():
-    """The items of each case, signed in the order of the list."""
+    """Items, signed in the order of the list, and what a store that has them says of the nodes 1 and 2."""
     k = Keys()
-    yield [k.auth(1, 5, ONES, 0), k.auth(1, 5, ONES, 1)]
+    # two signatures on one number and hash
+    yield [k.auth(1, 5, ONES, 0), k.auth(1, 5, ONES, 1)], NOTHING
     k = Keys()
-    yield [k.auth(1, 5, ONES), k.auth(1, 5, TWOS)]
+    # two hashes of one number
+    yield [k.auth(1, 5, ONES), k.auth(1, 5, TWOS)], FIRST
     k = Keys()
-    yield [k.log_from(3), k.auth(2, 4, ZEROS)]
+    # a statement on a number within a segment, with another hash
+    yield [k.log_from(3), k.auth(2, 4, ZEROS)], SECOND
     k = Keys()
-    yield [k.log_from(3), k.receiving(k.message(2, 4, b"X"), 0)]
+    # the same by a message that another node received
+    yield [k.log_from(3), k.receiving(k.message(2, 4, b"X"), 0)], SECOND
     k = Keys()
-    yield [k.segment(2, ZEROS, [(7, CHECKPOINT, u64(0))]), k.auth(2, 6, ONES)]
+    # a statement on the number just before a segment, with another hash
+    yield [checkpoint(k), k.auth(2, 6, ONES)], SECOND
     k = Keys()
-    yield [k.segment(2, ZEROS, [(7, CHECKPOINT, u64(0))]), k.auth(2, 5, ONES)]
+    # a statement two numbers before a segment
+    yield [checkpoint(k), k.auth(2, 5, ONES)], NOTHING
     k = Keys()
-    yield [k.segment(2, sha256(), [(3, INIT, u32(2))]), k.auth(2, 2, ONES)]
+    # a statement on a number before the log's first
+    yield [beginning(k), k.auth(2, 2, ONES)], SECOND
+    # a message that another one's acknowledgement does not answer, that its own does, and that a segment with it does
+    yield demand_and_other_ack()[:1], OPEN
+    yield demand_and_other_ack(), OPEN
+    yield demand_and_ack(), NOTHING
+    yield demand_and_receipt(0), NOTHING
+    # a receipt that its sender did not sign so: it answers nothing, and exposes who logged it
+    yield demand_and_receipt(1), f"1 {TRUSTED} 2 exposed 1 2"
     k = Keys()
-    yield [demand(k.message(1, 7, b"hello")), k.ack(k.message(1, 8, b"hello"))]
-    k = Keys()
-    message = k.message(1, 7, b"hello")
-    yield [demand(message), k.ack(message)]
-    k = Keys()
-    message = k.message(1, 7, b"hello")
-    yield [k.receiving(message, 0), demand(message)]
-    k = Keys()
-    yield [k.audit(2), k.log_from(3)]
-    k = Keys()
-    yield [k.audit(2), k.log_from(1)]
-    k = Keys()
-    yield [k.receiving(k.message(1, 7, b"hello"), 1)]
+    # a demand from the second entry on, a part that begins behind that, and the whole log
+    audit, part, whole = k.audit(2), k.log_from(3), k.log_from(1)
+    yield [audit, part], OPEN
+    yield [audit, part, whole], NOTHING
 
 
-def witnesses():
-    """The items that three witnesses share."""
+def lines():
+    keys = Keys()
+    yield "directory " + directory(keys).hex()
+    for items, said in cases():
+        answer = f"{len(items)} {said} {sha256(export(items)).hex()}"
+        forward, backward = spell(items), spell(items[::-1])
+        yield f"store {forward} {backward} {answer}"
+        yield f"store {spell(items[:1])} {spell(items[1:])} {answer}"
     k = Keys()
-    statements = [k.auth(1, 5, ONES, c) for c in (0, 1, 9)]
-    yield [*statements, k.auth(1, 5, TWOS), k.log_from(3), k.auth(2, 4, ZEROS)]
+    six = [*(k.auth(1, 5, ONES, c) for c in (0, 1, 9)), k.auth(1, 5, TWOS), k.log_from(3), k.auth(2, 4, ZEROS)]
+    answer = f"6 1 exposed 0 1 2 exposed 0 2 {sha256(export(six)).hex()}"
+    for first, second in (((0, 2, 4), (5, 3, 1)), ((5, 3, 1), (0, 2, 4)), ((4, 0, 5, 1), (5, 4, 3, 2, 1, 0)), ((2, 3, 4, 5, 0, 1), (3, 3)), ((), (1, 5, 0, 4, 2, 3))):
+        yield f"store {spell([six[i] for i in first])} {spell([six[i] for i in second])} {answer}"
+    yield f"store - - 0 {NOTHING} {sha256(export([])).hex()}"
+    k = Keys()
+    items = [k.auth(1, 5, ONES), k.auth(1, 5, TWOS)]
+    yield f"cuts {spell([k.auth(2, 5, ONES)])} {export(items).hex()} {16 + 4 + len(items[0])}"
+
+
+def spell(items):
+    return ",".join(item.hex() for item in items) or "-"
 
 
 def main():
-    folder = os.path.join(os.path.dirname(os.path.abspath(__file__)), "..", "crates", "evidence_store", "src")
-    missing = 0
-    for name, sets in ("tests.rt", cases()), ("merging_tests.rt", witnesses()):
-        with open(os.path.join(folder, name), encoding="utf-8") as file:
-            tests = file.read()
-        for items in sets:
-            digest = sha256(export(items)).hex()
-            stands = digest in tests
-            missing += not stands
-            print(digest, "stands in" if stands else "is not in", name)
-    sys.exit(missing != 0)
+    path = os.path.join(os.path.dirname(os.path.abspath(__file__)), "..", "crates", "store_vectors", "stdin")
+    text = "".join(line + "\n" for line in lines())
+    if "--write" in sys.argv:
+        with open(path, "w", encoding="utf-8") as file:
+            file.write(text)
+    with open(path, encoding="utf-8") as file:
+        same = file.read() == text
+    print("the lines are those of", path if same else "no file: they differ")
+    sys.exit(not same)
 
 
 if __name__ == "__main__":

@@ -21,8 +21,6 @@ pub use plain_store::PlainStore;
 pub use proofs::Proof;
 pub use replay_verifier::Program;
 
-#[cfg(test)]
-mod cases;
 mod challenges;
 mod convicting;
 mod evidence;
@@ -36,14 +34,10 @@ mod indicating;
 mod joining;
 mod listing;
 mod merging;
-#[cfg(test)]
-mod merging_tests;
 mod opening;
 mod placing;
 mod plain_store;
 mod ranges;
-#[cfg(test)]
-mod samples;
 mod statements;
 mod suspicion;
 mod taking;
