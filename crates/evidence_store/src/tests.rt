@@ -1,4 +1,4 @@
-//! A store without items, under a directory without nodes. Stores with items are held against other code by `store_vectors`.
+//! A store without items, under a directory without nodes.
 
 use crate::{AskFault, Evidence, PlainStore};
 use authenticators::{Directory, NodeId};
