@@ -1,7 +1,7 @@
 -- Which challenges a node answers.
 use Rattle.std.proofs.Common.{◌≡◌, ◌≢◌, ℕ, Bool, true, false, cond, eqb, List, Option, Some, None, refl, sym, ap, ◌∙◌}
 use Rattle.std.proofs.lemmas.Bool.{ne_eqb, eq-eqb, eqb-true}
-use Rattle.std.specs.Prelude.{◌&&◌, not}
+use Rattle.std.specs.Prelude.{not}
 use Rattle.log_chain.specs.declared.entry.Entry.{Entry}
 use Rattle.replay_verifier.specs.Meaning.{Meaning}
 use Rattle.commitment.specs.declared.message.Message.{Message}

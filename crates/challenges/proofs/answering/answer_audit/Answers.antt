@@ -1,11 +1,9 @@
-use Rattle.std.proofs.Common.{◌≡◌, ◌∙◌, Bool, true, false, List, refl, sym, ap, subst}
+use Rattle.std.proofs.Common.{true, false, refl, sym, subst}
 use Rattle.std.proofs.lemmas.Result.{err_from_is_err_and}
-use Rattle.log_chain.specs.declared.entry.Entry.{Entry}
-use Rattle.item_forms.specs.declared.forms.Fields.{Fields}
 use Rattle.item_forms.specs.declared.forms.Fields.TheVariants as form
 use Rattle.evidence_item.specs.Validity.{IsValid}
 use Rattle.evidence_set.specs.Challenges.{Answers}
-use Rattle.challenges.specs.Answers.{audit_answer, names_entries}
+use Rattle.challenges.specs.Answers.{audit_answer}
 use Rattle.challenges.proofs.Audits.{covers, segment_valid, shown}
 use Rattle.challenges.proofs.Closing.{range_of}
 use Rattle.challenges.proofs.Refused.{alike, apart, audit_answered, audit_missing, audit_other, named_by, shown_by}
