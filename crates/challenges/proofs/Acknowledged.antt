@@ -1,5 +1,5 @@
 -- Receiving a valid message: it is refused for want of room alone, and its acknowledgement is valid.
-use Rattle.std.proofs.Common.{◌≡◌, ◌≢◌, ℕ, ◌+◌, ◌-◌, ◌<◌, ◌≤◌, ◌^◌, ◌==◌, ◌||◌, ◌⊎◌, Bool, true, false, cond, eqb, ltb, length, List, [], Option, Some, None, Result, Ok, Err, refl, sym, ap, ◌∙◌, subst, inl, inr, arith}
+use Rattle.std.proofs.Common.{◌≡◌, ◌≢◌, ℕ, ◌+◌, ◌≤◌, ◌^◌, ◌==◌, ◌||◌, Bool, true, false, cond, ltb, length, List, [], Option, Some, None, Result, Ok, Err, refl, sym, ap, ◌∙◌, subst, inl, inr, arith}
 use Rattle.std.specs.Prelude.{not, is_some}
 use Rattle.std.proofs.lemmas.Bool.{eq-eqb, ne_eqb, le-ltb, ltb-false}
 use Rattle.sha2.proofs.Facts256.{length-sha256}
@@ -9,12 +9,11 @@ use Rattle.lms_sign.specs.Parameters.{NoSignatureIsLonger}
 use Rattle.lms_sign.specs.Signing.{public_key, remaining}
 use Rattle.outcome.specs.Outcome.{Fails}
 use Rattle.log_chain.specs.declared.limits.TheConstants.{MOST_ENTRIES}
-use Rattle.log_chain.specs.Fields.{IsBytesUpTo}
 use Rattle.log_chain.specs.History.{unless}
 use Rattle.authenticators.specs.Directory.{key_at}
 use Rattle.authenticators.specs.Statement.{Signed, VerifiesUnder, statement_text}
 use Rattle.replay_verifier.specs.declared.limits.TheConstants.{LONGEST_PAYLOAD}
-use Rattle.replay_verifier.specs.Conforming.{sent_by, step_of}
+use Rattle.replay_verifier.specs.Conforming.{sent_by}
 use Rattle.replay_verifier.specs.Meaning.{Meaning}
 use Rattle.replay_verifier.specs.Quotes.{IsGenuine, IsQuote, TestsQuotes, is_genuine, quote_text}
 use Rattle.replay_verifier.specs.Sending.{is_listed}
@@ -22,7 +21,7 @@ use Rattle.commitment.specs.declared.fault.NodeFault.{NodeFault}
 use Rattle.commitment.specs.declared.fault.NodeFault.TheVariants.{NotMine, UnknownSender, BadSignature, PayloadTooLong, KeySpent, LogFull, Memory}
 use Rattle.commitment.specs.declared.message.Ack.{Ack}
 use Rattle.commitment.specs.declared.message.Message.{Message}
-use Rattle.commitment.specs.Accounts.{Account, IsAccount, ack_next, all_sent, messages, next_seq, randomizer, received}
+use Rattle.commitment.specs.Accounts.{Account, IsAccount, ack_next, next_seq, randomizer}
 use Rattle.commitment.specs.Laws.{AcksAreKept, AcksAreValid, CanSign}
 use Rattle.commitment.specs.Limits.{room_fault}
 use Rattle.commitment.specs.Messages.{IsValidAck, IsValidMessage, quote}

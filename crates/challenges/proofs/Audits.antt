@@ -1,29 +1,25 @@
 -- The segment that answers an audit: it fits, it is valid, and it covers what is named.
-use Rattle.std.proofs.Common.{◌≡◌, ℕ, ◌<◌, ◌≤◌, ◌^◌, Bool, true, false, cond, leb, List, [], ◌∷◌, length, Option, Some, None, refl, sym, ap, ◌∙◌, subst, arith}
+use Rattle.std.proofs.Common.{◌≡◌, ℕ, ◌<◌, ◌≤◌, Bool, true, false, cond, leb, List, [], ◌∷◌, Option, Some, None, refl, sym, ap, ◌∙◌, subst, arith}
 use Rattle.std.specs.Prelude.{◌&&◌, IfSome, filter}
 use Rattle.std.specs.List.{AllByRecursion}
 use Rattle.std.specs.Str.{bytes_eq}
 use Rattle.std.specs.Cmp.Lexicographic.{bytes_decides}
-use Rattle.std.proofs.lemmas.Bool.{and_from, and_parts, eq-eqb, le-leb, leb-true}
+use Rattle.std.proofs.lemmas.Bool.{and_from, and_parts, le-leb, leb-true}
 use Rattle.std.proofs.lemmas.List.Elements.{All-from_recursion}
 use Rattle.lms_sign.specs.declared.key.PublicKey.{PublicKey}
 use Rattle.log_chain.specs.declared.entry.Entry.{Entry}
-use Rattle.log_chain.specs.declared.limits.TheConstants.{MOST_ENTRIES}
 use Rattle.log_chain.specs.Chain.{Rising, base, chain_end}
-use Rattle.log_chain.specs.Fields.{IsBytesOf, IsBytesUpTo}
+use Rattle.log_chain.specs.Fields.{IsBytesOf}
 use Rattle.log_chain.specs.History.{are_ends, below, between, has_seq, up_to}
-use Rattle.replay_verifier.specs.Sending.{is_listed}
 use Rattle.item_forms.proofs.EntryPasses.{pairs_tested}
 use Rattle.item_forms.specs.declared.forms.AuditChallenge.{AuditChallenge}
-use Rattle.item_forms.specs.declared.forms.Fields.{Fields}
 use Rattle.item_forms.specs.declared.forms.Fields.TheVariants as form
-use Rattle.item_forms.specs.declared.forms.Segment.{Segment}
 use Rattle.item_forms.specs.declared.forms.Statement.{Statement}
 use Rattle.item_forms.specs.Segments.{HasPair, has_pair, last_seq, logged}
 use Rattle.item_forms.specs.Spelling.{Fits, FitsAudit, FitsEntry}
 use Rattle.evidence_item.specs.Statements.{IsSigned, end_of, named}
 use Rattle.evidence_item.specs.Validity.{IsValidAudit, IsValidSegment}
-use Rattle.evidence_set.specs.Challenges.{Answers, Covers}
+use Rattle.evidence_set.specs.Challenges.{Covers}
 use Rattle.challenges.specs.Answers.{audit_answer, is_first_logged, is_logged, is_start, names_entries, shown_from, start_seq}
 use Rattle.challenges.specs.within.Showing.{IsRangeOf, IsShowable}
 use Rattle.challenges.proofs.Cuts.{cut_end, last_between, pair_at, same_pairs}

@@ -1,9 +1,9 @@
 -- What a node answers closes the challenge, and what it refuses as not in its log it did not sign.
-use Rattle.std.proofs.Common.{◌≡◌, ◌≢◌, ℕ, zero, suc, ◌<◌, ◌⊎◌, Bool, true, false, cond, List, [], ◌∷◌, ◌++◌, length, map, Option, Some, None, refl, sym, ap, ◌∙◌, subst, inl, inr, arith}
+use Rattle.std.proofs.Common.{◌≡◌, ℕ, zero, suc, ◌<◌, ◌⊎◌, Bool, true, false, cond, List, [], ◌∷◌, map, Option, Some, None, refl, sym, ap, subst, inl, inr, arith}
 use Rattle.std.specs.Prelude.{◌&&◌, IfSome}
 use Rattle.std.specs.List.{Contains}
 use Rattle.log_chain.specs.declared.entry.Entry.{Entry}
-use Rattle.log_chain.specs.Chain.{base, chain_end, entry_hash}
+use Rattle.log_chain.specs.Chain.{base, entry_hash}
 use Rattle.authenticators.specs.declared.authenticator.Authenticator.{Authenticator}
 use Rattle.replay_verifier.specs.Meaning.{Meaning}
 use Rattle.lms_sign.specs.declared.key.PublicKey.{PublicKey}
@@ -15,12 +15,10 @@ use Rattle.item_forms.specs.declared.forms.AuditChallenge.{AuditChallenge}
 use Rattle.item_forms.specs.declared.forms.Fields.{Fields}
 use Rattle.item_forms.specs.declared.forms.Fields.TheVariants as form
 use Rattle.item_forms.specs.declared.forms.Statement.{Statement}
-use Rattle.item_forms.specs.Pieces.{Piece}
-use Rattle.item_forms.specs.Segments.{HasPair, Logged, has_pair, logged}
+use Rattle.item_forms.specs.Segments.{HasPair, Logged, logged}
 use Rattle.evidence_item.specs.Statements.{IsSigned, named}
 use Rattle.evidence_item.specs.Validity.{IsValid, IsValidAudit}
 use Rattle.evidence_set.specs.Challenges.{Answers}
-use Rattle.evidence_set.specs.ItemSets.{Has, Items}
 use Rattle.challenges.specs.declared.fault.AnswerFault.TheVariants.{NotInLog}
 use Rattle.challenges.specs.AnswerLaws.{AnswersClose, Closes, IsNamed, RefusedAuditsShowForgery, ShowsForgery}
 use Rattle.challenges.specs.Answers.{IsAnswered, ack_answer, answer_fault, audit_answer, is_first_logged, is_logged, names_entries}

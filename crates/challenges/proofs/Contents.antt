@@ -1,6 +1,6 @@
 -- The contents of a log at rest are within their limit, and INIT stands only at its beginning.
-use Rattle.std.proofs.Common.{◌≡◌, ◌≢◌, ℕ, ◌+◌, ◌<◌, ◌≤◌, ◌^◌, Bool, true, false, cond, leb, List, [], ◌∷◌, ◌++◌, length, map, take, zero, suc, Option, Some, None, Result, Ok, Err, refl, sym, ap, ◌∙◌, subst, arith, lit≤, inl, inr, append-nil}
-use Rattle.std.specs.Prelude.{◌&&◌, filter, nat_le, IsTrue}
+use Rattle.std.proofs.Common.{◌≡◌, ◌≢◌, ℕ, ◌+◌, ◌<◌, ◌≤◌, ◌^◌, Bool, true, false, cond, leb, List, [], ◌∷◌, ◌++◌, length, map, take, zero, suc, Some, Result, Ok, Err, refl, sym, ap, ◌∙◌, subst, arith, inl, inr, append-nil}
+use Rattle.std.specs.Prelude.{filter}
 use Rattle.std.specs.Result.{result_ok}
 use Rattle.std.specs.List.{All, AllByRecursion}
 use Rattle.std.proofs.lemmas.List.Elements.{recursion_from_All}
@@ -16,15 +16,15 @@ use Rattle.log_chain.specs.declared.kind.TheConstants.{INIT}
 use Rattle.log_chain.specs.declared.limits.TheConstants.{LONGEST_CONTENT, MOST_ENTRIES}
 use Rattle.log_chain.specs.Chain.{base, Rising}
 use Rattle.log_chain.specs.Fields.{bytes_text}
-use Rattle.replay_verifier.specs.declared.limits.TheConstants.{LONGEST_PAYLOAD, LONGEST_STATE, MOST_OUTPUTS}
+use Rattle.replay_verifier.specs.declared.limits.TheConstants.{LONGEST_PAYLOAD, MOST_OUTPUTS}
 use Rattle.replay_verifier.specs.declared.output.Output.{Output}
-use Rattle.replay_verifier.specs.Conforming.{Act, Begins, Block, Receives, Ticks, Checkpoints, IsProper, Rests, Setting, act, acts_of, head_act, init_act, is_short, send_act, sent_by, step_of}
-use Rattle.replay_verifier.specs.Meaning.{Happening, IsHappening, Lawful, Received, Ticked}
-use Rattle.replay_verifier.specs.Quotes.{IsQuote, Quote, ReceiptsHaveOneText, quote_of, quote_text, receipt_of}
-use Rattle.replay_verifier.specs.Sending.{is_sent, outs}
-use Rattle.commitment.specs.Accounts.{Account, IsAccount, IsLogged}
+use Rattle.replay_verifier.specs.Conforming.{Act, Begins, Block, Receives, Ticks, Checkpoints, IsProper, Rests, Setting, act, acts_of, head_act, init_act, send_act, sent_by, step_of}
+use Rattle.replay_verifier.specs.Meaning.{Lawful, Received, Ticked}
+use Rattle.replay_verifier.specs.Quotes.{IsQuote, Quote, ReceiptsHaveOneText, quote_of, quote_text}
+use Rattle.replay_verifier.specs.Sending.{is_sent}
+use Rattle.commitment.specs.Accounts.{IsLogged}
 use Rattle.item_forms.specs.Spelling.{FitsEntry}
-use Rattle.challenges.specs.within.Showing.{HasOneInit, IsShowable}
+use Rattle.challenges.specs.within.Showing.{IsShowable}
 
 -- ---- lists
 

@@ -1,7 +1,7 @@
 -- Which challenges a node answers.
 use Rattle.std.proofs.Common.{◌≡◌, ◌≢◌, ℕ, Bool, true, false, cond, eqb, List, Option, Some, None, refl, sym, ap, ◌∙◌}
 use Rattle.std.proofs.lemmas.Bool.{ne_eqb, eq-eqb, eqb-true}
-use Rattle.std.specs.Prelude.{◌&&◌, not}
+use Rattle.std.specs.Prelude.{not}
 use Rattle.log_chain.specs.declared.entry.Entry.{Entry}
 use Rattle.replay_verifier.specs.Meaning.{Meaning}
 use Rattle.commitment.specs.declared.message.Message.{Message}
@@ -13,7 +13,7 @@ use Rattle.challenges.specs.declared.fault.AnswerFault.{AnswerFault}
 use Rattle.challenges.specs.declared.fault.AnswerFault.TheVariants.{NoAnswerNeeded, NotForMe, NotInLog}
 use Rattle.challenges.specs.declared.fault.AnswerFault.TheVariants as fault
 use Rattle.challenges.specs.within.Refusing.{IsRefusedMessage}
-use Rattle.challenges.specs.Answers.{IsRefused, answer_fault, is_challenge, names_entries}
+use Rattle.challenges.specs.Answers.{IsRefused, answer_fault, audit_answer, is_challenge, names_entries}
 use Rattle.evidence_set.specs.Challenges.{is_against}
 
 module _ (me : ℕ) (log : List Entry) where
@@ -106,3 +106,11 @@ alike a b me r same is told = go (eqb a b) refl (sym is ∙ told)
     go : (v : Bool) → eqb a b ≡ v → not v ≡ false → a ≡ me
     go true one no_more = eqb-true a b one ∙ same
     go false one no_more = absurd cc
+
+-- ---- of a log that is lent
+
+pub named_by : (es log : List Entry) (c : AuditChallenge) (r b : Bool) → es ≡ log → r ≡ names_entries es (form.Audit c) → r ≡ b → names_entries log (form.Audit c) ≡ b
+named_by es log c r b same told is = sym (told ∙ ap (λ (l : List Entry). names_entries l (form.Audit c)) same) ∙ is
+
+pub shown_by : (es log : List Entry) (c : AuditChallenge) (y : Fields) → es ≡ log → y ≡ form.Segment (audit_answer es c) → y ≡ form.Segment (audit_answer log c)
+shown_by es log c y same is = is ∙ ap (λ (l : List Entry). form.Segment (audit_answer l c)) same

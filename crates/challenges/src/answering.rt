@@ -86,7 +86,7 @@ fn answer_send<P: Program + Drop>(
 /// It is refused, in this order, with `NoAnswerNeeded` (72) where the item is no challenge; `NotForMe` (70) where it is against
 /// another node; `NotInLog` (71) where an audit names a number and a hash that no entry of the log has, which only a forged
 /// statement of the node can do; then as `receive` refuses a message that is at no fault, with `KeySpent` (36) and `LogFull` (37);
-/// `Memory` may come in place of the last two. A refused call changes nothing. Two refusals of `receive` are never met: the message
+/// `Memory` may come in place of the last two. A refused call changes nothing. The other refusals of `receive` never come: the message
 /// of a challenge that was checked is valid.
 pub fn answer<P: Program + Drop>(
     alloc: Global,

@@ -1,7 +1,7 @@
 //! Challenges to node 2 and its answers, with the hashes of its log as a program in Python over its `hashlib` has them.
 
-use crate::samples::{ZEROS, make_nodes, new_node, node_with_log};
-use crate::{AnswerFault, ChallengeFault, answer, audit_challenge, send_challenge};
+use crate::samples::{Signer, ZEROS, make_nodes, new_node, node_with_log};
+use crate::{Answer, AnswerFault, ChallengeFault, answer, audit_challenge, send_challenge};
 use authenticators::{Authenticator, NodeId};
 use commitment::Node;
 use evidence_item::check_item;
@@ -29,6 +29,12 @@ const SIXTH: Hash = Hash([
     0xbf, 0x3b, 0xa9, 0xe4, 0x1e, 0xa7, 0x21, 0x7e, 0x94, 0xb2, 0xd8, 0x44, 0x59, 0x61, 0x72, 0xf7,
 ]);
 
+/// The node's answer to the item.
+fn answered(alloc: Global, node: &mut Node<Tally>, item: Item) -> Result<Answer, Fail> {
+    let challenge = check_item(alloc, &Tally, node.directory(), item)?;
+    Ok(answer(alloc, node, &challenge, [7; 32])?)
+}
+
 /// The number of the fault with which the node refuses to answer the item; 0 where it answers.
 fn refusal(alloc: Global, node: &mut Node<Tally>, item: Item) -> Result<u8, Fail> {
     let challenge = check_item(alloc, &Tally, node.directory(), item)?;
@@ -38,40 +44,49 @@ fn refusal(alloc: Global, node: &mut Node<Tally>, item: Item) -> Result<u8, Fail
     }
 }
 
-/// What a segment that answers an audit has: the hash before it and at its end, the first number and the last, and whether it came
-/// without messages.
+/// What a segment has: the hash before it and at its end, the first number and the last.
 #[derive(Clone, Copy, Debug, PartialEq, Eq)]
 struct Part {
     prev: Hash,
     end: Hash,
     first: u64,
     last: u64,
-    is_alone: bool,
 }
 
-/// What the node shows where it is asked from the entry `first`, if one is given, to entry 6. The answer is valid evidence.
-fn shown(alloc: Global, first: Option<(u64, Hash)>) -> Result<Part, Fail> {
-    let mut nodes = make_nodes(alloc)?;
-    let mut node = node_with_log(alloc, &nodes)?;
-    let first = match first {
-        None => None,
-        Some((seq, hash)) => Some(nodes.two.statement(alloc, seq, hash)?),
-    };
-    let item = audit_challenge(first, nodes.two.statement(alloc, 6, SIXTH)?)?;
-    let challenge = check_item(alloc, &Tally, node.directory(), item)?;
-    let given = answer(alloc, &mut node, &challenge, [7; 32])?;
-    let is_alone = given.messages.is_empty();
-    let checked = check_item(alloc, &Tally, node.directory(), given.item)?;
+/// What the item has, which is valid, where it is a segment.
+fn part_of(alloc: Global, node: &Node<Tally>, item: Item) -> Result<Option<Part>, Fail> {
+    let checked = check_item(alloc, &Tally, node.directory(), item)?;
     let Form::Segment(segment) = checked.item().form() else {
-        return Err("a segment".into());
+        return Ok(None);
     };
-    Ok(Part {
+    Ok(Some(Part {
         prev: segment.prev,
         end: chain_end(segment.prev, segment.entries.as_slice()),
-        first: segment.first_seq().ok_or("an entry")?,
-        last: segment.last_seq().ok_or("an entry")?,
-        is_alone,
-    })
+        first: segment.first_seq().unwrap_or(0),
+        last: segment.last_seq().unwrap_or(0),
+    }))
+}
+
+/// The audit of node 2 from the entry `first`, if one is given, to entry 6.
+fn audit(alloc: Global, two: &mut Signer, first: Option<(u64, Hash)>) -> Result<Item, Fail> {
+    let first = match first {
+        None => None,
+        Some((seq, hash)) => Some(two.statement(alloc, seq, hash)?),
+    };
+    let last = two.statement(alloc, 6, SIXTH)?;
+    Ok(audit_challenge(first, last)?)
+}
+
+/// What the node shows where it is asked from the entry `first`, if one is given, to entry 6. It sends no messages.
+fn shown(alloc: Global, first: Option<(u64, Hash)>) -> Result<Option<Part>, Fail> {
+    let mut nodes = make_nodes(alloc)?;
+    let mut node = node_with_log(alloc, &nodes)?;
+    let item = audit(alloc, &mut nodes.two, first)?;
+    let given = answered(alloc, &mut node, item)?;
+    if !given.messages.is_empty() {
+        return Ok(None);
+    }
+    part_of(alloc, &node, given.item)
 }
 
 #[test]
@@ -81,10 +96,9 @@ fn an_audit_is_answered_from_the_beginning(rt: HostRuntime) -> Result<(), Fail> 
         end: SIXTH,
         first: 1,
         last: 6,
-        is_alone: true,
     };
-    assert_eq!(rt; shown(rt.alloc(), None)?, whole);
-    assert_eq!(rt; shown(rt.alloc(), Some((2, SECOND)))?, whole);
+    assert_eq!(rt; shown(rt.alloc(), None)?, Some(whole));
+    assert_eq!(rt; shown(rt.alloc(), Some((2, SECOND)))?, Some(whole));
     Ok(())
 }
 
@@ -95,40 +109,53 @@ fn an_audit_is_answered_from_a_checkpoint(rt: HostRuntime) -> Result<(), Fail> {
         end: SIXTH,
         first: 3,
         last: 6,
-        is_alone: true,
     };
-    assert_eq!(rt; shown(rt.alloc(), Some((4, FOURTH)))?, part);
+    assert_eq!(rt; shown(rt.alloc(), Some((4, FOURTH)))?, Some(part));
     Ok(())
 }
 
-/// The refusals of audits up to entry 6: of another node, with a wrong hash, and by a node without the entry.
-fn audit_refusals(alloc: Global) -> Result<[u8; 3], Fail> {
+/// The refusal of an audit from the beginning to entry 6 with this hash, which the signer states.
+fn audit_refusal(
+    alloc: Global,
+    node: &mut Node<Tally>,
+    signer: &mut Signer,
+    hash: Hash,
+) -> Result<u8, Fail> {
+    let last = signer.statement(alloc, 6, hash)?;
+    refusal(alloc, node, audit_challenge(None, last)?)
+}
+
+/// The refusals of audits up to entry 6: of another node, and with a wrong hash.
+fn audit_refusals(alloc: Global) -> Result<[u8; 2], Fail> {
     let mut nodes = make_nodes(alloc)?;
     let mut node = node_with_log(alloc, &nodes)?;
-    let item = audit_challenge(None, nodes.one.statement(alloc, 6, SIXTH)?)?;
-    let of_another = refusal(alloc, &mut node, item)?;
-    let item = audit_challenge(None, nodes.two.statement(alloc, 6, SECOND)?)?;
-    let of_wrong_hash = refusal(alloc, &mut node, item)?;
-    let mut young = new_node(alloc, &nodes)?;
-    let item = audit_challenge(None, nodes.two.statement(alloc, 6, SIXTH)?)?;
-    let of_none = refusal(alloc, &mut young, item)?;
-    Ok([of_another, of_wrong_hash, of_none])
+    let of_another = audit_refusal(alloc, &mut node, &mut nodes.one, SIXTH)?;
+    let of_wrong_hash = audit_refusal(alloc, &mut node, &mut nodes.two, SECOND)?;
+    Ok([of_another, of_wrong_hash])
+}
+
+/// The refusal of an audit by a node without the entry.
+fn refusal_without_entry(alloc: Global) -> Result<u8, Fail> {
+    let mut nodes = make_nodes(alloc)?;
+    let mut node = new_node(alloc, &nodes)?;
+    audit_refusal(alloc, &mut node, &mut nodes.two, SIXTH)
 }
 
 /// The refusals of a message to another node, and of a statement, which is no challenge.
 fn other_refusals(alloc: Global) -> Result<[u8; 2], Fail> {
     let mut nodes = make_nodes(alloc)?;
     let mut node = new_node(alloc, &nodes)?;
-    let item = send_challenge(nodes.two.message(alloc, 1, b"X")?)?;
-    let of_another = refusal(alloc, &mut node, item)?;
-    let item = Item::auth(nodes.one.statement(alloc, 6, SIXTH)?)?;
-    let of_statement = refusal(alloc, &mut node, item)?;
+    let message = nodes.two.message(alloc, 1, b"X")?;
+    let of_another = refusal(alloc, &mut node, send_challenge(message)?)?;
+    let statement = nodes.one.statement(alloc, 6, SIXTH)?;
+    let of_statement = refusal(alloc, &mut node, Item::auth(statement)?)?;
     Ok([of_another, of_statement])
 }
 
 #[test]
 fn audits_of_others_and_of_other_logs_are_refused(rt: HostRuntime) -> Result<(), Fail> {
-    assert_eq!(rt; audit_refusals(rt.alloc())?, [70, 71, 71]);
+    assert_eq!(rt; audit_refusals(rt.alloc())?, [70, 71]);
+    assert_eq!(rt; refusal_without_entry(rt.alloc())?, 71);
     Ok(())
 }
 
@@ -138,45 +165,66 @@ fn messages_to_others_and_statements_are_refused(rt: HostRuntime) -> Result<(), 
     Ok(())
 }
 
-/// What answers a message: the number of the RECV entry, the hash before it, how many messages the node sends, how many entries
-/// its log has then, and whether the answer is evidence that is equal to the one of the repetition.
+/// The place in the receiver's log that an acknowledged message has: the number of the RECV entry, and the hash before it.
 #[derive(Clone, Copy, Debug, PartialEq, Eq)]
-struct Told {
+struct Place {
     seq: u64,
     prev: Hash,
+}
+
+/// The place that the item has, which is valid, where it is an acknowledged message.
+fn place_of(alloc: Global, node: &Node<Tally>, item: Item) -> Result<Option<Place>, Fail> {
+    let checked = check_item(alloc, &Tally, node.directory(), item)?;
+    let Form::Ack(ack) = checked.item().form() else {
+        return Ok(None);
+    };
+    Ok(Some(Place {
+        seq: ack.seq,
+        prev: ack.prev,
+    }))
+}
+
+/// What answers a message that is asked for twice: the place, how many messages the node sends each time, how many entries its log
+/// has then, and whether both answers are equal.
+#[derive(Clone, Copy, Debug, PartialEq, Eq)]
+struct Told {
+    place: Option<Place>,
     messages: [usize; 2],
     entries: usize,
     is_same: bool,
 }
 
-/// What answers a message that adds one and is asked for twice.
-fn acknowledged(alloc: Global) -> Result<Told, Fail> {
-    let mut nodes = make_nodes(alloc)?;
-    let mut node = node_with_log(alloc, &nodes)?;
-    let payload = [b'A', 0, 0, 0, 0, 0, 0, 0, 1];
-    let item = send_challenge(nodes.one.message(alloc, 2, &payload)?)?;
-    let challenge = check_item(alloc, &Tally, node.directory(), item)?;
-    let first = answer(alloc, &mut node, &challenge, [7; 32])?;
-    let again = answer(alloc, &mut node, &challenge, [8; 32])?;
+fn told_twice(alloc: Global, node: &mut Node<Tally>, item: Item) -> Result<Told, Fail> {
+    let copy = item.try_clone(alloc)?;
+    let first = answered(alloc, node, item)?;
+    let again = answered(alloc, node, copy)?;
     let is_same = first.item == again.item;
-    let checked = check_item(alloc, &Tally, node.directory(), first.item)?;
-    let Form::Ack(ack) = checked.item().form() else {
-        return Err("an acknowledgement".into());
-    };
+    let messages = [first.messages.len(), again.messages.len()];
     Ok(Told {
-        seq: ack.seq,
-        prev: ack.prev,
-        messages: [first.messages.len(), again.messages.len()],
+        place: place_of(alloc, node, first.item)?,
+        messages,
         entries: node.history().len(),
         is_same,
     })
 }
 
+/// What answers a message that adds one.
+fn acknowledged(alloc: Global) -> Result<Told, Fail> {
+    let mut nodes = make_nodes(alloc)?;
+    let mut node = node_with_log(alloc, &nodes)?;
+    let message = nodes
+        .one
+        .message(alloc, 2, &[b'A', 0, 0, 0, 0, 0, 0, 0, 1])?;
+    told_twice(alloc, &mut node, send_challenge(message)?)
+}
+
 #[test]
 fn a_message_is_acknowledged_once(rt: HostRuntime) -> Result<(), Fail> {
     let expected = Told {
-        seq: 7,
-        prev: SIXTH,
+        place: Some(Place {
+            seq: 7,
+            prev: SIXTH,
+        }),
         messages: [1, 0],
         entries: 8,
         is_same: true,

@@ -1,5 +1,5 @@
 -- Why an audit is not answered, and why a message that is at no fault is not received.
-use Rattle.std.specs.Prelude.{◌≡◌, ℕ, List, Option, Some, None, Err}
+use Rattle.std.specs.Prelude.{◌≡◌, ℕ, List, Some, None, Err}
 use Rattle.log_chain.specs.declared.entry.Entry.{Entry}
 use Rattle.replay_verifier.specs.Meaning.{Meaning}
 use Rattle.commitment.specs.declared.fault.NodeFault.{NodeFault}

@@ -1,4 +1,3 @@
-use Rattle.std.proofs.Common.{◌≡◌}
 use Rattle.std.proofs.lemmas.Result.{err_from_is_err_and}
 use Rattle.challenges.proofs.Refused.{alike, apart, refused_send, send_answered, send_other}
 use Rattle.challenges.proofs.answering.answer_send.Goals as goal
