@@ -22,7 +22,7 @@ use Rattle.item_forms.specs.declared.forms.Statement.{Statement}
 use Rattle.item_forms.specs.Refusals.{of_field}
 use Rattle.item_forms.specs.Spelling.{statement_spelling, entry_spelling, optional_spelling, auth_spelling, segment_spelling, audit_spelling, message_spelling, ack_spelling, spelling, tag_of, FitsStatement, FitsEntry, FitsAuth, FitsSegment, FitsAudit, FitsMessage, FitsAck, Fits}
 use Rattle.item_forms.specs.Reading.{statement_at, entry_at, flagged_at, optional_at, auth_at, segment_at, audit_at, message_at, ack_at, form_at, item_at, item_of}
-use Rattle.item_forms.proofs.Tagged.{form_taken, either_taken, none_taken}
+use Rattle.log_chain.proofs.Tagged.{form_taken, either_taken, none_taken}
 
 -- ---- kinds of field, with the faults of items
 

@@ -6,4 +6,5 @@ pub mod ListFields
 pub mod OneReading
 pub mod PartsLoop
 pub mod Rises
+pub mod Tagged
 pub mod WholeTexts
