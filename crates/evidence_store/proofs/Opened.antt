@@ -1,5 +1,5 @@
 -- The challenges that are open, as a list.
-use Rattle.std.proofs.Common.{◌≡◌, ℕ, Bool, List, Result, Ok, Err, IfOk, sym, subst, inr}
+use Rattle.std.proofs.Common.{◌≡◌, ℕ, Bool, List, Result, Ok, Err, IfOk, sym, subst, inl, inr}
 use Rattle.std.specs.Prelude.{◌↔◌}
 use Rattle.std.specs.List.{Contains, filter}
 use Rattle.std.specs.List.Sorted.{IsStrictlySortedBy}
@@ -8,7 +8,8 @@ use Rattle.item_forms.specs.Pieces.{Piece, by_bytes}
 use Rattle.evidence_item.specs.Checking.{Checked}
 use Rattle.evidence_set.specs.Indications.{IsUnanswered}
 use Rattle.evidence_set.specs.ItemSets.{Has, none}
-use Rattle.evidence_set.proofs.SetLists.{of_list, together}
+use Rattle.evidence_set.proofs.Joins.{as_expected}
+use Rattle.evidence_set.proofs.SetLists.{sets_are_lists}
 use Rattle.evidence_store.specs.within.Kept.{IsAscending, pieces, set_of}
 use Rattle.evidence_store.specs.within.Telling.{is_unanswered}
 use Rattle.evidence_store.proofs.Added.{pieces_ascend}
@@ -27,13 +28,16 @@ module _ (kept : List Checked) (j : ℕ) where
   abbrev IsOpen : Piece → Type 0
   IsOpen x = Has (set_of kept) x × IsUnanswered (set_of kept) j x.fields
 
+  of_list : (x : Piece) → Has (set_of kept) x → Contains (pieces kept) x
+  of_list x has = elim ((sets_are_lists.together none (pieces kept) x).0 has) [ inl in_empty ↦ absurd (as_expected.none x in_empty) | inr listed ↦ listed ]
+
   -- They are the items of the set that no item of it answers.
   pub open_members : (found : List Piece) → found ≡ filter is_open (pieces kept) → (x : Piece) → Contains found x ↔ IsOpen x
   open_members found is x = subst (λ (l : List Piece). Contains l x ↔ IsOpen x) (sym is) (
     λ has.
         let t = passing is_open (pieces kept) x has in
-        ((together none (pieces kept) x).1 (inr t.0), (unanswered_decides kept j x.fields).0 t.1),
-    λ (has, unanswered). passes is_open (pieces kept) x (of_list (pieces kept) x has) ((unanswered_decides kept j x.fields).1 unanswered),
+        ((sets_are_lists.together none (pieces kept) x).1 (inr t.0), (unanswered_decides kept j x.fields).0 t.1),
+    λ (has, unanswered). passes is_open (pieces kept) x (of_list x has) ((unanswered_decides kept j x.fields).1 unanswered),
   )
 
   -- They ascend.
