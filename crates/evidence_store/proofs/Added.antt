@@ -1,5 +1,5 @@
 -- A store with the items of a list more.
-use Rattle.std.proofs.Common.{◌≡◌, ◌+◌, ◌<◌, ℕ, zero, suc, Bool, true, false, not, cond, List, [], ◌∷◌, ◌++◌, length, map, refl, sym, ap, subst, ◌∙◌, ◌⊎◌, inl, inr, ⊎_elim, arith}
+use Rattle.std.proofs.Common.{◌≡◌, ℕ, suc, Bool, true, false, not, List, [], ◌∷◌, length, map, refl, sym, ap, subst, ◌∙◌, ◌⊎◌, inl, inr, ⊎_elim}
 use Rattle.std.specs.Prelude.{◌↔◌}
 use Rattle.std.specs.declared.cmp.Ordering.TheVariants.{Less}
 use Rattle.std.specs.List.{AllByRecursion, Contains, filter, flat_map}
@@ -15,7 +15,7 @@ use Rattle.evidence_set.specs.Held.{authenticators_of}
 use Rattle.evidence_set.specs.ItemSets.{Has, Join, count, listed}
 use Rattle.evidence_set.proofs.Joins.{joins, least_upper_bounds}
 use Rattle.evidence_set.proofs.SetLists.{sets_are_lists}
-use Rattle.evidence_store.specs.within.Kept.{AreHeldOf, AreKept, IsAscending, IsStore, IsWhole, Keeps, by_item, is_kept, pieces, set_of}
+use Rattle.evidence_store.specs.within.Kept.{AreHeldOf, AreKept, IsAscending, IsStore, Keeps, by_item, is_kept, pieces, set_of}
 use Rattle.evidence_store.specs.within.Telling.{told_statements}
 use Rattle.evidence_store.proofs.Bridge.{set_has}
 use Rattle.evidence_store.proofs.Members.{of_some, passes, passing, some_of}

@@ -1,12 +1,10 @@
 -- What exposes a node by the lists of a store exposes it by the set, and what does not, does not.
-use Rattle.std.proofs.Common.{◌≡◌, ℕ, Bool, true, false, List, refl, sym, ap, subst, ◌∙◌, ◌⊎◌, inl, inr}
+use Rattle.std.proofs.Common.{◌≡◌, ℕ, true, false, List, refl, sym, ap, subst, ◌∙◌, inl, inr}
 use Rattle.std.specs.Prelude.{Option, Some, None}
 use Rattle.std.specs.List.{Contains}
 use Rattle.lms_sign.specs.declared.key.PublicKey.{PublicKey}
 use Rattle.authenticators.specs.declared.authenticator.Authenticator.{Authenticator}
-use Rattle.authenticators.specs.StatementSet.{Conflict}
 use Rattle.replay_verifier.specs.Conforming.{Conforms, setting_of}
-use Rattle.replay_verifier.specs.Deviation.{IsVerdict}
 use Rattle.replay_verifier.specs.Meaning.{Meaning}
 use Rattle.replay_verifier.specs.ReplayLaws.{DeviatingListsDoNotConform}
 use Rattle.replay_verifier.specs.declared.verdict.Verdict.{Verdict}
@@ -14,11 +12,11 @@ use Rattle.replay_verifier.specs.declared.verdict.Verdict.TheVariants as verdict
 use Rattle.item_forms.specs.declared.forms.Fields.{Fields}
 use Rattle.item_forms.specs.declared.forms.Fields.TheVariants as form
 use Rattle.item_forms.specs.declared.forms.Segment.{Segment}
-use Rattle.proofs.specs.Contradictions.{Contradicts, contradicts}
+use Rattle.proofs.specs.Contradictions.{contradicts}
 use Rattle.proofs.proofs.Contradicting.{contradicts-decides}
 use Rattle.evidence_item.specs.Checking.{Checked, IsOwnVerdict}
 use Rattle.evidence_set.specs.Indications.{Denies, DoesNotConform, HasSegment, IsExposed, SaysTwo}
-use Rattle.evidence_store.specs.within.Kept.{IsStore, SomeKept, set_of}
+use Rattle.evidence_store.specs.within.Kept.{IsStore, set_of}
 use Rattle.evidence_store.specs.within.Telling.{AreTwo, IsDenial, IsDeviation, IsKeptOf, IsSegmentOf, IsUnexposed, denies, deviates}
 use Rattle.evidence_store.proofs.Bridge.{is_held, some_item}
 

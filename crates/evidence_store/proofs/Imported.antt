@@ -1,14 +1,14 @@
 -- The items of a text that was read, each with what is found of it.
 use Rattle.std.proofs.Common.{◌≡◌, ℕ, List, [], ◌∷◌, Ok, refl, sym, ap, ◌∙◌}
 use Rattle.std.specs.declared.cmp.Ordering.TheVariants.{Less}
-use Rattle.std.specs.List.{All, AllByRecursion, Contains}
+use Rattle.std.specs.List.{All, AllByRecursion}
 use Rattle.std.specs.List.Sorted.{IsStrictlySortedBy}
 use Rattle.std.proofs.lemmas.List.Elements.{All-contains}
 use Rattle.lms_sign.specs.declared.key.PublicKey.{PublicKey}
 use Rattle.outcome.specs.Bytes.{IsBytes}
 use Rattle.replay_verifier.specs.Meaning.{Meaning}
 use Rattle.item_forms.specs.declared.forms.Fields.{Fields}
-use Rattle.item_forms.specs.Pieces.{Piece, by_bytes}
+use Rattle.item_forms.specs.Pieces.{by_bytes}
 use Rattle.evidence_item.specs.Checking.{Checked}
 use Rattle.containers.specs.CheckedItems.{checked_of, fields_of as checked_fields}
 use Rattle.containers.specs.Container.{import_of}

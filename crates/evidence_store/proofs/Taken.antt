@@ -9,9 +9,9 @@ use Rattle.replay_verifier.specs.Meaning.{Meaning}
 use Rattle.item_forms.specs.Pieces.{Piece}
 use Rattle.evidence_item.specs.Checking.{Checked}
 use Rattle.evidence_set.specs.Held.{authenticators_of}
-use Rattle.evidence_set.specs.ItemSets.{Has, contains, insert}
+use Rattle.evidence_set.specs.ItemSets.{contains, insert}
 use Rattle.evidence_set.proofs.Joins.{as_expected, least_upper_bounds}
-use Rattle.evidence_store.specs.within.Kept.{AreHeldOf, IsAscending, IsStore, IsWhole, Keeps, SomeKept, set_of}
+use Rattle.evidence_store.specs.within.Kept.{AreHeldOf, IsAscending, IsStore, IsWhole, Keeps, set_of}
 use Rattle.evidence_store.specs.within.Telling.{told_statements}
 use Rattle.evidence_store.proofs.Bridge.{set_has}
 use Rattle.evidence_store.proofs.ToldStatements.{told_is}

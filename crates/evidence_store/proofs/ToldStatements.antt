@@ -1,5 +1,5 @@
 -- The statements that are made of an item's fields and of what was found of it are those that stand in it.
-use Rattle.std.proofs.Common.{◌≡◌, ◌≤◌, ◌-◌, ℕ, zero, suc, Bool, true, false, cond, List, [], ◌∷◌, ◌++◌, length, get_or, map, refl, sym, ap, subst, ◌∙◌, arith}
+use Rattle.std.proofs.Common.{◌≡◌, ◌≤◌, ◌-◌, ℕ, zero, suc, Bool, true, false, cond, List, [], ◌∷◌, length, get_or, refl, sym, ap, ◌∙◌, arith}
 use Rattle.std.specs.Prelude.{Option, Some, None, option_map}
 use Rattle.std.specs.List.{cons_option, filter_map}
 use Rattle.std.proofs.lemmas.List.{append-nil}
@@ -12,7 +12,7 @@ use Rattle.authenticators.specs.declared.authenticator.Authenticator.{Authentica
 use Rattle.item_forms.specs.declared.forms.Fields.{Fields}
 use Rattle.item_forms.specs.declared.forms.Fields.TheVariants as form
 use Rattle.evidence_item.specs.Checking.{findings_of}
-use Rattle.evidence_item.specs.Statements.{statements_of, says}
+use Rattle.evidence_item.specs.Statements.{says}
 use Rattle.evidence_set.specs.Held.{authenticators_of, quote_in, quote_of}
 use Rattle.item_forms.specs.Segments.{last_seq}
 use Rattle.evidence_store.specs.within.Telling.{last_or, quote_with, told_quote, told_quotes, told_statements}

@@ -3,7 +3,7 @@ use Rattle.std.specs.Prelude.{ℕ, List}
 use Rattle.std.specs.Coded.{Coded, codes}
 use Rattle.std.specs.FinMap as finite
 use Rattle.lms_sign.specs.declared.key.PublicKey.{PublicKey}
-use Rattle.item_forms.specs.Pieces.{Piece, by_bytes, fits_code}
+use Rattle.item_forms.specs.Pieces.{Piece, fits_code}
 use Rattle.evidence_set.specs.ItemSets.{Items}
 
 pub record Contents : Type 0 where

@@ -1,6 +1,6 @@
 //! Challenges, and what answers them.
 
-ghost use Rattle.std.specs.Prelude.{◌≡◌, true, false};
+ghost use Rattle.std.specs.Prelude.{◌≡◌, false};
 ghost use Rattle.std.specs.List.{list_any};
 ghost use Rattle.log_chain.specs.Chain.{hashes as hashes_of};
 ghost use Rattle.replay_verifier.specs.Quotes.{IsQuote};

@@ -1,6 +1,6 @@
 //! What a store of evidence does, however it is kept.
 
-ghost use Rattle.std.specs.Prelude.{◌≡◌, ◌+◌, ◌↔◌, false, true, not, IfErr, IfOk, IfSome, IsSome, IsTrue, IsErr, OnErr, OnOk, Ok, Err, is_some, slice_get, map, option_map};
+ghost use Rattle.std.specs.Prelude.{◌≡◌, ◌+◌, ◌↔◌, false, not, IfErr, IfOk, IfSome, IsSome, IsTrue, IsErr, OnErr, OnOk, Ok, Err, is_some, slice_get, map, option_map};
 ghost use Rattle.std.specs.List.{Contains};
 ghost use Rattle.std.specs.List.Sorted.{IsStrictlySortedBy};
 ghost use Rattle.authenticators.specs.Directory.{key_at};
