@@ -1,6 +1,6 @@
 //! A store that holds nothing against a node, and one that holds two statements of its number, by which a copy of its key signed.
 
-ghost use Rattle.std.specs.Prelude.{◌≡◌, OnOk};
+ghost use Rattle.std.specs.Prelude.{◌≡◌, IfOk, OnOk};
 
 use crate::exposes;
 use authenticators::{Authenticator, Directory, NodeId, statement_text};
@@ -28,6 +28,15 @@ fn new_node(alloc: Global) -> Result<Node<Tally>, Fail> {
     )
 }
 
+/// A store without items, under the node's directory.
+fn new_store(alloc: Global, node: &Node<Tally>) -> Result<PlainStore<Tally>, Fail>
+    ensures { IfOk result (λ s. s.directory ≡ node.now.directory) }
+{
+    let directory = node.directory().try_clone()?;
+    let store = PlainStore::new(alloc, directory)?;
+    Ok(store)
+}
+
 /// The statement that entry 1 of node 1 has this hash, which the key signs.
 fn statement(alloc: Global, key: &mut SecretKey, hash: Hash) -> Result<Item, Fail> {
     let sig = key.sign(alloc, &statement_text(1, hash), [9; 32])?;
@@ -48,16 +57,24 @@ fn take(alloc: Global, store: &mut PlainStore<Tally>, item: Item) -> Result<(), 
     Ok(())
 }
 
+/// Takes two statements of entry 1 of node 1, with two hashes, by a copy of the node's key.
+fn take_forgeries(alloc: Global, store: &mut PlainStore<Tally>) -> Result<(), Fail>
+    ensures { OnOk result (store.new.directory ≡ store.old.directory) }
+{
+    let mut stolen = make_key(alloc)?;
+    let first = statement(alloc, &mut stolen, Hash([1; 32]))?;
+    let second = statement(alloc, &mut stolen, Hash([2; 32]))?;
+    take(alloc, store, first)?;
+    take(alloc, store, second)?;
+    Ok(())
+}
+
 /// Whether a new node is exposed by a store without items, and by one with two statements of it that it did not sign.
 fn exposures(alloc: Global) -> Result<[bool; 2], Fail> {
     let node = new_node(alloc)?;
-    let mut store: PlainStore<Tally> = PlainStore::new(alloc, node.directory().try_clone()?)?;
+    let mut store = new_store(alloc, &node)?;
     let without = exposes(&store, &node);
-    let mut stolen = make_key(alloc)?;
-    let first = statement(alloc, &mut stolen, Hash([1; 32]))?;
-    take(alloc, &mut store, first)?;
-    let second = statement(alloc, &mut stolen, Hash([2; 32]))?;
-    take(alloc, &mut store, second)?;
+    take_forgeries(alloc, &mut store)?;
     Ok([without, exposes(&store, &node)])
 }
 
