@@ -1,5 +1,6 @@
 mod Appending
 mod Awaited
+mod CheckpointedParts
 mod Entries
 mod Grown
 mod HonestNodes
@@ -7,10 +8,12 @@ mod KeptItems
 mod NextKept
 mod NodeCalls
 mod NodeGrowth
+mod OneHash
 mod Placed
 mod Ready
 mod Receipts
 mod SameKeys
 mod SentAll
 mod SentOutputs
+mod Stands
 mod Valid

@@ -2,11 +2,14 @@
 
 ghost use Rattle.outcome.specs.Equality.{TellsEqual};
 ghost use Rattle.commitment.specs.Laws.{AcksAreKept, AcksAreValid, HonestNodesAnswer, MessagesAreKept, MessagesAreLogged, MessagesAreValid};
+ghost use Rattle.commitment.specs.OwnLogs.{CheckpointedPartsConform, HonestNodesSignOneHash};
 ghost use Rattle.commitment.specs.declared.message.Ack.{Ack as TheAck};
 ghost use Rattle.commitment.specs.declared.message.Message.{Message as TheMessage};
 
 use crate::message::{Ack, Message};
+use log_chain::laws::parts_rise;
 use replay_verifier::Program;
+use replay_verifier::laws::receipts_have_one_text;
 
 /// Two messages are equal exactly where all their fields are.
 pub fn messages_are_equal_by_fields()
@@ -47,4 +50,17 @@ pub fn messages_are_kept()
 /// The acknowledgement that a node keeps for a message, and gives again, is valid for it, and its entry is in the log.
 pub fn acks_are_kept()
     ensures { AcksAreKept }
+{}
+
+/// A part of an honest node's log that begins with a CHECKPOINT conforms by itself, as the whole log does.
+pub fn checkpointed_parts_conform<P: Program>()
+    ensures { CheckpointedPartsConform P.means }
+{
+    parts_rise();
+    receipts_have_one_text();
+}
+
+/// An honest node signs one hash for a number.
+pub fn honest_nodes_sign_one_hash<P: Program>()
+    ensures { HonestNodesSignOneHash P.State }
 {}

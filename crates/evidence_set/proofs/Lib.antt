@@ -4,4 +4,5 @@ pub mod IndicationCases
 pub mod Joins
 pub mod OneIndication
 pub mod SetLists
+mod SignedStatements
 pub mod WhatIsHeld

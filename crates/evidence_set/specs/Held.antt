@@ -9,7 +9,8 @@ use Rattle.replay_verifier.specs.Deviation.{is_genuine_entry}
 use Rattle.replay_verifier.specs.Quotes.{Quote, receipt_of, signed_hash, IsGenuine}
 use Rattle.item_forms.specs.declared.forms.Fields.{Fields}
 use Rattle.item_forms.specs.declared.forms.Fields.TheVariants as form
-use Rattle.evidence_item.specs.Statements.{says, statements_of}
+use Rattle.evidence_item.specs.Statements.{IsSigned, says, statements_of}
+use Rattle.evidence_item.specs.Validity.{IsValid}
 use Rattle.evidence_set.specs.ItemSets.{Items, SomeItem}
 
 -- ---- what an item holds
@@ -59,8 +60,12 @@ pub record IsHeld (ds : List (ℕ × PublicKey)) (E : Items) (j : ℕ) (a : Auth
   pub of : a.node ≡ j
   pub stands : SomeItem E (λ x. Holds ds x a)
 
--- ---- a law, which `laws` proves
+-- ---- laws, which `laws` proves
 
 -- The list has just the statements that stand in the item.
 abbrev pub ListsWhatIsHeld : Type 0
 ListsWhatIsHeld = (ds : List (ℕ × PublicKey)) (x : Fields) (a : Authenticator) → Contains (authenticators_of ds x) a ↔ Holds ds x a
+
+-- Each statement that a valid item holds, a quoted one too, is signed: the listed key of its node verifies it.
+abbrev pub HeldStatementsAreSigned : Type 0
+HeldStatementsAreSigned = (ds : List (ℕ × PublicKey)) (x : Fields) (a : Authenticator) → IsValid ds x → Holds ds x a → IsSigned ds a

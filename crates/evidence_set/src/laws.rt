@@ -2,13 +2,13 @@
 
 ghost use Rattle.evidence_set.specs.Challenges.{TestsAnswers};
 ghost use Rattle.evidence_set.specs.Exports.{ExportsAreImported};
-ghost use Rattle.evidence_set.specs.Held.{ListsWhatIsHeld};
+ghost use Rattle.evidence_set.specs.Held.{HeldStatementsAreSigned, ListsWhatIsHeld};
 ghost use Rattle.evidence_set.specs.IndicationLaws.{EvidenceStays, ExposesNodes, SuspectsNodes};
 ghost use Rattle.evidence_set.specs.Indications.{IndicationsAreOne};
 ghost use Rattle.evidence_set.specs.ItemSets.{JoinsAreLeastUpperBounds, JoinsAsExpected, SetsAreLists, SetsAsExpected, SetsCount};
 
 use containers::laws::items_have_one_container;
-use evidence_item::laws::valid_items_have_no_fault;
+use evidence_item::laws::{valid_items_are_signed, valid_items_have_no_fault};
 use item_forms::laws::{items_have_one_text, spellings_are_short};
 
 /// A set has just the items that were put in.
@@ -50,6 +50,13 @@ pub fn exports_are_imported()
 pub fn lists_what_is_held()
     ensures { ListsWhatIsHeld }
 {}
+
+/// The key of its node verifies each statement that a valid item holds.
+pub fn held_statements_are_signed()
+    ensures { HeldStatementsAreSigned }
+{
+    valid_items_are_signed();
+}
 
 /// The test of an answer holds exactly where the item answers the challenge.
 pub fn the_test_is_of_answers()

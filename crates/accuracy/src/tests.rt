@@ -1,0 +1,85 @@
+//! A store that holds nothing against a node, and one that holds two statements of its number, by which a copy of its key signed.
+
+ghost use Rattle.std.specs.Prelude.{◌≡◌, IfOk, OnOk};
+
+use crate::exposes;
+use authenticators::{Authenticator, Directory, NodeId, statement_text};
+use commitment::Node;
+use evidence_item::{Item, check_item};
+use evidence_store::{Evidence, PlainStore};
+use lms_sign::{LmsType, OtsType, SecretKey};
+use log_chain::{ByteString, Hash};
+use ref_programs::Tally;
+use std::alloc::Global;
+use std::test::Fail;
+
+fn make_key(alloc: Global) -> Result<SecretKey, Fail> {
+    Ok(SecretKey::make(alloc, LmsType::H5, OtsType::W4, [1; 16], [2; 32])?)
+}
+
+fn new_node(alloc: Global) -> Result<Node<Tally>, Fail> {
+    let key = make_key(alloc)?;
+    let mut directory = Directory::new(alloc);
+    directory.add(NodeId(1), key.public_key())?;
+    Ok(
+        Node::new(alloc, Tally, directory, NodeId(1), key, 1)
+            .ok()
+            .ok_or("a node")?,
+    )
+}
+
+/// A store without items, under the node's directory.
+fn new_store(alloc: Global, node: &Node<Tally>) -> Result<PlainStore<Tally>, Fail>
+    ensures { IfOk result (λ s. s.directory ≡ node.now.directory) }
+{
+    let directory = node.directory().try_clone()?;
+    let store = PlainStore::new(alloc, directory)?;
+    Ok(store)
+}
+
+/// The statement that entry 1 of node 1 has this hash, which the key signs.
+fn statement(alloc: Global, key: &mut SecretKey, hash: Hash) -> Result<Item, Fail> {
+    let sig = key.sign(alloc, &statement_text(1, hash), [9; 32])?;
+    Ok(Item::auth(Authenticator {
+        node: NodeId(1),
+        seq: 1,
+        hash,
+        sig: ByteString::from_vec(sig),
+    })?)
+}
+
+/// Takes the item, if it is valid.
+fn take(alloc: Global, store: &mut PlainStore<Tally>, item: Item) -> Result<(), Fail>
+    ensures { OnOk result (store.new.directory ≡ store.old.directory) }
+{
+    let checked = check_item(alloc, &Tally, store.directory(), item)?;
+    store.take(checked)?;
+    Ok(())
+}
+
+/// Takes two statements of entry 1 of node 1, with two hashes, by a copy of the node's key.
+fn take_forgeries(alloc: Global, store: &mut PlainStore<Tally>) -> Result<(), Fail>
+    ensures { OnOk result (store.new.directory ≡ store.old.directory) }
+{
+    let mut stolen = make_key(alloc)?;
+    let first = statement(alloc, &mut stolen, Hash([1; 32]))?;
+    let second = statement(alloc, &mut stolen, Hash([2; 32]))?;
+    take(alloc, store, first)?;
+    take(alloc, store, second)?;
+    Ok(())
+}
+
+/// Whether a new node is exposed by a store without items, and by one with two statements of it that it did not sign.
+fn exposures(alloc: Global) -> Result<[bool; 2], Fail> {
+    let node = new_node(alloc)?;
+    let mut store = new_store(alloc, &node)?;
+    let without = exposes(&store, &node);
+    take_forgeries(alloc, &mut store)?;
+    Ok([without, exposes(&store, &node)])
+}
+
+#[test]
+fn two_statements_by_a_stolen_key(rt: HostRuntime) -> Result<(), Fail> {
+    assert_eq!(rt; exposures(rt.alloc())?, [false, true]);
+    Ok(())
+}
