@@ -76,6 +76,19 @@ pub(crate) fn node_with_log(alloc: Global, nodes: &Nodes) -> Result<Node<Tally>,
     Ok(node)
 }
 
+/// Node 2 receives 16 messages, each of which it acknowledges and answers: its key of 32 leaves has none left.
+pub(crate) fn spend_key(
+    alloc: Global,
+    one: &mut Signer,
+    node: &mut Node<Tally>,
+) -> Result<(), Fail> {
+    for seq in 5..21 {
+        let message = one.message(alloc, 2, seq, &[b'A', 0, 0, 0, 0, 0, 0, 0, 1])?;
+        node.receive(&message, [0; 32])?;
+    }
+    Ok(())
+}
+
 impl Signer {
     fn sign(&mut self, alloc: Global, seq: u64, hash: Hash) -> Result<ByteString, Fail> {
         let sig = self.key.sign(alloc, &statement_text(seq, hash), [9; 32])?;
@@ -97,23 +110,24 @@ impl Signer {
         })
     }
 
-    /// A message with the number 4.
+    /// A message with this number.
     pub(crate) fn message(
         &mut self,
         alloc: Global,
         to: u32,
+        seq: u64,
         payload: &[u8],
     ) -> Result<Message, Fail> {
         let mut message = Message {
             from: self.node,
             to: NodeId(to),
-            seq: 4,
+            seq,
             prev: ZEROS,
             sig: ByteString::from_vec(Vec::new(alloc)),
             payload: ByteString::from_slice(alloc, payload)?,
         };
         let hash = message.signed_hash();
-        message.sig = self.sign(alloc, 4, hash)?;
+        message.sig = self.sign(alloc, seq, hash)?;
         Ok(message)
     }
 }

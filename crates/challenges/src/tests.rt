@@ -1,6 +1,6 @@
 //! Challenges to node 2 and its answers, with the hashes of its log as a program in Python over its `hashlib` has them.
 
-use crate::samples::{Signer, ZEROS, make_nodes, new_node, node_with_log};
+use crate::samples::{Nodes, Signer, ZEROS, make_nodes, new_node, node_with_log, spend_key};
 use crate::{Answer, AnswerFault, ChallengeFault, answer, audit_challenge, send_challenge};
 use authenticators::{Authenticator, NodeId};
 use commitment::Node;
@@ -78,15 +78,24 @@ fn audit(alloc: Global, two: &mut Signer, first: Option<(u64, Hash)>) -> Result<
 }
 
 /// What the node shows where it is asked from the entry `first`, if one is given, to entry 6. It sends no messages.
-fn shown(alloc: Global, first: Option<(u64, Hash)>) -> Result<Option<Part>, Fail> {
-    let mut nodes = make_nodes(alloc)?;
-    let mut node = node_with_log(alloc, &nodes)?;
-    let item = audit(alloc, &mut nodes.two, first)?;
-    let given = answered(alloc, &mut node, item)?;
+fn shown_by(
+    alloc: Global,
+    node: &mut Node<Tally>,
+    two: &mut Signer,
+    first: Option<(u64, Hash)>,
+) -> Result<Option<Part>, Fail> {
+    let item = audit(alloc, two, first)?;
+    let given = answered(alloc, node, item)?;
     if !given.messages.is_empty() {
         return Ok(None);
     }
-    part_of(alloc, &node, given.item)
+    part_of(alloc, node, given.item)
+}
+
+fn shown(alloc: Global, first: Option<(u64, Hash)>) -> Result<Option<Part>, Fail> {
+    let mut nodes = make_nodes(alloc)?;
+    let mut node = node_with_log(alloc, &nodes)?;
+    shown_by(alloc, &mut node, &mut nodes.two, first)
 }
 
 #[test]
@@ -145,7 +154,7 @@ fn refusal_without_entry(alloc: Global) -> Result<u8, Fail> {
 fn other_refusals(alloc: Global) -> Result<[u8; 2], Fail> {
     let mut nodes = make_nodes(alloc)?;
     let mut node = new_node(alloc, &nodes)?;
-    let message = nodes.two.message(alloc, 1, b"X")?;
+    let message = nodes.two.message(alloc, 1, 4, b"X")?;
     let of_another = refusal(alloc, &mut node, send_challenge(message)?)?;
     let statement = nodes.one.statement(alloc, 6, SIXTH)?;
     let of_statement = refusal(alloc, &mut node, Item::auth(statement)?)?;
@@ -214,7 +223,7 @@ fn acknowledged(alloc: Global) -> Result<Told, Fail> {
     let mut node = node_with_log(alloc, &nodes)?;
     let message = nodes
         .one
-        .message(alloc, 2, &[b'A', 0, 0, 0, 0, 0, 0, 0, 1])?;
+        .message(alloc, 2, 4, &[b'A', 0, 0, 0, 0, 0, 0, 0, 1])?;
     told_twice(alloc, &mut node, send_challenge(message)?)
 }
 
@@ -230,6 +239,40 @@ fn a_message_is_acknowledged_once(rt: HostRuntime) -> Result<(), Fail> {
         is_same: true,
     };
     assert_eq!(rt; acknowledged(rt.alloc())?, expected);
+    Ok(())
+}
+
+/// Node 2 with its log, and no leaf of its key left.
+fn node_without_leaves(alloc: Global, nodes: &mut Nodes) -> Result<Node<Tally>, Fail> {
+    let mut node = node_with_log(alloc, nodes)?;
+    spend_key(alloc, &mut nodes.one, &mut node)?;
+    Ok(node)
+}
+
+fn shown_without_leaves(alloc: Global) -> Result<Option<Part>, Fail> {
+    let mut nodes = make_nodes(alloc)?;
+    let mut node = node_without_leaves(alloc, &mut nodes)?;
+    shown_by(alloc, &mut node, &mut nodes.two, None)
+}
+
+/// The number of the refusal to receive the message of a challenge.
+fn refusal_without_leaves(alloc: Global) -> Result<u8, Fail> {
+    let mut nodes = make_nodes(alloc)?;
+    let mut node = node_without_leaves(alloc, &mut nodes)?;
+    let message = nodes.one.message(alloc, 2, 21, b"X")?;
+    refusal(alloc, &mut node, send_challenge(message)?)
+}
+
+#[test]
+fn a_node_without_leaves_is_audited(rt: HostRuntime) -> Result<(), Fail> {
+    let whole = Part {
+        prev: base_hash(),
+        end: SIXTH,
+        first: 1,
+        last: 6,
+    };
+    assert_eq!(rt; shown_without_leaves(rt.alloc())?, Some(whole));
+    assert_eq!(rt; refusal_without_leaves(rt.alloc())?, 36);
     Ok(())
 }
 
