@@ -1,0 +1,155 @@
+//! What two stores answer once each has the other's items.
+
+ghost use Rattle.std.specs.Prelude.{◌≡◌, IsTrue};
+
+use crate::filling::store_of;
+use anyhow::{Result, bail};
+use authenticators::{Directory, NodeId};
+use evidence_store::{Evidence, Item, PlainStore};
+use proofs::{Proof, check_proof};
+use ref_programs::Tally;
+use sha2::{Digest, Sha256};
+use std::alloc::Global;
+
+/// A line: the items that two witnesses took, and the answer of each store that has them all.
+#[derive(Clone, Copy)]
+struct Line<'a> {
+    first: &'a str,
+    second: &'a str,
+    answer: &'a str,
+}
+
+/// The parts of the line.
+fn line_of(rest: &str) -> Option<Line<'_>> {
+    let (first, rest) = rest.split_once(' ')?;
+    let (second, answer) = rest.split_once(' ')?;
+    Some(Line {
+        first,
+        second,
+        answer,
+    })
+}
+
+/// The node that the proof convicts.
+fn convicted_by(alloc: Global, store: &PlainStore<Tally>, proof: &Proof) -> Result<String> {
+    let node = check_proof(alloc, &Tally, store.directory(), proof)?;
+    Ok(format!(in alloc; "{node}")?)
+}
+
+/// Whom the store's proof of a fault of the node convicts, or `-` where there is no proof.
+fn convicted(alloc: Global, store: &PlainStore<Tally>, node: NodeId) -> Result<String> {
+    let Some(proof) = store.proof(node)? else {
+        return Ok(String::from_str(alloc, "-")?);
+    };
+    convicted_by(alloc, store, &proof)
+}
+
+/// What the store says of one node.
+fn said_of(alloc: Global, store: &PlainStore<Tally>, node: NodeId) -> Result<String> {
+    let indication = store.indication(node)?;
+    let open = store.open_challenges(node)?.len();
+    let convicted = convicted(alloc, store, node)?;
+    Ok(format!(in alloc; "{node} {indication} {open} {convicted}")?)
+}
+
+/// What the store answers: its count, what it says of each node, and the digest of its export.
+fn answer_of(alloc: Global, store: &PlainStore<Tally>) -> Result<String> {
+    let count = store.count();
+    let mut answer = format!(in alloc; "{count}")?;
+    for node in store.directory().nodes() {
+        let said = said_of(alloc, store, *node)?;
+        answer = format!(in alloc; "{answer} {said}")?;
+    }
+    let digest: [u8; 32] = Sha256::digest(store.export()?.as_slice());
+    let digits = hex::encode(alloc, digest)?;
+    Ok(format!(in alloc; "{answer} {digits}")?)
+}
+
+/// The item at the place, where there is one.
+fn item_at(store: &PlainStore<Tally>, place: u64) -> Result<Option<Item>> {
+    match store.item_at(place)? {
+        Some(checked) => Ok(Some(checked.into_item())),
+        None => Ok(None),
+    }
+}
+
+/// Whether the item at the place is below the next one.
+fn rises(store: &PlainStore<Tally>, place: u64) -> Result<bool> {
+    let lower = item_at(store, place)?;
+    let upper = item_at(store, place.saturating_add(1))?;
+    Ok(lower.is_some() && lower < upper)
+}
+
+/// Whether the store has as many items as it counts, each above the one before.
+fn ascends(store: &PlainStore<Tally>) -> Result<bool> {
+    let count = store.count();
+    for place in 1..count {
+        if !rises(store, place - 1)? {
+            return Ok(false);
+        }
+    }
+    Ok(item_at(store, count)?.is_none())
+}
+
+/// Whether the stores have one directory.
+fn share_directory(first: &PlainStore<Tally>, second: &PlainStore<Tally>) -> bool
+    ensures { IsTrue result → first.now.directory ≡ second.now.directory }
+{
+    *first.directory() == *second.directory()
+}
+
+/// Whether the first store answers so once it has merged the second, whose items it then includes.
+fn merges(
+    alloc: Global,
+    first: &mut PlainStore<Tally>,
+    second: &PlainStore<Tally>,
+    answer: &str,
+) -> Result<bool> {
+    if !share_directory(first, second) {
+        bail!("two directories");
+    }
+    let before = first.count();
+    let new = first.merge(second)?;
+    if before.checked_add(new) != Some(first.count()) || !first.includes(second) {
+        return Ok(false);
+    }
+    Ok(ascends(first)? && answer_of(alloc, first)?.as_str() == answer)
+}
+
+/// Whether the store answers so once it has imported the text.
+fn imports(
+    alloc: Global,
+    store: &mut PlainStore<Tally>,
+    text: &[u8],
+    answer: &str,
+) -> Result<bool> {
+    let before = store.count();
+    let new = store.import(&Tally, text)?;
+    if before.checked_add(new) != Some(store.count()) {
+        return Ok(false);
+    }
+    Ok(answer_of(alloc, store)?.as_str() == answer)
+}
+
+/// Whether both stores answer so, the first once it has merged the second, and the second once it has imported the first's text.
+fn both_answer(
+    alloc: Global,
+    first: &mut PlainStore<Tally>,
+    second: &mut PlainStore<Tally>,
+    answer: &str,
+) -> Result<bool> {
+    let text = first.export()?;
+    let merged = merges(alloc, first, second, answer)?;
+    let imported = imports(alloc, second, &text, answer)?;
+    Ok(merged && imported && second.includes(first))
+}
+
+/// Whether the line's stores answer as it says.
+pub(crate) fn agrees(alloc: Global, directory: &Directory, rest: &str) -> Result<bool> {
+    let Some(line) = line_of(rest) else {
+        return Ok(false);
+    };
+    let mut first = store_of(alloc, directory, line.first)?;
+    let mut second = store_of(alloc, directory, line.second)?;
+    both_answer(alloc, &mut first, &mut second, line.answer)
+}

@@ -1,0 +1,111 @@
+//! Texts that are cut off, lengthened, or in falling order.
+
+use crate::filling::store_of;
+use anyhow::Result;
+use authenticators::Directory;
+use evidence_store::{Evidence, PlainStore};
+use ref_programs::Tally;
+use std::alloc::Global;
+
+/// A line: the items that a store has, the text of two items in hexadecimal, and where in the text the first of them ends.
+#[derive(Clone, Copy)]
+struct Line<'a> {
+    items: &'a str,
+    digits: &'a str,
+    place: usize,
+}
+
+/// The parts of the line.
+fn line_of(rest: &str) -> Option<Line<'_>> {
+    let (items, rest) = rest.split_once(' ')?;
+    let (digits, place) = rest.split_once(' ')?;
+    Some(Line {
+        items,
+        digits,
+        place: place.parse().ok()?,
+    })
+}
+
+/// Whether the store refuses the text at the item with the number, and is then as it was.
+fn refuses(
+    store: &mut PlainStore<Tally>,
+    before: &[u8],
+    text: &[u8],
+    item: u64,
+    number: u8,
+) -> Result<bool> {
+    let told = match store.import(&Tally, text) {
+        Ok(_) => false,
+        Err(fault) => fault.item == item && fault.cause.number() == number,
+    };
+    Ok(told && store.export()?.as_slice() == before)
+}
+
+/// Whether each beginning of the text is refused as cut off, at the item whose end is missing.
+fn refuses_beginnings(
+    store: &mut PlainStore<Tally>,
+    before: &[u8],
+    text: &[u8],
+    place: usize,
+) -> Result<bool> {
+    for len in 0..text.len() {
+        let item = if len < place { 0 } else { 1 };
+        if !refuses(store, before, &text[..len], item, 40)? {
+            return Ok(false);
+        }
+    }
+    Ok(true)
+}
+
+/// The parts, joined.
+fn joined(alloc: Global, parts: &[&[u8]]) -> Result<Vec<u8>> {
+    let mut text = Vec::new(alloc);
+    for part in parts {
+        text.extend_from_slice(part)?;
+    }
+    Ok(text)
+}
+
+/// Whether the text of two items is refused with a byte more, and with the items turned.
+fn refuses_others(
+    alloc: Global,
+    store: &mut PlainStore<Tally>,
+    before: &[u8],
+    text: &[u8],
+    place: usize,
+) -> Result<bool> {
+    let (Some(header), Some(first), Some(second)) = (
+        text.get(..16),
+        text.get(16..place),
+        text.get(place..),
+    ) else {
+        return Ok(false);
+    };
+    let longer = joined(alloc, &[text, &[0]])?;
+    let turned = joined(alloc, &[header, second, first])?;
+    Ok(refuses(store, before, &longer, 2, 43)? && refuses(store, before, &turned, 1, 61)?)
+}
+
+/// Whether what is made of the text is refused.
+fn refuses_each(
+    alloc: Global,
+    store: &mut PlainStore<Tally>,
+    text: &[u8],
+    place: usize,
+) -> Result<bool> {
+    let before = store.export()?;
+    Ok(
+        refuses_beginnings(store, &before, text, place)?
+            && refuses_others(alloc, store, &before, text, place)?,
+    )
+}
+
+/// Whether what is made of the line's text is refused by a store that has the other items.
+pub(crate) fn agrees(alloc: Global, directory: &Directory, rest: &str) -> Result<bool> {
+    let Some(line) = line_of(rest) else {
+        return Ok(false);
+    };
+    let mut store = store_of(alloc, directory, line.items)?;
+    let text = hex::decode(alloc, line.digits)?;
+    refuses_each(alloc, &mut store, &text, line.place)
+}

@@ -1,0 +1,259 @@
+#!/usr/bin/env python3
+"""Makes the lines that the program store_vectors answers, over Python's hashlib alone, and compares them with its standard input;
+`--write` writes them there.
+
+It shares no code with the crates: the items are signed and spelled here again, from the formats (docs/FORMATS.md) and RFC 8554, and
+what a store says of the nodes stands beside each set of items.
+"""
+
+import os
+import sys
+
+from nodes import Key, Message, Node, entry_hash, sha256, u8, u32, u64
+
+INIT, SEND, RECV, TIMER, CHECKPOINT = 1, 2, 3, 4, 5
+ZEROS, ONES, TWOS = bytes(32), bytes([1]) * 32, bytes([2]) * 32
+
+
+def text(content):
+    return u32(len(content)) + content
+
+
+class Keys:
+    """The keys of the nodes 1 and 2 (H5, W4), and what they sign."""
+
+    def __init__(self):
+        self.keys = {1: Key(1, 3), 2: Key(2, 3)}
+
+    def sign(self, node, seq, digest, c=9):
+        return self.keys[node].sign(u64(seq) + digest, bytes([c]) * 32)
+
+    def auth(self, node, seq, digest, c=9):
+        return u8(1) + u32(node) + u64(seq) + digest + text(self.sign(node, seq, digest, c))
+
+    def segment(self, node, before, entries):
+        signature = self.sign(node, entries[-1][0], end_of(before, entries))
+        return spelled_segment(node, before, entries, signature)
+
+    def log_from(self, place):
+        return self.segment(2, end_of(sha256(), LOG[: place - 1]), LOG[place - 1 :])
+
+    def message(self, sender, seq, payload):
+        receiver = 3 - sender
+        sent = entry_hash(ZEROS, seq, SEND, u32(receiver) + payload)
+        return Message(sender, receiver, seq, ZEROS, self.sign(sender, seq, sent), payload)
+
+    def ack(self, message):
+        received = entry_hash(ZEROS, 11, RECV, message.quote())
+        return u8(5) + spelled(message) + u64(11) + ZEROS + text(self.sign(message.receiver, 11, received))
+
+    def receiving(self, message, change):
+        content = message.quote()
+        content = content[:-1] + u8(content[-1] ^ change)
+        entries = [(1, INIT, u32(message.receiver)), (2, RECV, content)]
+        return self.segment(message.receiver, sha256(), entries)
+
+    def quoting(self, message, **changes):
+        """Node 2's INIT and the RECV of the message, in which the fields are changed."""
+        return self.segment(2, sha256(), [(1, INIT, u32(2)), (2, RECV, changed(message, changes).quote())])
+
+    def quoting_later(self, message, **changes):
+        """The same from a CHECKPOINT on."""
+        return self.segment(2, ZEROS, [(7, CHECKPOINT, u64(0)), (8, RECV, changed(message, changes).quote())])
+
+    def statement(self, place):
+        digest = end_of(sha256(), LOG[:place])
+        return u64(place) + digest + text(self.sign(2, place, digest))
+
+    def audit(self, place):
+        return u8(3) + u32(2) + u8(1) + self.statement(place) + self.statement(6)
+
+
+LOG = [(1, INIT, u32(2)), (2, TIMER, u64(10)), (3, CHECKPOINT, u64(0)), (4, TIMER, u64(20)), (5, TIMER, u64(30)), (6, CHECKPOINT, u64(0))]
+
+
+SENT = [(1, INIT, u32(1)), (2, TIMER, u64(10)), (3, SEND, u32(2) + b"A" + u64(10))]
+
+
+def end_of(before, entries):
+    """The hash of the last entry."""
+    for entry in entries:
+        before = entry_hash(before, *entry)
+    return before
+
+
+def spelled_segment(node, before, entries, signature):
+    spelled = b"".join(u64(seq) + u8(kind) + text(content) for seq, kind, content in entries)
+    return u8(2) + u32(node) + before + u32(len(entries)) + spelled + text(signature)
+
+
+def changed(message, changes):
+    return Message(**{**vars(message), **changes})
+
+
+def turned(content):
+    """The bytes, of which the last is another one."""
+    return content[:-1] + u8(content[-1] ^ 1)
+
+
+def sending():
+    """What node 1 sends to node 2 as a node does, and its log up to there, which the message's signature ends."""
+    (message,) = Node(1, 1).timer(10, bytes(32))
+    assert (message.receiver, message.seq, message.before) == (2, 3, end_of(sha256(), SENT[:2]))
+    return message, spelled_segment(1, sha256(), SENT, message.signature)
+
+
+def spelled(message):
+    head = u32(message.sender) + u32(message.receiver) + u64(message.seq) + message.before
+    return head + text(message.signature) + text(message.payload)
+
+
+def demand(message):
+    return u8(4) + spelled(message)
+
+
+def directory(keys):
+    text = b"PRDIRECT" + u32(2)
+    for node in (1, 2):
+        key = keys.keys[node]
+        text += u32(node) + u32(5) + u32(key.ots_type) + key.identifier + key.tree[1]
+    return text
+
+
+def export(items):
+    items = sorted(set(items))
+    return b"PRSTORE1" + u64(len(items)) + b"".join(text(item) for item in items)
+
+
+def demand_and_other_ack():
+    k = Keys()
+    return [demand(k.message(1, 7, b"hello")), k.ack(k.message(1, 8, b"hello"))]
+
+
+def demand_and_ack():
+    k = Keys()
+    message = k.message(1, 7, b"hello")
+    return [demand(message), k.ack(message)]
+
+
+def demand_and_receipt(change):
+    k = Keys()
+    message = k.message(1, 7, b"hello")
+    return [demand(message), k.receiving(message, change)]
+
+
+def checkpoint(k):
+    return k.segment(2, ZEROS, [(7, CHECKPOINT, u64(0))])
+
+
+def beginning(k):
+    return k.segment(2, sha256(), [(3, INIT, u32(2))])
+
+
+TRUSTED = "trusted 0 -"
+NOTHING = f"1 {TRUSTED} 2 {TRUSTED}"
+FIRST = f"1 exposed 0 1 2 {TRUSTED}"
+SECOND = f"1 {TRUSTED} 2 exposed 0 2"
+OPEN = f"1 {TRUSTED} 2 suspected 1 -"
+
+
+def quotes(message):
+    """Segments of node 2 that quote node 1's message, and what a store says that has one of them, also with node 1's own log."""
+    k = Keys()
+    # as it was sent
+    yield k.quoting(message), NOTHING
+    # otherwise than node 1 signed it, each field in turn: that exposes node 2, and nothing is held against node 1, whose log has
+    # another entry under the number 2, and another hash under the number 3
+    yield k.quoting(message, seq=2), SECOND
+    yield k.quoting(message, before=ONES), SECOND
+    yield k.quoting(message, signature=turned(message.signature)), SECOND
+    yield k.quoting(message, payload=turned(message.payload)), SECOND
+    # so it does where the log is shown from a checkpoint on
+    yield k.quoting_later(message, seq=2), SECOND
+
+
+def cases():
+    """Items, signed in the order of the list, and what a store that has them says of the nodes 1 and 2."""
+    k = Keys()
+    # two signatures on one number and hash
+    yield [k.auth(1, 5, ONES, 0), k.auth(1, 5, ONES, 1)], NOTHING
+    k = Keys()
+    # two hashes of one number
+    yield [k.auth(1, 5, ONES), k.auth(1, 5, TWOS)], FIRST
+    k = Keys()
+    # a statement on a number within a segment, with another hash
+    yield [k.log_from(3), k.auth(2, 4, ZEROS)], SECOND
+    k = Keys()
+    # the same by a message that another node received
+    yield [k.log_from(3), k.receiving(k.message(2, 4, b"X"), 0)], SECOND
+    k = Keys()
+    # a statement on the number just before a segment, with another hash
+    yield [checkpoint(k), k.auth(2, 6, ONES)], SECOND
+    k = Keys()
+    # a statement two numbers before a segment
+    yield [checkpoint(k), k.auth(2, 5, ONES)], NOTHING
+    k = Keys()
+    # a statement on a number before the log's first
+    yield [beginning(k), k.auth(2, 2, ONES)], SECOND
+    # a message that another one's acknowledgement does not answer, that its own does, and that a segment with it does
+    yield demand_and_other_ack()[:1], OPEN
+    yield demand_and_other_ack(), OPEN
+    yield demand_and_ack(), NOTHING
+    yield demand_and_receipt(0), NOTHING
+    # a receipt that its sender did not sign so: it answers nothing, and exposes who logged it
+    yield demand_and_receipt(1), f"1 {TRUSTED} 2 exposed 1 2"
+    k = Keys()
+    # a demand from the second entry on, a part that begins behind that, and the whole log
+    audit, part, whole = k.audit(2), k.log_from(3), k.log_from(1)
+    yield [audit, part], OPEN
+    yield [audit, part, whole], NOTHING
+
+
+def store(first, second, said):
+    """The line of two witnesses that took these items."""
+    items = {*first, *second}
+    return f"store {spell(first)} {spell(second)} {len(items)} {said} {sha256(export(items)).hex()}"
+
+
+def lines():
+    yield "directory " + directory(Keys()).hex()
+    # each set of items, taken by both witnesses in two orders, and parted between them
+    for items, said in cases():
+        yield store(items, items[::-1], said)
+        yield store(items[:1], items[1:], said)
+    # what is quoted, alone and beside the log of its sender
+    message, log = sending()
+    for segment, said in quotes(message):
+        yield store([segment], [], said)
+        yield store([segment], [log], said)
+    # six items, taken by two witnesses in turns, doubled, or by one of them alone
+    k = Keys()
+    six = [*(k.auth(1, 5, ONES, c) for c in (0, 1, 9)), k.auth(1, 5, TWOS), k.log_from(3), k.auth(2, 4, ZEROS)]
+    said = "1 exposed 0 1 2 exposed 0 2"
+    for first, second in (((0, 2, 4), (5, 3, 1)), ((5, 3, 1), (0, 2, 4)), ((4, 0, 5, 1), (5, 4, 3, 2, 1, 0)), ((2, 3, 4, 5, 0, 1), (3, 3)), ((), (1, 5, 0, 4, 2, 3))):
+        yield store([six[i] for i in first], [six[i] for i in second], said)
+    yield store([], [], NOTHING)
+    # a text of two items, cut off at each place, lengthened, and with its items turned, before a store that has another one
+    k = Keys()
+    items = [k.auth(1, 5, ONES), k.auth(1, 5, TWOS)]
+    yield f"cuts {spell([k.auth(2, 5, ONES)])} {export(items).hex()} {16 + 4 + len(items[0])}"
+
+
+def spell(items):
+    return ",".join(item.hex() for item in items) or "-"
+
+
+def main():
+    path = os.path.join(os.path.dirname(os.path.abspath(__file__)), "..", "crates", "store_vectors", "stdin")
+    text = "".join(line + "\n" for line in lines())
+    if "--write" in sys.argv:
+        with open(path, "w", encoding="utf-8") as file:
+            file.write(text)
+    with open(path, encoding="utf-8") as file:
+        same = file.read() == text
+    print("the lines are those of", path if same else "no file: they differ")
+    sys.exit(not same)
+
+
+if __name__ == "__main__":
+    main()
