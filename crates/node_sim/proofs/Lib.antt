@@ -1,8 +1,8 @@
-pub mod Contradictions
-pub mod Items
+pub mod AddedStores
 pub mod LineFeeds
-pub mod Neighbours
+pub mod Members
 pub mod Nodes
-mod OneReport
+pub mod OneReport
 pub mod Parsing
 pub mod Refused
+pub mod Rows

@@ -1,9 +1,11 @@
 -- A text of lines, and the bytes that lines of hexadecimal digits spell.
-use Rattle.std.specs.Prelude.{ℕ, ◌==◌, List, [], ◌∷◌, Result, Ok, Err, if◌then◌else◌}
-use Rattle.hex.specs.Hex.{decode_of}
+use Rattle.std.specs.Prelude.{ℕ, ◌==◌, List, [], ◌∷◌, ◌++◌, Result, Ok, Err, if◌then◌else◌}
+use Rattle.hex.specs.Hex.{decode_of, encode_lower}
 use Rattle.outcome.specs.Outcome.{◌>>=◌, told_as}
 use Rattle.node_sim.specs.declared.fault.Fault.{Fault}
 use Rattle.node_sim.specs.declared.fault.Fault.TheVariants.{BadHex, LineCount}
+
+-- ---- reading
 
 -- One more byte at the front of the first line.
 abbrev pub put_first : ℕ → List (List ℕ) → List (List ℕ)
@@ -27,9 +29,15 @@ abbrev pub bytes_of : List ℕ → Result (List ℕ) Fault
 bytes_of line = told_as (λ _. BadHex) (decode_of line)
 
 -- The bytes of both lines of a text. Both are read before anything else is refused.
-unfoldable pub texts_of : List ℕ → Result (List ℕ × List ℕ) Fault
-texts_of text = do
+unfoldable pub two_texts_of : List ℕ → Result (List ℕ × List ℕ) Fault
+two_texts_of text = do
   lines ← pair_of (lines_of text)
   first ← bytes_of lines.0
   second ← bytes_of lines.1
   Ok (first, second)
+
+-- ---- writing
+
+-- The line of these bytes, in lower case.
+abbrev pub hex_line : List ℕ → List ℕ
+hex_line bytes = encode_lower bytes ++ 10 ∷ []

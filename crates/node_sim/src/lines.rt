@@ -3,7 +3,7 @@
 ghost use Rattle.std.specs.Prelude.{◌≡◌, ◌==◌, [], ◌∷◌, Ok, Err, MatchOption, MatchResult, position};
 ghost use Rattle.outcome.specs.Outcome.{Gives};
 ghost use Rattle.node_sim.specs.declared.fault.Fault.TheVariants.{Memory};
-ghost use Rattle.node_sim.specs.HexLines.{bytes_of, lines_of, pair_of, texts_of};
+ghost use Rattle.node_sim.specs.HexLines.{bytes_of, lines_of, pair_of, two_texts_of};
 
 use crate::fault::Fault;
 use std::alloc::Global;
@@ -58,9 +58,9 @@ fn bytes_of(alloc: Global, line: &[u8]) -> Result<Vec<u8>, Fault>
 }
 
 /// The bytes of each of two lines. The text is freed.
-#[tactic(auto, unfolding(crate::specs::HexLines::texts_of))]
-pub fn texts_of(alloc: Global, text: Vec<u8>) -> Result<(Vec<u8>, Vec<u8>), Fault>
-    ensures { Gives Memory (λ p. (p.0.items, p.1.items)) result (texts_of text.items) }
+#[tactic(auto, unfolding(crate::specs::HexLines::two_texts_of))]
+pub fn two_texts(alloc: Global, text: Vec<u8>) -> Result<(Vec<u8>, Vec<u8>), Fault>
+    ensures { Gives Memory (λ p. (p.0.items, p.1.items)) result (two_texts_of text.items) }
 {
     let (first, second) = two_lines(&text)?;
     let first = bytes_of(alloc, first)?;
