@@ -1,8 +1,13 @@
 pub mod AddedStores
+pub mod CheckedProofs
+pub mod Convicting
+pub mod Finding
 pub mod LineFeeds
+pub mod LineTexts
 pub mod Members
 pub mod Nodes
 pub mod OneReport
 pub mod Parsing
+pub mod ProofBytes
 pub mod Refused
 pub mod Rows

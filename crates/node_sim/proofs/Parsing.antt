@@ -13,9 +13,9 @@ use Rattle.evidence_store.specs.Contents.{Contents}
 use Rattle.node_sim.specs.declared.fault.Fault.{Fault}
 use Rattle.node_sim.specs.declared.fault.Fault.TheVariants.{Memory}
 use Rattle.node_sim.specs.Refusals.{of_directory}
-use Rattle.node_sim.specs.HexLines.{two_texts_of}
-use Rattle.node_sim.specs.Inputs.{AreItems, IsEvidence, Parsed, evidence_of, one_store_of, store_of, stores_after}
-use Rattle.node_sim.specs.within.Opening.{AddsStore, opened}
+use Rattle.node_sim.specs.HexLines.{all_texts_of, two_texts_of}
+use Rattle.node_sim.specs.Inputs.{AreItems, IsEvidence, Parsed, all_stores_of, evidence_of, one_store_of, store_of, stores_after}
+use Rattle.node_sim.specs.within.Opening.{AddsStore, AddsStores, opened}
 use Rattle.node_sim.proofs.Members.{none_here}
 
 -- ---- the directory
@@ -78,39 +78,59 @@ pub store_refused : (ds : List (ℕ × PublicKey)) (items : List Fields) (text :
 unfolding stores_after
 store_refused ds items text texts e h = Fails-then Memory e (store_of ds text) (λ more. stores_after ds (items ++ more) texts) h
 
--- ---- one store
+-- no store was added, and one more
+pub none_added : (s : Contents) (texts : List (List ℕ)) → AddsStores s s texts texts
+none_added s texts = record { items = []; read = refl; directory = refl; set = λ h. h }
 
-read_one : (input : List ℕ) → one_store_of input ≡ (two_texts_of input >>= λ texts. evidence_of texts.0 (texts.1 ∷ []))
-unfolding one_store_of
-read_one input = refl
-
--- the lines are refused
-pub texts_fail : (input : List ℕ) (e : Fault) → Fails Memory e (two_texts_of input) → Fails Memory e (one_store_of input)
-texts_fail input e h =
-    subst (λ (r : Result Parsed Fault). Fails Memory e r) (sym (read_one input)) (Fails-then Memory e (two_texts_of input) (λ texts. evidence_of texts.0 (texts.1 ∷ [])) h)
-
-module _ (input a b : List ℕ) (texts : two_texts_of input ≡ Ok (a, b)) where
-  after_texts : one_store_of input ≡ evidence_of a (b ∷ [])
-  after_texts = read_one input ∙ ap (λ (r : Result (List ℕ × List ℕ) Fault). r >>= λ texts. evidence_of texts.0 (texts.1 ∷ [])) texts
-
-  -- the directory is refused
-  pub directory_fails : (e : Fault) → Fails Memory e (opened a) → Fails Memory e (one_store_of input)
-  directory_fails e h = subst (λ (r : Result Parsed Fault). Fails Memory e r) (sym after_texts) (opening_fails a (b ∷ []) e h)
-
-  -- the store is refused
-  pub store_fails : (s : Contents) (e : Fault) → opened a ≡ Ok s → Fails Memory e (store_of s.directory b) → Fails Memory e (one_store_of input)
-  store_fails s e o h =
-      subst (λ (r : Result Parsed Fault). Fails Memory e r) (sym (after_texts ∙ after_opening a (b ∷ []) s o))
-      (Fails-then Memory e (stores_after s.directory [] (b ∷ [])) (λ items. Ok (record { directory = s.directory; items = items })) (store_refused s.directory [] b [] e h))
-
-  -- all is read
-  pub all_read : SetsAsExpected → (s t : Contents) → opened a ≡ Ok s → AddsStore s t b → IsEvidence (one_store_of input) t
-  all_read law s t o adds =
-      let items : stores_after s.directory [] (b ∷ []) ≡ Ok adds.more = store_after s.directory [] adds.more b [] adds.read ∙ stores_end s.directory adds.more in
+module _ (s t : Contents) (texts : List (List ℕ)) (text : List ℕ) (left : List (List ℕ)) (adds : AddsStores s t texts (text ∷ left)) where
+  pub one_added : (u : Contents) → AddsStore t u text → AddsStores s u texts left
+  one_added u more =
+      let is : store_of s.directory text ≡ Ok more.more = ap (λ (ds : List (ℕ × PublicKey)). store_of ds text) (sym adds.directory) ∙ more.read in
       record {
-        items = adds.more;
-        is = after_texts ∙ after_opening a (b ∷ []) s o
-            ∙ ap (λ (r : Result (List Fields) Fault). r >>= λ items. Ok (record { directory = s.directory; items = items })) items
-            ∙ ap (λ (ds : List (ℕ × PublicKey)). Ok (record { directory = ds; items = adds.more })) (sym adds.directory);
-        set = adds.set [] (opened_empty law a s o);
+        items = adds.items ++ more.more;
+        read = adds.read ∙ store_after s.directory adds.items more.more text left is;
+        directory = more.directory ∙ adds.directory;
+        set = λ empty. more.set adds.items (adds.set empty);
       }
+
+  pub one_refused : (e : Fault) → Fails Memory e (store_of t.directory text) → Fails Memory e (stores_after s.directory [] texts)
+  one_refused e h =
+      let here = subst (λ (ds : List (ℕ × PublicKey)). Fails Memory e (store_of ds text)) adds.directory h in
+      subst (λ (r : Result (List Fields) Fault). Fails Memory e r) (sym adds.read) (store_refused s.directory adds.items text left e here)
+
+-- ---- the evidence
+
+module _ (a : List ℕ) (stores : List (List ℕ)) (s : Contents) (o : opened a ≡ Ok s) where
+  pub evidence_fails : (e : Fault) → Fails Memory e (stores_after s.directory [] stores) → Fails Memory e (evidence_of a stores)
+  evidence_fails e h =
+      subst (λ (r : Result Parsed Fault). Fails Memory e r) (sym (after_opening a stores s o))
+      (Fails-then Memory e (stores_after s.directory [] stores) (λ items. Ok (record { directory = s.directory; items = items })) h)
+
+  pub evidence_read : SetsAsExpected → (t : Contents) → AddsStores s t stores [] → IsEvidence (evidence_of a stores) t
+  evidence_read law t adds = record {
+    items = adds.items;
+    is = after_opening a stores s o
+        ∙ ap (λ (r : Result (List Fields) Fault). r >>= λ items. Ok (record { directory = s.directory; items = items })) (adds.read ∙ stores_end s.directory adds.items)
+        ∙ ap (λ (ds : List (ℕ × PublicKey)). Ok (record { directory = ds; items = adds.items })) (sym adds.directory);
+    set = adds.set (opened_empty law a s o);
+  }
+
+-- ---- an input
+
+-- an input whose lines are refused
+pub one_fails : (input : List ℕ) (e : Fault) → Fails Memory e (two_texts_of input) → Fails Memory e (one_store_of input)
+unfolding one_store_of
+one_fails input e h = Fails-then Memory e (two_texts_of input) (λ texts. evidence_of texts.0 (texts.1 ∷ [])) h
+
+pub all_fail : (input : List ℕ) (e : Fault) → Fails Memory e (all_texts_of input) → Fails Memory e (all_stores_of input)
+unfolding all_stores_of
+all_fail input e h = Fails-then Memory e (all_texts_of input) (λ texts. evidence_of texts.0 texts.1) h
+
+-- an input whose lines are read
+pub one_is : (input a b : List ℕ) → two_texts_of input ≡ Ok (a, b) → one_store_of input ≡ evidence_of a (b ∷ [])
+unfolding one_store_of
+one_is input a b h = ap (λ (r : Result (List ℕ × List ℕ) Fault). r >>= λ texts. evidence_of texts.0 (texts.1 ∷ [])) h
+
+pub all_are : (input a : List ℕ) (bs : List (List ℕ)) → all_texts_of input ≡ Ok (a, bs) → all_stores_of input ≡ evidence_of a bs
+unfolding all_stores_of
+all_are input a bs h = ap (λ (r : Result (List ℕ × List (List ℕ)) Fault). r >>= λ texts. evidence_of texts.0 texts.1) h

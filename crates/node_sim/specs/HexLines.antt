@@ -24,6 +24,11 @@ pair_of (first ∷ []) = Err LineCount
 pair_of (first ∷ second ∷ []) = Ok (first, second)
 pair_of (first ∷ second ∷ third ∷ more) = Err LineCount
 
+-- The first line and the others, where there is one.
+abbrev pub first_and_others : List (List ℕ) → Result (List ℕ × List (List ℕ)) Fault
+first_and_others [] = Err LineCount
+first_and_others (first ∷ others) = Ok (first, others)
+
 -- The bytes that a line spells in hexadecimal digits of either case.
 abbrev pub bytes_of : List ℕ → Result (List ℕ) Fault
 bytes_of line = told_as (λ _. BadHex) (decode_of line)
@@ -35,6 +40,21 @@ two_texts_of text = do
   first ← bytes_of lines.0
   second ← bytes_of lines.1
   Ok (first, second)
+
+-- The bytes of each line, after those that were read.
+unfoldable pub each_bytes_after : List (List ℕ) → List (List ℕ) → Result (List (List ℕ)) Fault
+each_bytes_after texts [] = Ok texts
+each_bytes_after texts (line ∷ lines) = do
+  bytes ← bytes_of line
+  each_bytes_after (texts ++ bytes ∷ []) lines
+
+-- The bytes of the first line of a text, and of each other one. All are read before anything else is refused.
+unfoldable pub all_texts_of : List ℕ → Result (List ℕ × List (List ℕ)) Fault
+all_texts_of text = do
+  lines ← first_and_others (lines_of text)
+  first ← bytes_of lines.0
+  others ← each_bytes_after [] lines.1
+  Ok (first, others)
 
 -- ---- writing
 

@@ -6,14 +6,16 @@ use Rattle.outcome.specs.Outcome.{◌>>=◌, told_as}
 use Rattle.authenticators.specs.DirectoryText.{directory_of}
 use Rattle.item_forms.specs.declared.forms.Fields.{Fields}
 use Rattle.item_forms.specs.Pieces.{Piece}
+use Rattle.proofs.specs.declared.proof.Parts.{Parts}
+use Rattle.proofs.specs.ProofTexts.{proof_of}
 use Rattle.containers.specs.CheckedItems.{checked_of}
 use Rattle.containers.specs.Container.{import_of}
 use Rattle.evidence_set.specs.Exports.{magic}
 use Rattle.evidence_set.specs.ItemSets.{Has, Items}
 use Rattle.evidence_store.specs.Contents.{Contents}
 use Rattle.node_sim.specs.declared.fault.Fault.{Fault}
-use Rattle.node_sim.specs.Refusals.{of_directory, of_import}
-use Rattle.node_sim.specs.HexLines.{two_texts_of}
+use Rattle.node_sim.specs.Refusals.{of_directory, of_import, of_reading}
+use Rattle.node_sim.specs.HexLines.{all_texts_of, two_texts_of}
 
 -- ---- stores
 
@@ -46,6 +48,12 @@ one_store_of input = do
   texts ← two_texts_of input
   evidence_of texts.0 (texts.1 ∷ [])
 
+-- An input of one line and more, a directory and any number of stores; or why it is refused.
+unfoldable pub all_stores_of : List ℕ → Result Parsed Fault
+all_stores_of input = do
+  texts ← all_texts_of input
+  evidence_of texts.0 texts.1
+
 -- ---- evidence
 
 -- The set of these items, however often and in whatever order they are listed.
@@ -57,3 +65,18 @@ pub record IsEvidence (read : Result Parsed Fault) (s : Contents) : Type 0 where
   pub items : List Fields
   pub is : read ≡ Ok (record { directory = s.directory; items = items })
   pub set : AreItems s.items items
+
+-- ---- proofs
+
+-- A directory, and the parts of a proof.
+pub record Presented : Type 0 where
+  pub directory : List (ℕ × PublicKey)
+  pub parts : Parts
+
+-- An input of two lines, a directory and a proof; or why it is refused.
+unfoldable pub presented_of : List ℕ → Result Presented Fault
+presented_of input = do
+  texts ← two_texts_of input
+  ds ← told_as of_directory (directory_of texts.0)
+  parts ← told_as of_reading (proof_of texts.1)
+  Ok (record { directory = ds; parts = parts })

@@ -2,9 +2,15 @@
 use Rattle.std.specs.Prelude.{ℕ, List, ◌++◌, codes, decimal}
 use Rattle.authenticators.specs.declared.fault.DirectoryFault.{DirectoryFault}
 use Rattle.authenticators.specs.declared.fault.DirectoryFault.TheVariants as listing
+use Rattle.item_forms.specs.declared.fault.DecodeFault.{DecodeFault}
+use Rattle.item_forms.specs.declared.fault.DecodeFault.TheVariants as reading
+use Rattle.proofs.specs.declared.fault.ProofFault.{ProofFault}
+use Rattle.proofs.specs.declared.fault.ProofFault.TheVariants as proof
 use Rattle.containers.specs.declared.fault.Cause.{Cause}
 use Rattle.containers.specs.declared.fault.Cause.TheVariants as cause
 use Rattle.containers.specs.declared.fault.ImportFault.{ImportFault}
+use Rattle.evidence_store.specs.declared.fault.AskFault.{AskFault}
+use Rattle.evidence_store.specs.declared.fault.AskFault.TheVariants as asking
 use Rattle.node_sim.specs.declared.fault.Fault.{Fault}
 use Rattle.node_sim.specs.declared.fault.Fault.TheVariants as fault
 
@@ -104,3 +110,28 @@ of_cause cause.Memory = fault.Memory
 
 abbrev pub of_import : ImportFault → Fault
 of_import f = of_cause f.cause
+
+-- The refusal of a proof that cannot be read.
+abbrev pub of_reading : DecodeFault → Fault
+of_reading reading.Truncated = fault.Truncated
+of_reading reading.BadTag = fault.BadTag
+of_reading reading.TooLong = fault.TooLong
+of_reading reading.Trailing = fault.Trailing
+of_reading reading.Memory = fault.Memory
+
+-- The refusal of a proof that convicts nobody.
+abbrev pub of_proof : ProofFault → Fault
+of_proof proof.UnknownNode = fault.UnknownNode
+of_proof proof.SelfMessage = fault.SelfMessage
+of_proof proof.EmptySegment = fault.EmptySegment
+of_proof proof.BadStart = fault.BadStart
+of_proof proof.BadRange = fault.BadRange
+of_proof proof.BadSignature = fault.BadSignature
+of_proof proof.NoContradiction = fault.NoContradiction
+of_proof proof.Conforms = fault.Conforms
+of_proof proof.Memory = fault.Memory
+
+-- The refusal of a question about a node.
+abbrev pub of_asking : AskFault → Fault
+of_asking asking.UnknownNode = fault.UnknownNode
+of_asking asking.Memory = fault.Memory

@@ -1,16 +1,16 @@
 //! The evidence of an input: a directory, and the items of stores under it.
 
-ghost use Rattle.std.specs.Prelude.{◌≡◌, ◌<◌, ◌^◌, IfErr, MatchResult, OnOk};
+ghost use Rattle.std.specs.Prelude.{◌≡◌, ◌<◌, ◌^◌, [], map, IfErr, OnOk};
 ghost use Rattle.outcome.specs.Outcome.{Fails, Gives};
 ghost use Rattle.evidence_set.specs.Exports.{AreValid};
 ghost use Rattle.evidence_set.specs.ItemSets.{count};
 ghost use Rattle.node_sim.specs.declared.fault.Fault.TheVariants.{Memory};
-ghost use Rattle.node_sim.specs.Inputs.{IsEvidence, one_store_of, store_of};
-ghost use Rattle.node_sim.specs.within.Opening.{AddsStore, opened};
+ghost use Rattle.node_sim.specs.Inputs.{all_stores_of, evidence_of, one_store_of, store_of, stores_after};
+ghost use Rattle.node_sim.specs.within.Opening.{AddsStore, AddsStores, Holds, opened};
 ghost use Rattle.node_sim.specs.within.OwnFaults.{IsOwn};
 
 use crate::fault::Fault;
-use crate::lines::two_texts;
+use crate::lines::{all_texts, two_texts};
 use authenticators::Directory;
 use evidence_set::laws::{
     exports_are_imported, joins_are_as_expected, sets_are_as_expected, sets_are_lists, sets_count,
@@ -52,18 +52,60 @@ fn add_store<P: Program>(store: &mut PlainStore<P>, program: &P, text: Vec<u8>) 
     Ok(())
 }
 
+/// Adds the items of each text of a store.
+fn add_stores<P: Program>(
+    store: &mut PlainStore<P>,
+    program: &P,
+    texts: Vec<Vec<u8>>,
+) -> Result<(), Fault>
+    ensures added { OnOk result (AddsStores store.old store.new (map (λ v. v.items) texts.items) []) }
+    ensures refused { IfErr result (λ f. Fails Memory f (stores_after store.old.directory [] (map (λ v. v.items) texts.items))) }
+{
+    for text in texts {
+        add_store(store, program, text)?;
+    }
+    Ok(())
+}
+
+/// The evidence of a directory's text and of stores' texts.
+fn evidence_of<P: Program>(
+    alloc: Global,
+    program: &P,
+    directory: Vec<u8>,
+    stores: Vec<Vec<u8>>,
+) -> Result<PlainStore<P>, Fault>
+    ensures { Holds result (evidence_of directory.items (map (λ v. v.items) stores.items)) }
+{
+    sets_are_as_expected();
+    let mut store = open_store(alloc, directory)?;
+    add_stores(&mut store, program, stores)?;
+    Ok(store)
+}
+
 /// The evidence of an input of two lines, a directory and a store.
-pub fn read_evidence<P: Program>(
+pub fn read_store<P: Program>(
     alloc: Global,
     program: &P,
     input: Vec<u8>,
 ) -> Result<PlainStore<P>, Fault>
-    ensures read { MatchResult result (λ s. IsEvidence (one_store_of input.items) s) (λ f. Fails Memory f (one_store_of input.items)) }
+    ensures read { Holds result (one_store_of input.items) }
     ensures own { IfErr result IsOwn }
 {
-    sets_are_as_expected();
     let (directory, text) = two_texts(alloc, input)?;
-    let mut store = open_store(alloc, directory)?;
-    add_store(&mut store, program, text)?;
-    Ok(store)
+    let mut stores = Vec::new(alloc);
+    stores.push(text)?;
+    evidence_of(alloc, program, directory, stores)
+}
+
+/// The evidence of an input of one line and more, a directory and any number of stores.
+pub fn read_stores<P: Program>(
+    alloc: Global,
+    program: &P,
+    input: Vec<u8>,
+) -> Result<PlainStore<P>, Fault>
+    ensures read { Holds result (all_stores_of input.items) }
+    ensures own { IfErr result IsOwn }
+{
+    let (directory, stores) = all_texts(alloc, input)?;
+    evidence_of(alloc, program, directory, stores)
 }

@@ -2,11 +2,13 @@
 
 ghost use Rattle.std.specs.Prelude.{◌≡◌, Some};
 ghost use Rattle.node_sim.specs.declared.fault.Fault.TheVariants.{Memory};
-ghost use Rattle.node_sim.specs.Refusals.{of_directory, of_import, text_of};
+ghost use Rattle.node_sim.specs.Refusals.{of_asking, of_directory, of_import, of_proof, of_reading, text_of};
 
 use authenticators::DirectoryFault;
 use containers::{Cause, ImportFault};
-use evidence_store::NewStoreRefused;
+use evidence_store::{AskFault, NewStoreRefused};
+use item_forms::DecodeFault;
+use proofs::ProofFault;
 use std::alloc::{AllocError, AllocFailed};
 use std::error::Error;
 use std::fmt;
@@ -219,6 +221,49 @@ impl From<ImportFault> for Fault {
             Cause::BadMagic => Fault::BadMagic,
             Cause::NotAscending => Fault::NotAscending,
             Cause::Memory => Fault::Memory,
+        }
+    }
+}
+
+impl From<AskFault> for Fault {
+    ghost from_gives = { λ f e. e ≡ of_asking f };
+
+    fn from(f: AskFault) -> Fault {
+        match f {
+            AskFault::UnknownNode => Fault::UnknownNode,
+            AskFault::Memory => Fault::Memory,
+        }
+    }
+}
+
+impl From<DecodeFault> for Fault {
+    ghost from_gives = { λ f e. e ≡ of_reading f };
+
+    fn from(f: DecodeFault) -> Fault {
+        match f {
+            DecodeFault::Truncated => Fault::Truncated,
+            DecodeFault::BadTag => Fault::BadTag,
+            DecodeFault::TooLong => Fault::TooLong,
+            DecodeFault::Trailing => Fault::Trailing,
+            DecodeFault::Memory => Fault::Memory,
+        }
+    }
+}
+
+impl From<ProofFault> for Fault {
+    ghost from_gives = { λ f e. e ≡ of_proof f };
+
+    fn from(f: ProofFault) -> Fault {
+        match f {
+            ProofFault::UnknownNode => Fault::UnknownNode,
+            ProofFault::SelfMessage => Fault::SelfMessage,
+            ProofFault::EmptySegment => Fault::EmptySegment,
+            ProofFault::BadStart => Fault::BadStart,
+            ProofFault::BadRange => Fault::BadRange,
+            ProofFault::BadSignature => Fault::BadSignature,
+            ProofFault::NoContradiction => Fault::NoContradiction,
+            ProofFault::Conforms => Fault::Conforms,
+            ProofFault::Memory => Fault::Memory,
         }
     }
 }

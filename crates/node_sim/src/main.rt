@@ -8,6 +8,7 @@
 ghost use Rattle.std.specs.Prelude.{◌≡◌, OnErr, OnOk};
 ghost use Rattle.std.specs.Process.{exit_status};
 
+pub mod check;
 pub mod device;
 pub mod engine;
 pub mod evidence;
@@ -15,8 +16,10 @@ pub mod fault;
 pub mod input;
 pub mod laws;
 pub mod lines;
+pub mod merge;
 #[cfg(test)]
 mod node_tests;
+pub mod prove;
 pub mod report;
 pub mod status;
 mod words;

@@ -7,7 +7,7 @@ ghost use Rattle.node_sim.specs.Output.{Status};
 
 use crate::device::{Sink, Source};
 use crate::engine::{self, Command};
-use crate::evidence::read_evidence;
+use crate::evidence::read_store;
 use crate::fault::Fault;
 use crate::report::report_of;
 use replay_verifier::Program;
@@ -23,7 +23,7 @@ impl<'a, P: Program> Command for Reporting<'a, P> {
     ghost means = { λ _. Status P.means };
 
     fn answer(&self, alloc: Global, input: Vec<u8>) -> Result<Vec<u8>, Fault> {
-        let store = read_evidence(alloc, self.program, input)?;
+        let store = read_store(alloc, self.program, input)?;
         let text = report_of(alloc, &store)?;
         Ok(text)
     }
