@@ -1,8 +1,13 @@
-pub mod Contradictions
-pub mod Items
+pub mod AddedStores
+pub mod CheckedProofs
+pub mod Convicting
+pub mod Finding
 pub mod LineFeeds
-pub mod Neighbours
+pub mod LineTexts
+pub mod Members
 pub mod Nodes
-mod OneReport
+pub mod OneReport
 pub mod Parsing
+pub mod ProofBytes
 pub mod Refused
+pub mod Rows

@@ -1,93 +1,136 @@
 -- What the steps of reading an input say of the whole.
-use Rattle.std.proofs.Common.{◌≡◌, ℕ, List, get_or, Result, Ok, refl, sym, ap, ◌∙◌, subst}
-use Rattle.std.specs.Prelude.{map, is_some, nat_eq, IsSome, Option, Some}
-use Rattle.std.specs.BTreeMap.{BTreeMap, IsOrdered, get, keys}
-use Rattle.std.specs.List.{flat_map, list_any}
-use Rattle.std.specs.Ordering.{nat_cmp}
-use Rattle.std.proofs.lemmas.Cmp.{nat_cmp_total}
-use Rattle.std.proofs.lemmas.List.Elements.{Contains-get_or}
-use Rattle.std.proofs.lemmas.Map.Keys.{IsStrictlyIncreasing-from_sorted}
-use Rattle.std.proofs.lemmas.Map.Lookups.{exact_unsigned}
-use Rattle.std.proofs.lemmas.Map.Views.{btree_map_contains_key_iff, btree_map_get_iff}
+use Rattle.std.proofs.Common.{◌≡◌, ℕ, List, [], ◌∷◌, ◌++◌, Result, Ok, Err, refl, sym, ap, ◌∙◌, subst, inl, inr}
+use Rattle.std.specs.Prelude.{◌↔◌}
+use Rattle.std.specs.List.{Contains}
 use Rattle.lms_sign.specs.declared.key.PublicKey.{PublicKey}
 use Rattle.outcome.specs.Outcome.{◌>>=◌, told_as, Fails}
-use Rattle.outcome.proofs.Steps.{Fails-then, Fails-told}
+use Rattle.outcome.proofs.Steps.{Fails-then}
 use Rattle.authenticators.specs.declared.fault.DirectoryFault.{DirectoryFault}
-use Rattle.authenticators.specs.declared.fault.DirectoryFault.TheVariants as listing
-use Rattle.authenticators.specs.Directory.{key_at}
 use Rattle.authenticators.specs.DirectoryText.{directory_of}
+use Rattle.item_forms.specs.declared.forms.Fields.{Fields}
+use Rattle.evidence_set.specs.ItemSets.{SetsAsExpected, none}
+use Rattle.evidence_store.specs.Contents.{Contents}
 use Rattle.node_sim.specs.declared.fault.Fault.{Fault}
 use Rattle.node_sim.specs.declared.fault.Fault.TheVariants.{Memory}
-use Rattle.node_sim.specs.declared.indication.Indication.{Indication}
-use Rattle.node_sim.specs.declared.statement.Statement.{Statement}
 use Rattle.node_sim.specs.Refusals.{of_directory}
-use Rattle.node_sim.specs.HexLines.{texts_of}
-use Rattle.node_sim.specs.StoreText.{store_of}
-use Rattle.node_sim.specs.Indications.{IsIndication}
-use Rattle.node_sim.specs.Output.{IsReport, Parsed, line_of, parsed_of}
-use Rattle.node_sim.proofs.Nodes.{listed_any}
+use Rattle.node_sim.specs.HexLines.{all_texts_of, two_texts_of}
+use Rattle.node_sim.specs.Inputs.{AreItems, IsEvidence, Parsed, all_stores_of, evidence_of, one_store_of, store_of, stores_after}
+use Rattle.node_sim.specs.within.Opening.{AddsStore, AddsStores, opened}
+use Rattle.node_sim.proofs.Members.{none_here}
 
--- ---- refusals
+-- ---- the directory
 
--- what follows the directory
-abbrev read_items : List ℕ → List (ℕ × PublicKey) → Result Parsed Fault
-read_items second ds = store_of ds second >>= λ ss. Ok (record { directory = ds; statements = ss })
+-- the items that are left to read, under a directory
+abbrev read_stores : List (List ℕ) → List (ℕ × PublicKey) → Result Parsed Fault
+read_stores stores ds = stores_after ds [] stores >>= λ items. Ok (record { directory = ds; items = items })
 
--- what follows the lines
-abbrev read_both : List ℕ × List ℕ → Result Parsed Fault
-read_both texts = told_as of_directory (directory_of texts.0) >>= read_items texts.1
+-- a store without items under the directory
+abbrev without_items : List (ℕ × PublicKey) → Result Contents Fault
+without_items ds = Ok (record { directory = ds; items = none })
 
--- an input is read in these steps
-by_steps : (input : List ℕ) → parsed_of input ≡ (texts_of input >>= read_both)
-unfolding parsed_of
-by_steps input = refl
+by_directory : (a : List ℕ) (stores : List (List ℕ)) → evidence_of a stores ≡ (told_as of_directory (directory_of a) >>= read_stores stores)
+unfolding evidence_of
+by_directory a stores = refl
 
--- the lines are refused
-pub texts_fail : (input : List ℕ) (e : Fault) → Fails Memory e (texts_of input) → Fails Memory e (parsed_of input)
-texts_fail input e h = subst (λ (r : Result Parsed Fault). Fails Memory e r) (sym (by_steps input)) (Fails-then Memory e (texts_of input) read_both h)
+-- where the directory is refused all is
+refused_alike : (d : Result (List (ℕ × PublicKey)) Fault) (stores : List (List ℕ)) (e : Fault) → Fails Memory e (d >>= without_items) → Fails Memory e (d >>= read_stores stores)
+refused_alike (Ok ds) stores e (inl m) = inl m
+refused_alike (Ok ds) stores e (inr h) = absurd cc
+refused_alike (Err f) stores e (inl m) = inl m
+refused_alike (Err f) stores e (inr h) = inr cc
 
--- what is left to read after the lines
-after_texts : (input a b : List ℕ) → texts_of input ≡ Ok (a, b) → parsed_of input ≡ read_both (a, b)
-after_texts input a b t = by_steps input ∙ ap (λ (r : Result (List ℕ × List ℕ) Fault). r >>= read_both) t
+pub opening_fails : (a : List ℕ) (stores : List (List ℕ)) (e : Fault) → Fails Memory e (opened a) → Fails Memory e (evidence_of a stores)
+unfolding opened
+opening_fails a stores e h =
+    subst (λ (r : Result Parsed Fault). Fails Memory e r) (sym (by_directory a stores)) (refused_alike (told_as of_directory (directory_of a)) stores e h)
 
--- the directory is refused
-pub directory_fails : (input a b : List ℕ) (e : DirectoryFault) → texts_of input ≡ Ok (a, b) → Fails listing.Memory e (directory_of a) → Fails Memory (of_directory e) (parsed_of input)
-directory_fails input a b e t h =
-    subst (λ (r : Result Parsed Fault). Fails Memory (of_directory e) r) (sym (after_texts input a b t))
-    (Fails-then Memory (of_directory e) (told_as of_directory (directory_of a)) (read_items b) (Fails-told of_directory Memory listing.Memory e (directory_of a) refl h))
+-- where it is read the stores are left
+left_alike : (d : Result (List (ℕ × PublicKey)) Fault) (stores : List (List ℕ)) (s : Contents) → (d >>= without_items) ≡ Ok s → (d >>= read_stores stores) ≡ read_stores stores s.directory
+left_alike (Ok ds) stores s h = let same : ds ≡ s.directory = cc in ap (read_stores stores) same
+left_alike (Err f) stores s h = absurd cc
 
--- what is left to read after the directory
-after_directory : (input a b : List ℕ) (ds : List (ℕ × PublicKey)) → texts_of input ≡ Ok (a, b) → directory_of a ≡ Ok ds → parsed_of input ≡ read_items b ds
-after_directory input a b ds t d = after_texts input a b t ∙ ap (λ (r : Result (List (ℕ × PublicKey)) DirectoryFault). told_as of_directory r >>= read_items b) d
+pub after_opening : (a : List ℕ) (stores : List (List ℕ)) (s : Contents) → opened a ≡ Ok s → evidence_of a stores ≡ read_stores stores s.directory
+unfolding opened
+after_opening a stores s h = by_directory a stores ∙ left_alike (told_as of_directory (directory_of a)) stores s h
 
--- the store is refused
-pub store_fails : (input a b : List ℕ) (ds : List (ℕ × PublicKey)) (e : Fault) → texts_of input ≡ Ok (a, b) → directory_of a ≡ Ok ds → Fails Memory e (store_of ds b) → Fails Memory e (parsed_of input)
-store_fails input a b ds e t d h =
-    subst (λ (r : Result Parsed Fault). Fails Memory e r) (sym (after_directory input a b ds t d))
-    (Fails-then Memory e (store_of ds b) (λ ss. Ok (record { directory = ds; statements = ss })) h)
+empty_alike : (d : Result (List (ℕ × PublicKey)) Fault) (s : Contents) → (d >>= without_items) ≡ Ok s → s.items ≡ none
+empty_alike (Ok ds) s h = cc
+empty_alike (Err f) s h = absurd cc
 
--- all is read
-pub all_read : (input a b : List ℕ) (ds : List (ℕ × PublicKey)) (ss : List Statement) → texts_of input ≡ Ok (a, b) → directory_of a ≡ Ok ds → store_of ds b ≡ Ok ss → parsed_of input ≡ Ok (record { directory = ds; statements = ss })
-all_read input a b ds ss t d s = after_directory input a b ds t d ∙ ap (λ (r : Result (List Statement) Fault). r >>= λ ss. Ok (record { directory = ds; statements = ss })) s
+-- a store that was opened has no items
+pub opened_empty : SetsAsExpected → (a : List ℕ) (s : Contents) → opened a ≡ Ok s → AreItems s.items []
+unfolding opened
+opened_empty law a s h x =
+    let is : s.items ≡ none = empty_alike (told_as of_directory (directory_of a)) s h in
+    (λ has. absurd (law.none x (rw is at has)), λ has. absurd (none_here x.fields has))
 
--- ---- the report
+-- ---- stores
 
--- the other is there where the one is
-some_same : {A B : Type 0} (a : Option A) (b : Option B) → is_some a ≡ is_some b → IsSome a → IsSome b
-some_same a b e h = sym e ∙ h
+pub store_after : (ds : List (ℕ × PublicKey)) (items more : List Fields) (text : List ℕ) (texts : List (List ℕ)) → store_of ds text ≡ Ok more → stores_after ds items (text ∷ texts) ≡ stores_after ds (items ++ more) texts
+unfolding stores_after
+store_after ds items more text texts h = ap (λ (r : Result (List Fields) Fault). r >>= λ more. stores_after ds (items ++ more) texts) h
 
--- a map with the indication of each listed node is the report's rows
-pub reports : (ds : List (ℕ × PublicKey)) (ss : List Statement) (nodes : List ℕ) (m : BTreeMap ℕ Indication) (text : List ℕ) → nodes ≡ map (λ p. p.0) ds → IsOrdered nat_cmp m
-    → ((n : ℕ) → is_some (get nat_cmp m n) ≡ list_any (nat_eq n) nodes) → ((n : ℕ) (x : Indication) → get nat_cmp m n ≡ Some x → IsIndication ss n x) → text ≡ flat_map line_of m.entries
-    → IsReport (record { directory = ds; statements = ss }) text
-reports ds ss nodes m text numbers ordered listed right lines =
-    let same : (n : ℕ) → is_some (get nat_cmp m n) ≡ is_some (key_at ds n) = λ n. listed n ∙ ap (list_any (nat_eq n)) numbers ∙ sym (listed_any n ds) in
-    record {
-      rows = m.entries;
-      ascending = IsStrictlyIncreasing-from_sorted (keys m) ordered;
-      complete = λ n.
-          let found = btree_map_contains_key_iff nat_cmp_total exact_unsigned m n in
-          (λ h. some_same _ _ (same n) (found.1 h), λ h. found.0 (some_same _ _ (sym (same n)) h));
-      right = λ k d lt. right (get_or m.entries k d).0 (get_or m.entries k d).1 ((btree_map_get_iff nat_cmp_total exact_unsigned m ordered (get_or m.entries k d).0 (get_or m.entries k d).1).1 (Contains-get_or m.entries k d lt));
-      spelled = lines;
-    }
+pub stores_end : (ds : List (ℕ × PublicKey)) (items : List Fields) → stores_after ds items [] ≡ Ok items
+unfolding stores_after
+stores_end ds items = refl
+
+pub store_refused : (ds : List (ℕ × PublicKey)) (items : List Fields) (text : List ℕ) (texts : List (List ℕ)) (e : Fault) → Fails Memory e (store_of ds text) → Fails Memory e (stores_after ds items (text ∷ texts))
+unfolding stores_after
+store_refused ds items text texts e h = Fails-then Memory e (store_of ds text) (λ more. stores_after ds (items ++ more) texts) h
+
+-- no store was added, and one more
+pub none_added : (s : Contents) (texts : List (List ℕ)) → AddsStores s s texts texts
+none_added s texts = record { items = []; read = refl; directory = refl; set = λ h. h }
+
+module _ (s t : Contents) (texts : List (List ℕ)) (text : List ℕ) (left : List (List ℕ)) (adds : AddsStores s t texts (text ∷ left)) where
+  pub one_added : (u : Contents) → AddsStore t u text → AddsStores s u texts left
+  one_added u more =
+      let is : store_of s.directory text ≡ Ok more.more = ap (λ (ds : List (ℕ × PublicKey)). store_of ds text) (sym adds.directory) ∙ more.read in
+      record {
+        items = adds.items ++ more.more;
+        read = adds.read ∙ store_after s.directory adds.items more.more text left is;
+        directory = more.directory ∙ adds.directory;
+        set = λ empty. more.set adds.items (adds.set empty);
+      }
+
+  pub one_refused : (e : Fault) → Fails Memory e (store_of t.directory text) → Fails Memory e (stores_after s.directory [] texts)
+  one_refused e h =
+      let here = subst (λ (ds : List (ℕ × PublicKey)). Fails Memory e (store_of ds text)) adds.directory h in
+      subst (λ (r : Result (List Fields) Fault). Fails Memory e r) (sym adds.read) (store_refused s.directory adds.items text left e here)
+
+-- ---- the evidence
+
+module _ (a : List ℕ) (stores : List (List ℕ)) (s : Contents) (o : opened a ≡ Ok s) where
+  pub evidence_fails : (e : Fault) → Fails Memory e (stores_after s.directory [] stores) → Fails Memory e (evidence_of a stores)
+  evidence_fails e h =
+      subst (λ (r : Result Parsed Fault). Fails Memory e r) (sym (after_opening a stores s o))
+      (Fails-then Memory e (stores_after s.directory [] stores) (λ items. Ok (record { directory = s.directory; items = items })) h)
+
+  pub evidence_read : SetsAsExpected → (t : Contents) → AddsStores s t stores [] → IsEvidence (evidence_of a stores) t
+  evidence_read law t adds = record {
+    items = adds.items;
+    is = after_opening a stores s o
+        ∙ ap (λ (r : Result (List Fields) Fault). r >>= λ items. Ok (record { directory = s.directory; items = items })) (adds.read ∙ stores_end s.directory adds.items)
+        ∙ ap (λ (ds : List (ℕ × PublicKey)). Ok (record { directory = ds; items = adds.items })) (sym adds.directory);
+    set = adds.set (opened_empty law a s o);
+  }
+
+-- ---- an input
+
+-- an input whose lines are refused
+pub one_fails : (input : List ℕ) (e : Fault) → Fails Memory e (two_texts_of input) → Fails Memory e (one_store_of input)
+unfolding one_store_of
+one_fails input e h = Fails-then Memory e (two_texts_of input) (λ texts. evidence_of texts.0 (texts.1 ∷ [])) h
+
+pub all_fail : (input : List ℕ) (e : Fault) → Fails Memory e (all_texts_of input) → Fails Memory e (all_stores_of input)
+unfolding all_stores_of
+all_fail input e h = Fails-then Memory e (all_texts_of input) (λ texts. evidence_of texts.0 texts.1) h
+
+-- an input whose lines are read
+pub one_is : (input a b : List ℕ) → two_texts_of input ≡ Ok (a, b) → one_store_of input ≡ evidence_of a (b ∷ [])
+unfolding one_store_of
+one_is input a b h = ap (λ (r : Result (List ℕ × List ℕ) Fault). r >>= λ texts. evidence_of texts.0 (texts.1 ∷ [])) h
+
+pub all_are : (input a : List ℕ) (bs : List (List ℕ)) → all_texts_of input ≡ Ok (a, bs) → all_stores_of input ≡ evidence_of a bs
+unfolding all_stores_of
+all_are input a bs h = ap (λ (r : Result (List ℕ × List (List ℕ)) Fault). r >>= λ texts. evidence_of texts.0 texts.1) h

@@ -1,126 +1,84 @@
 -- An input is never refused with a device's fault.
-use Rattle.std.proofs.Common.{◌≡◌, ℕ, zero, suc, ◌==◌, Bool, true, false, List, [], ◌∷◌, ◌++◌, length, Result, Ok, Err, refl, ap, inl, inr, subst}
-use Rattle.std.specs.Int.{w8, w32, w64}
-use Rattle.std.specs.Str.{bytes_eq}
-use Rattle.std.specs.Prelude.{is_some}
+use Rattle.std.proofs.Common.{◌≡◌, ℕ, false, List, [], ◌∷◌, ◌++◌, Result, Ok, Err, refl, ap, inl, inr, subst}
+use Rattle.std.specs.Prelude.{IfErr}
 use Rattle.hex.specs.Hex.{decode_of}
 use Rattle.lms_sign.specs.declared.key.PublicKey.{PublicKey}
-use Rattle.lms_sign.specs.declared.types.TheConstants.{LONGEST_SIGNATURE}
-use Rattle.log_chain.specs.declared.fault.FieldFault.{FieldFault}
-use Rattle.log_chain.specs.declared.fault.FieldFault.TheVariants as field
-use Rattle.log_chain.specs.Fields.{bytes_at, number_at, take_at}
 use Rattle.outcome.specs.Outcome.{◌>>=◌, told_as, Fails}
 use Rattle.authenticators.specs.declared.fault.DirectoryFault.{DirectoryFault}
 use Rattle.authenticators.specs.declared.fault.DirectoryFault.TheVariants as listing
-use Rattle.authenticators.specs.Directory.{key_at}
 use Rattle.authenticators.specs.DirectoryText.{directory_of}
-use Rattle.authenticators.specs.Statement.{is_signed}
+use Rattle.item_forms.specs.declared.forms.Fields.{Fields}
+use Rattle.item_forms.specs.declared.fault.DecodeFault.{DecodeFault}
+use Rattle.item_forms.specs.declared.fault.DecodeFault.TheVariants as reading
+use Rattle.proofs.specs.declared.fault.ProofFault.{ProofFault}
+use Rattle.proofs.specs.declared.fault.ProofFault.TheVariants as proof
+use Rattle.proofs.specs.ProofTexts.{proof_of}
+use Rattle.containers.specs.declared.fault.Cause.{Cause}
+use Rattle.containers.specs.declared.fault.Cause.TheVariants as cause
+use Rattle.containers.specs.CheckedItems.{checked_of}
+use Rattle.containers.specs.Container.{import_of}
+use Rattle.evidence_set.specs.Exports.{magic}
+use Rattle.evidence_store.specs.declared.fault.AskFault.{AskFault}
+use Rattle.evidence_store.specs.declared.fault.AskFault.TheVariants as asking
+use Rattle.evidence_store.specs.Contents.{Contents}
 use Rattle.node_sim.specs.declared.fault.Fault.{Fault}
 use Rattle.node_sim.specs.declared.fault.Fault.TheVariants as fault
-use Rattle.node_sim.specs.declared.statement.Statement.{Statement}
-use Rattle.node_sim.specs.Refusals.{of_directory, of_field}
-use Rattle.node_sim.specs.HexLines.{bytes_of, lines_of, pair_of, texts_of}
-use Rattle.node_sim.specs.StoreText.{checked_of, checks, is_before, items_at, magic, signed_of, store_of, unless}
-use Rattle.node_sim.specs.Output.{Parsed, parsed_of}
-
--- whether a fault is a device's
-abbrev pub is_devices : Fault → Bool
-is_devices fault.ReadFailed = true
-is_devices fault.InputTooLong = true
-is_devices fault.WriteFailed = true
-is_devices _ = false
+use Rattle.node_sim.specs.Refusals.{of_asking, of_cause, of_directory, of_import, of_proof, of_reading}
+use Rattle.node_sim.specs.HexLines.{all_texts_of, bytes_of, each_bytes_after, first_and_others, lines_of, pair_of, two_texts_of}
+use Rattle.node_sim.specs.Inputs.{Parsed, all_stores_of, evidence_of, one_store_of, presented_of, store_of, stores_after}
+use Rattle.node_sim.specs.within.Opening.{Holds}
+use Rattle.node_sim.specs.within.OwnFaults.{IsOwn, is_devices}
 
 -- a refusal is the input's own
-abbrev pub IsOwn : {A : Type 0} → Result A Fault → Type 0
-IsOwn (Ok x) = Unit {0}
-IsOwn (Err f) = is_devices f ≡ false
+abbrev pub RefusesOwn : {A : Type 0} → Result A Fault → Type 0
+RefusesOwn (Ok x) = Unit {0}
+RefusesOwn (Err f) = IsOwn f
 
 -- steps that refuse so make a sequence that does
-own_then : {A B : Type 0} (r : Result A Fault) (next : A → Result B Fault) → IsOwn r → ((x : A) → IsOwn (next x)) → IsOwn (r >>= next)
+own_then : {A B : Type 0} (r : Result A Fault) (next : A → Result B Fault) → RefusesOwn r → ((x : A) → RefusesOwn (next x)) → RefusesOwn (r >>= next)
 own_then (Ok x) next h k = k x
 own_then (Err f) next h k = h
 
 -- a lower refusal under names that are no device's
-own_told : {A E : Type 0} (tell : E → Fault) (r : Result A E) → ((e : E) → is_devices (tell e) ≡ false) → IsOwn (told_as tell r)
+own_told : {A E : Type 0} (tell : E → Fault) (r : Result A E) → ((e : E) → IsOwn (tell e)) → RefusesOwn (told_as tell r)
 own_told tell (Ok x) h = tt
 own_told tell (Err e) h = h e
 
--- a test refuses so
-own_unless : (f : Fault) (b : Bool) → is_devices f ≡ false → IsOwn (unless f b)
-own_unless f true h = tt
-own_unless f false h = h
-
--- a field's refusal is no device's
-field_own : (f : FieldFault) → is_devices (of_field f) ≡ false
-field_own field.Truncated = refl
-field_own field.TooLong = refl
-
--- a field refuses so
-own_field : {A : Type 0} (r : Result A FieldFault) → IsOwn (told_as of_field r)
-own_field r = own_told of_field r field_own
-
 -- lines refuse so
-pair_own : (lines : List (List ℕ)) → IsOwn (pair_of lines)
+pair_own : (lines : List (List ℕ)) → RefusesOwn (pair_of lines)
 pair_own [] = refl
 pair_own (a ∷ []) = refl
 pair_own (a ∷ b ∷ []) = tt
 pair_own (a ∷ b ∷ c ∷ more) = refl
 
--- both lines do
-texts_own : (text : List ℕ) → IsOwn (texts_of text)
-unfolding texts_of
-texts_own text =
+bytes_own : (line : List ℕ) → RefusesOwn (bytes_of line)
+bytes_own line = own_told (λ _. fault.BadHex) (decode_of line) (λ _. refl)
+
+two_texts_own : (text : List ℕ) → RefusesOwn (two_texts_of text)
+unfolding two_texts_of
+two_texts_own text =
     own_then (pair_of (lines_of text)) _ (pair_own (lines_of text))
-    (λ lines. own_then (bytes_of lines.0) _ (own_told _ (decode_of lines.0) (λ _. refl))
-    (λ first. own_then (bytes_of lines.1) _ (own_told _ (decode_of lines.1) (λ _. refl)) (λ second. tt)))
+    (λ lines. own_then (bytes_of lines.0) _ (bytes_own lines.0)
+    (λ first. own_then (bytes_of lines.1) _ (bytes_own lines.1) (λ second. tt)))
 
--- an item's fields do
-signed_own : (text : List ℕ) → IsOwn (signed_of text)
-unfolding signed_of
-signed_own text =
-    own_then (told_as of_field (number_at w8 text)) _ (own_field (number_at w8 text))
-    (λ tag. own_then (unless fault.BadTag (tag.0 == 1)) _ (own_unless fault.BadTag (tag.0 == 1) refl)
-    (λ _. own_then (told_as of_field (number_at w32 tag.1)) _ (own_field (number_at w32 tag.1))
-    (λ node. own_then (told_as of_field (number_at w64 node.1)) _ (own_field (number_at w64 node.1))
-    (λ seq. own_then (told_as of_field (take_at 32 seq.1)) _ (own_field (take_at 32 seq.1))
-    (λ hash. own_then (told_as of_field (bytes_at LONGEST_SIGNATURE hash.1)) _ (own_field (bytes_at LONGEST_SIGNATURE hash.1))
-    (λ sig. own_then (unless fault.Trailing (length sig.1 == 0)) _ (own_unless fault.Trailing (length sig.1 == 0) refl) (λ _. tt)))))))
+first_own : (lines : List (List ℕ)) → RefusesOwn (first_and_others lines)
+first_own [] = refl
+first_own (a ∷ more) = tt
 
--- an item's tests do
-checks_own : (ds : List (ℕ × PublicKey)) (last text : List ℕ) (s : Statement) (sig : List ℕ) → IsOwn (checks ds last text s sig)
-checks_own ds last text s sig =
-    own_then (unless fault.NotAscending (is_before last text)) _ (own_unless fault.NotAscending (is_before last text) refl)
-    (λ _. own_then (unless fault.UnknownNode (is_some (key_at ds s.node))) _ (own_unless fault.UnknownNode (is_some (key_at ds s.node)) refl)
-    (λ _. own_unless fault.BadSignature (is_signed ds s.node s.seq s.hash sig) refl))
+each_own : (texts lines : List (List ℕ)) → RefusesOwn (each_bytes_after texts lines)
+unfolding each_bytes_after
+each_own texts [] = tt
+each_own texts (line ∷ lines) = own_then (bytes_of line) _ (bytes_own line) (λ bytes. each_own (texts ++ bytes ∷ []) lines)
 
--- an item does
-checked_own : (ds : List (ℕ × PublicKey)) (last text : List ℕ) → IsOwn (checked_of ds last text)
-unfolding checked_of
-checked_own ds last text =
-    own_then (signed_of text) _ (signed_own text)
-    (λ signed. own_then (checks ds last text signed.0 signed.1) _ (checks_own ds last text signed.0 signed.1) (λ _. tt))
+all_texts_own : (text : List ℕ) → RefusesOwn (all_texts_of text)
+unfolding all_texts_of
+all_texts_own text =
+    own_then (first_and_others (lines_of text)) _ (first_own (lines_of text))
+    (λ lines. own_then (bytes_of lines.0) _ (bytes_own lines.0)
+    (λ first. own_then (each_bytes_after [] lines.1) _ (each_own [] lines.1) (λ others. tt)))
 
--- items do
-items_own : (ds : List (ℕ × PublicKey)) (n : ℕ) (last : List ℕ) (before : List Statement) (bytes : List ℕ) → IsOwn (items_at ds n last before bytes)
-unfolding items_at
-items_own ds zero last before bytes = tt
-items_own ds (suc n) last before bytes =
-    own_then (told_as of_field (bytes_at 536933529 bytes)) _ (own_field (bytes_at 536933529 bytes))
-    (λ text. own_then (checked_of ds last text.0) _ (checked_own ds last text.0)
-    (λ s. items_own ds n text.0 (before ++ s ∷ []) text.1))
-
--- a store does
-store_own : (ds : List (ℕ × PublicKey)) (bytes : List ℕ) → IsOwn (store_of ds bytes)
-unfolding store_of
-store_own ds bytes =
-    own_then (told_as of_field (take_at 8 bytes)) _ (own_field (take_at 8 bytes))
-    (λ front. own_then (unless fault.BadMagic (bytes_eq front.0 magic)) _ (own_unless fault.BadMagic (bytes_eq front.0 magic) refl)
-    (λ _. own_then (told_as of_field (number_at w64 front.1)) _ (own_field (number_at w64 front.1))
-    (λ count. own_then (items_at ds count.0 [] [] count.1) _ (items_own ds count.0 [] [] count.1)
-    (λ items. own_then (unless fault.Trailing (length items.1 == 0)) _ (own_unless fault.Trailing (length items.1 == 0) refl) (λ _. tt)))))
-
--- a directory's refusal is no device's
-directory_own : (f : DirectoryFault) → is_devices (of_directory f) ≡ false
+-- a directory does
+directory_own : (f : DirectoryFault) → IsOwn (of_directory f)
 directory_own listing.BadMagic = refl
 directory_own listing.Truncated = refl
 directory_own listing.Trailing = refl
@@ -131,15 +89,90 @@ directory_own listing.DuplicateKey = refl
 directory_own listing.TooManyNodes = refl
 directory_own listing.Memory = refl
 
--- an input does
-parsed_own : (input : List ℕ) → IsOwn (parsed_of input)
-unfolding parsed_of
-parsed_own input =
-    own_then (texts_of input) _ (texts_own input)
-    (λ texts. own_then (told_as of_directory (directory_of texts.0)) _ (own_told of_directory (directory_of texts.0) directory_own)
-    (λ directory. own_then (store_of directory texts.1) _ (store_own directory texts.1) (λ _. tt)))
+-- a store does
+cause_own : (c : Cause) → IsOwn (of_cause c)
+cause_own cause.Truncated = refl
+cause_own cause.BadTag = refl
+cause_own cause.TooLong = refl
+cause_own cause.Trailing = refl
+cause_own cause.UnknownNode = refl
+cause_own cause.SelfMessage = refl
+cause_own cause.EmptySegment = refl
+cause_own cause.BadStart = refl
+cause_own cause.BadRange = refl
+cause_own cause.BadSignature = refl
+cause_own cause.BadMagic = refl
+cause_own cause.NotAscending = refl
+cause_own cause.Memory = refl
 
--- the refusal of an input, or want of memory, is no device's fault
-pub not_devices : (input : List ℕ) (f : Fault) → Fails fault.Memory f (parsed_of input) → is_devices f ≡ false
-not_devices input f (inl m) = ap is_devices m
-not_devices input f (inr e) = subst (λ (r : Result Parsed Fault). IsOwn r) e (parsed_own input)
+store_own : (ds : List (ℕ × PublicKey)) (text : List ℕ) → RefusesOwn (store_of ds text)
+store_own ds text = own_told of_import (import_of magic (checked_of ds) text) (λ f. cause_own f.cause)
+
+stores_own : (ds : List (ℕ × PublicKey)) (items : List Fields) (texts : List (List ℕ)) → RefusesOwn (stores_after ds items texts)
+unfolding stores_after
+stores_own ds items [] = tt
+stores_own ds items (text ∷ texts) = own_then (store_of ds text) _ (store_own ds text) (λ more. stores_own ds (items ++ more) texts)
+
+evidence_own : (directory : List ℕ) (stores : List (List ℕ)) → RefusesOwn (evidence_of directory stores)
+unfolding evidence_of
+evidence_own directory stores =
+    own_then (told_as of_directory (directory_of directory)) _ (own_told of_directory (directory_of directory) directory_own)
+    (λ ds. own_then (stores_after ds [] stores) _ (stores_own ds [] stores) (λ items. tt))
+
+-- an input does
+one_store_own : (input : List ℕ) → RefusesOwn (one_store_of input)
+unfolding one_store_of
+one_store_own input = own_then (two_texts_of input) _ (two_texts_own input) (λ texts. evidence_own texts.0 (texts.1 ∷ []))
+
+all_stores_own : (input : List ℕ) → RefusesOwn (all_stores_of input)
+unfolding all_stores_of
+all_stores_own input = own_then (all_texts_of input) _ (all_texts_own input) (λ texts. evidence_own texts.0 texts.1)
+
+reading_own : (f : DecodeFault) → IsOwn (of_reading f)
+reading_own reading.Truncated = refl
+reading_own reading.BadTag = refl
+reading_own reading.TooLong = refl
+reading_own reading.Trailing = refl
+reading_own reading.Memory = refl
+
+presented_own : (input : List ℕ) → RefusesOwn (presented_of input)
+unfolding presented_of
+presented_own input =
+    own_then (two_texts_of input) _ (two_texts_own input)
+    (λ texts. own_then (told_as of_directory (directory_of texts.0)) _ (own_told of_directory (directory_of texts.0) directory_own)
+    (λ ds. own_then (told_as of_reading (proof_of texts.1)) _ (own_told of_reading (proof_of texts.1) reading_own) (λ parts. tt)))
+
+-- a proof's own refusal, and that of a question
+pub proof_own : (f : ProofFault) → IsOwn (of_proof f)
+proof_own proof.UnknownNode = refl
+proof_own proof.SelfMessage = refl
+proof_own proof.EmptySegment = refl
+proof_own proof.BadStart = refl
+proof_own proof.BadRange = refl
+proof_own proof.BadSignature = refl
+proof_own proof.NoContradiction = refl
+proof_own proof.Conforms = refl
+proof_own proof.Memory = refl
+
+pub asking_own : (f : AskFault) → IsOwn (of_asking f)
+asking_own asking.UnknownNode = refl
+asking_own asking.Memory = refl
+
+-- the refusal that a sequence tells, or want of memory, is so
+pub own_of : {A : Type 0} (r : Result A Fault) (f : Fault) → RefusesOwn r → Fails fault.Memory f r → IsOwn f
+own_of r f own (inl m) = ap is_devices m
+own_of {A} r f own (inr e) = subst (λ (r : Result A Fault). RefusesOwn r) e own
+
+pub one_store_refuses_own : (input : List ℕ) (f : Fault) → Fails fault.Memory f (one_store_of input) → IsOwn f
+one_store_refuses_own input f fails = own_of (one_store_of input) f (one_store_own input) fails
+
+pub all_stores_refuse_own : (input : List ℕ) (f : Fault) → Fails fault.Memory f (all_stores_of input) → IsOwn f
+all_stores_refuse_own input f fails = own_of (all_stores_of input) f (all_stores_own input) fails
+
+pub presented_refuses_own : (input : List ℕ) (f : Fault) → Fails fault.Memory f (presented_of input) → IsOwn f
+presented_refuses_own input f fails = own_of (presented_of input) f (presented_own input) fails
+
+-- what was not read of a directory and stores is refused so
+pub holds_own : (result : Result Contents Fault) (a : List ℕ) (stores : List (List ℕ)) → Holds result (evidence_of a stores) → IfErr result IsOwn
+holds_own (Ok s) a stores h = tt
+holds_own (Err f) a stores h = own_of (evidence_of a stores) f (evidence_own a stores) h

@@ -1,8 +1,8 @@
 pub mod CommandLine
 pub mod Devices
+pub mod Engines
 pub mod HexLines
-pub mod Indications
+pub mod Inputs
 pub mod Output
 pub mod Refusals
-pub mod StoreText
 pub mod within

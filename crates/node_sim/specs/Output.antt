@@ -1,88 +1,93 @@
--- What `status` writes for an input, and when it refuses one.
-use Rattle.std.specs.Prelude.{◌≡◌, ◌+◌, ◌≤◌, ◌⊎◌, ◌↔◌, ℕ, List, ◌++◌, length, map, codes, decimal, Contains, All, IsSome, IsOk, Option, Result, Ok, Err}
+-- What each command writes for an input, and when it refuses one.
+use Rattle.std.specs.Prelude.{◌≡◌, ◌↔◌, ◌⊎◌, ℕ, List, [], ◌∷◌, ◌++◌, map, codes, decimal, Contains, All, IfSome, IsSome, Option, Some, None, Result, Ok, Err}
 use Rattle.std.specs.List.{flat_map}
 use Rattle.std.specs.List.Sorted.{IsStrictlyIncreasing}
-use Rattle.std.specs.Io.KnownBytes.{Appends}
-use Rattle.lms_sign.specs.declared.key.PublicKey.{PublicKey}
-use Rattle.outcome.specs.Outcome.{◌>>=◌, told_as}
 use Rattle.authenticators.specs.Directory.{key_at}
-use Rattle.authenticators.specs.DirectoryText.{directory_of}
+use Rattle.replay_verifier.specs.Meaning.{Meaning}
+use Rattle.proofs.specs.declared.fault.ProofFault.{ProofFault}
+use Rattle.proofs.specs.Cases.{Case}
+use Rattle.proofs.specs.Convicting.{Convicts, IsRefused}
+use Rattle.proofs.specs.ProofTexts.{proof_text}
+use Rattle.evidence_set.specs.Exports.{export_of}
+use Rattle.evidence_set.specs.declared.indication.Indication.{Indication}
+use Rattle.evidence_set.specs.Indications.{IsExposed, IsIndication}
+use Rattle.evidence_set.specs.Names.{name_of}
+use Rattle.evidence_store.specs.Contents.{Contents}
 use Rattle.node_sim.specs.declared.fault.Fault.{Fault}
-use Rattle.node_sim.specs.declared.fault.Fault.TheVariants.{WriteFailed}
-use Rattle.node_sim.specs.declared.statement.Statement.{Statement}
-use Rattle.node_sim.specs.declared.indication.Indication.{Indication}
-use Rattle.node_sim.specs.declared.indication.Indication.TheVariants as said
-use Rattle.node_sim.specs.Refusals.{of_directory}
-use Rattle.node_sim.specs.Devices.{IsAllOf, IsReadFault}
-use Rattle.node_sim.specs.HexLines.{texts_of}
-use Rattle.node_sim.specs.StoreText.{store_of}
-use Rattle.node_sim.specs.Indications.{IsIndication}
+use Rattle.node_sim.specs.declared.fault.Fault.TheVariants.{UnknownNode}
+use Rattle.node_sim.specs.HexLines.{hex_line, lines_of}
+use Rattle.node_sim.specs.Inputs.{IsEvidence, Presented, all_stores_of, one_store_of, presented_of}
+use Rattle.node_sim.specs.Refusals.{of_proof}
 
--- ---- what is read
+-- ---- `status`
 
--- A directory, and the statements of a store.
-pub record Parsed : Type 0 where
-  pub directory : List (ℕ × PublicKey)
-  pub statements : List Statement
-
--- What an input says, or why it is refused: its lines, their digits, the directory, the store.
-unfoldable pub parsed_of : List ℕ → Result Parsed Fault
-parsed_of input = do
-  texts ← texts_of input
-  directory ← told_as of_directory (directory_of texts.0)
-  statements ← store_of directory texts.1
-  Ok (record { directory = directory; statements = statements })
-
--- The most bytes of an input, and the most reads: as many bytes, one a read, and then the end.
-abbrev pub limit : ℕ
-limit = 67108864
-
-abbrev pub most_reads : ℕ
-most_reads = limit + 1
-
--- ---- what is written
-
--- What follows a node's number in its line.
+-- A node's line: its number in decimal digits, a blank, the word for what is said of it, and a line feed.
 abbrev pub ending_of : Indication → List ℕ
-ending_of said.Trusted = codes " trusted\n"
-ending_of said.Exposed = codes " exposed\n"
+ending_of i = codes " " ++ name_of i ++ codes "\n"
 
--- A node's line: its number in decimal digits, a blank, the word, and a line feed.
 abbrev pub line_of : ℕ × Indication → List ℕ
 line_of row = decimal row.0 ++ ending_of row.1
 
--- The text is the report of what was read: a line for each listed node and no other, in ascending order of the numbers,
--- with what the statements say of it.
-pub record IsReport (p : Parsed) (text : List ℕ) : Type 0 where
+-- The text is the report of the evidence: a line for each listed node and no other, in ascending order of the numbers, with what
+-- the items say of it.
+pub record IsReport {S : Type 0} (program : Meaning S) (s : Contents) (text : List ℕ) : Type 0 where
   pub rows : List (ℕ × Indication)
   pub ascending : IsStrictlyIncreasing (map (λ row. row.0) rows)
-  pub complete : (node : ℕ) → Contains (map (λ row. row.0) rows) node ↔ IsSome (key_at p.directory node)
-  pub right : All (λ row. IsIndication p.statements row.0 row.1) rows
+  pub complete : (node : ℕ) → Contains (map (λ row. row.0) rows) node ↔ IsSome (key_at s.directory node)
+  pub right : All (λ row. IsIndication s.directory program s.items row.0 row.1) rows
   pub spelled : text ≡ flat_map line_of rows
 
--- ---- what the engine did
+-- The report of an input, or its refusal.
+abbrev pub Status : {S : Type 0} → Meaning S → List ℕ → Result (List ℕ) Fault → Type 0
+Status program input (Ok text) = (s : Contents) × IsEvidence (one_store_of input) s × IsReport program s text
+Status program input (Err f) = one_store_of input ≡ Err f
 
--- All that the reader had was read, where it tells its bytes, and it is within the limit.
-pub record IsInput (left : Option (List ℕ)) (input : List ℕ) : Type 0 where
-  pub all : IsAllOf left input
-  pub within : length input ≤ limit
+-- ---- `merge`
 
--- The report of the input was written, where the writer tells its bytes, and nothing else.
-abbrev pub WritesReport : Option (List ℕ) → Option (List ℕ) → Option (List ℕ) → Type 0
-WritesReport left old new =
-    (input : List ℕ) × (p : Parsed) × (text : List ℕ)
-    × IsInput left input × (parsed_of input ≡ Ok p) × IsReport p text × Appends old new text
+-- The text of the set of all items, in one line, or the refusal.
+abbrev pub Merge : List ℕ → Result (List ℕ) Fault → Type 0
+Merge input (Ok text) = (s : Contents) × IsEvidence (all_stores_of input) s × (text ≡ hex_line (export_of s.items))
+Merge input (Err f) = all_stores_of input ≡ Err f
 
--- The refusal of an input that was read: the input's own, or the write's where there is none.
-abbrev pub RefusesInput : Fault → List ℕ → Type 0
-RefusesInput f input = (parsed_of input ≡ Err f) ⊎ ((f ≡ WriteFailed) × IsOk (parsed_of input))
+-- ---- `prove`
 
--- The refusal: memory, a read, an input that is too long, or else that of the input.
-abbrev pub Refuses : Fault → Option (List ℕ) → Type 0
-Refuses f left = IsReadFault f limit left ⊎ ((input : List ℕ) × IsInput left input × RefusesInput f input)
+-- A proof in one line, or `none`.
+abbrev pub proof_line : Option Case → List ℕ
+proof_line None = codes "none\n"
+proof_line (Some c) = hex_line (proof_text c.parts)
+
+-- What is found against a listed node: a proof that convicts it exactly where the evidence exposes it.
+pub record IsFound {S : Type 0} (program : Meaning S) (s : Contents) (node : ℕ) (found : Option Case) : Type 0 where
+  pub listed : IsSome (key_at s.directory node)
+  pub exposed : IsSome found ↔ IsExposed s.directory program s.items node
+  pub convicts : IfSome found (λ c. Convicts s.directory program node c.parts)
+
+-- What is found of an input against the node, or the refusal: the input's, or that the node is not listed.
+abbrev pub Prove : {S : Type 0} → Meaning S → ℕ → List ℕ → Result (List ℕ) Fault → Type 0
+Prove program node input (Ok text) = (s : Contents) × (found : Option Case) × IsEvidence (one_store_of input) s × IsFound program s node found × (text ≡ proof_line found)
+Prove program node input (Err f) = (one_store_of input ≡ Err f) ⊎ ((s : Contents) × IsEvidence (one_store_of input) s × (key_at s.directory node ≡ None) × (f ≡ UnknownNode))
+
+-- ---- `check`
+
+-- That the node is convicted.
+abbrev pub exposes_line : ℕ → List ℕ
+exposes_line node = codes "exposes " ++ decimal node ++ codes "\n"
+
+-- The node that the proof convicts, or the refusal: the input's, or the proof's.
+abbrev pub Check : {S : Type 0} → Meaning S → List ℕ → Result (List ℕ) Fault → Type 0
+Check program input (Ok text) = (p : Presented) × (node : ℕ) × (presented_of input ≡ Ok p) × Convicts p.directory program node p.parts × (text ≡ exposes_line node)
+Check program input (Err f) = (presented_of input ≡ Err f) ⊎ ((p : Presented) × (e : ProofFault) × (presented_of input ≡ Ok p) × IsRefused p.directory program p.parts e × (f ≡ of_proof e))
 
 -- ---- laws, which `laws` proves
 
--- What was read has one report.
-abbrev pub ReportsAreOne : Type 0
-ReportsAreOne = (p : Parsed) (a b : List ℕ) → IsReport p a → IsReport p b → a ≡ b
+-- An input has one report.
+abbrev pub ReportsAreOne : Type 0 → Type 0
+ReportsAreOne S = (program : Meaning S) (input a b : List ℕ) → Status program input (Ok a) → Status program input (Ok b) → a ≡ b
+
+-- Where `prove` writes of an input something else than `none`, `check` answers the same directory's line and what was written with
+-- that node, and with nothing else.
+abbrev pub ProofsAreChecked : Type 0 → Type 0
+ProofsAreChecked S =
+    (program : Meaning S) (node : ℕ) (input directory store text : List ℕ) (answer : Result (List ℕ) Fault)
+    → lines_of input ≡ directory ∷ store ∷ [] → Prove program node input (Ok text) → ¬ (text ≡ codes "none\n")
+    → Check program (directory ++ 10 ∷ text) answer ↔ (answer ≡ Ok (exposes_line node))

@@ -2,16 +2,18 @@
 
 ghost use Rattle.std.specs.Prelude.{◌≡◌, Some};
 ghost use Rattle.node_sim.specs.declared.fault.Fault.TheVariants.{Memory};
-ghost use Rattle.node_sim.specs.Refusals.{of_directory, of_field, text_of};
+ghost use Rattle.node_sim.specs.Refusals.{of_asking, of_directory, of_import, of_proof, of_reading, text_of};
 
 use authenticators::DirectoryFault;
-use log_chain::FieldFault;
+use containers::{Cause, ImportFault};
+use evidence_store::{AskFault, NewStoreRefused};
+use item_forms::DecodeFault;
+use proofs::ProofFault;
 use std::alloc::{AllocError, AllocFailed};
 use std::error::Error;
 use std::fmt;
 
-/// Why an engine did not write its report. Numbers tell refusals apart; three names of the directory's refusals are
-/// those of the store's.
+/// Why an engine wrote nothing. Numbers tell refusals apart; three names of the directory's refusals are those of a store's.
 #[derive(Clone, Copy, Debug, PartialEq, Eq)]
 pub enum Fault {
     /// A node's key has an LMS typecode that is not known.
@@ -30,21 +32,34 @@ pub enum Fault {
     DirectoryTruncated,
     /// Bytes are left over after the directory.
     DirectoryTrailing,
-    /// The store or an item is cut off.
+    /// A store, a proof or an item in them is cut off.
     Truncated,
-    /// An item begins with a byte that names no form.
+    /// An item's tag, a flag in it or a proof's form is none of those that there are, or a proof has an item of another form than
+    /// its part's.
     BadTag,
-    /// A length is above its limit.
+    /// A length or a count is above its limit.
     TooLong,
-    /// Bytes are left over after the store or an item.
+    /// Bytes are left over after a store, a proof or an item.
     Trailing,
-    /// An item is of a node that is not listed.
+    /// A node that an item names is not listed, or the node that was asked for is not.
     UnknownNode,
+    /// A message is from a node to itself.
+    SelfMessage,
+    /// A segment has no entry.
+    EmptySegment,
+    /// A segment begins neither with a log's first entry nor with a CHECKPOINT.
+    BadStart,
+    /// The first entry that an audit challenge names does not come before the last one.
+    BadRange,
     /// A signature of an item is not valid.
     BadSignature,
-    /// The store does not begin as one.
+    /// The parts of a proof do not contradict each other, or are of two nodes.
+    NoContradiction,
+    /// The segment that a proof presents conforms.
+    Conforms,
+    /// A store does not begin as one.
     BadMagic,
-    /// The items of the store do not ascend by their bytes.
+    /// The items of a store do not ascend by their bytes.
     NotAscending,
     /// A growth of memory was refused.
     Memory,
@@ -81,7 +96,13 @@ impl Fault {
             Fault::TooLong => 42,
             Fault::Trailing => 43,
             Fault::UnknownNode => 44,
+            Fault::SelfMessage => 45,
+            Fault::EmptySegment => 46,
+            Fault::BadStart => 47,
+            Fault::BadRange => 48,
             Fault::BadSignature => 49,
+            Fault::NoContradiction => 50,
+            Fault::Conforms => 51,
             Fault::BadMagic => 60,
             Fault::NotAscending => 61,
             Fault::Memory => 99,
@@ -109,7 +130,13 @@ impl Fault {
             Fault::BadTag => "BadTag",
             Fault::TooLong => "TooLong",
             Fault::UnknownNode => "UnknownNode",
+            Fault::SelfMessage => "SelfMessage",
+            Fault::EmptySegment => "EmptySegment",
+            Fault::BadStart => "BadStart",
+            Fault::BadRange => "BadRange",
             Fault::BadSignature => "BadSignature",
+            Fault::NoContradiction => "NoContradiction",
+            Fault::Conforms => "Conforms",
             Fault::NotAscending => "NotAscending",
             Fault::Memory => "Memory",
             Fault::ReadFailed => "ReadFailed",
@@ -150,14 +177,11 @@ impl<T: Drop> From<AllocFailed<T>> for Fault {
     }
 }
 
-impl From<FieldFault> for Fault {
-    ghost from_gives = { λ f e. e ≡ of_field f };
+impl From<NewStoreRefused> for Fault {
+    ghost from_gives = { λ _ e. e ≡ Memory };
 
-    fn from(f: FieldFault) -> Fault {
-        match f {
-            FieldFault::Truncated => Fault::Truncated,
-            FieldFault::TooLong => Fault::TooLong,
-        }
+    fn from(_e: NewStoreRefused) -> Fault {
+        Fault::Memory
     }
 }
 
@@ -175,6 +199,71 @@ impl From<DirectoryFault> for Fault {
             DirectoryFault::DuplicateKey => Fault::DuplicateKey,
             DirectoryFault::TooManyNodes => Fault::TooManyNodes,
             DirectoryFault::Memory => Fault::Memory,
+        }
+    }
+}
+
+impl From<ImportFault> for Fault {
+    ghost from_gives = { λ f e. e ≡ of_import f };
+
+    fn from(f: ImportFault) -> Fault {
+        match f.cause {
+            Cause::Truncated => Fault::Truncated,
+            Cause::BadTag => Fault::BadTag,
+            Cause::TooLong => Fault::TooLong,
+            Cause::Trailing => Fault::Trailing,
+            Cause::UnknownNode => Fault::UnknownNode,
+            Cause::SelfMessage => Fault::SelfMessage,
+            Cause::EmptySegment => Fault::EmptySegment,
+            Cause::BadStart => Fault::BadStart,
+            Cause::BadRange => Fault::BadRange,
+            Cause::BadSignature => Fault::BadSignature,
+            Cause::BadMagic => Fault::BadMagic,
+            Cause::NotAscending => Fault::NotAscending,
+            Cause::Memory => Fault::Memory,
+        }
+    }
+}
+
+impl From<AskFault> for Fault {
+    ghost from_gives = { λ f e. e ≡ of_asking f };
+
+    fn from(f: AskFault) -> Fault {
+        match f {
+            AskFault::UnknownNode => Fault::UnknownNode,
+            AskFault::Memory => Fault::Memory,
+        }
+    }
+}
+
+impl From<DecodeFault> for Fault {
+    ghost from_gives = { λ f e. e ≡ of_reading f };
+
+    fn from(f: DecodeFault) -> Fault {
+        match f {
+            DecodeFault::Truncated => Fault::Truncated,
+            DecodeFault::BadTag => Fault::BadTag,
+            DecodeFault::TooLong => Fault::TooLong,
+            DecodeFault::Trailing => Fault::Trailing,
+            DecodeFault::Memory => Fault::Memory,
+        }
+    }
+}
+
+impl From<ProofFault> for Fault {
+    ghost from_gives = { λ f e. e ≡ of_proof f };
+
+    fn from(f: ProofFault) -> Fault {
+        match f {
+            ProofFault::UnknownNode => Fault::UnknownNode,
+            ProofFault::SelfMessage => Fault::SelfMessage,
+            ProofFault::EmptySegment => Fault::EmptySegment,
+            ProofFault::BadStart => Fault::BadStart,
+            ProofFault::BadRange => Fault::BadRange,
+            ProofFault::BadSignature => Fault::BadSignature,
+            ProofFault::NoContradiction => Fault::NoContradiction,
+            ProofFault::Conforms => Fault::Conforms,
+            ProofFault::Memory => Fault::Memory,
         }
     }
 }

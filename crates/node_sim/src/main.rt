@@ -8,22 +8,26 @@
 ghost use Rattle.std.specs.Prelude.{◌≡◌, OnErr, OnOk};
 ghost use Rattle.std.specs.Process.{exit_status};
 
+pub mod check;
 pub mod device;
+pub mod engine;
+pub mod evidence;
 pub mod fault;
-pub mod indication;
 pub mod input;
 pub mod laws;
 pub mod lines;
+pub mod merge;
 #[cfg(test)]
 mod node_tests;
+pub mod prove;
 pub mod report;
-pub mod statement;
 pub mod status;
-pub mod store;
 mod words;
 
 use device::{CountedReader, CountedWriter};
 use fault::Fault;
+use ref_programs::{Relay, Tally};
+use replay_verifier::Program;
 use std::io;
 use std::process::ExitCode;
 use words::Asked;
@@ -31,17 +35,18 @@ use words::Asked;
 /// Ends with 0 where the report was written, with 1 after `refused NUMBER NAME`, and with 2 after clap's text.
 fn main(rt: HostRuntime) -> ExitCode {
     match words::read_words(&rt) {
-        Asked::Status => told(&rt, run_status(&rt)),
+        Asked::Status { relay: false } => told(&rt, run_status(&rt, &Tally)),
+        Asked::Status { relay: true } => told(&rt, run_status(&rt, &Relay)),
         Asked::Refused(fault) => told(&rt, Err(fault)),
         Asked::Other => ExitCode::from(2),
     }
 }
 
 /// The command `status`, on standard input and output.
-fn run_status(rt: &HostRuntime) -> Result<(), Fault> {
+fn run_status<P: Program>(rt: &HostRuntime, program: &P) -> Result<(), Fault> {
     let mut reader = CountedReader::new(rt.stdin());
     let mut writer = CountedWriter::new(io::writer(rt));
-    status::run(rt.alloc(), &mut reader, &mut writer)
+    status::run(rt.alloc(), program, &mut reader, &mut writer)
 }
 
 /// Tells a refusal on standard error. Where that cannot be written, the exit status alone tells it.

@@ -16,7 +16,8 @@ use std::io;
 
 /// What the words ask for.
 pub enum Asked {
-    Status,
+    /// The report, of nodes that run Relay, or else Tally.
+    Status { relay: bool },
     /// Memory ran out while the words were read.
     Refused(Fault),
     /// A fault of the words, or a request for help: clap's text is on standard error.
@@ -39,7 +40,7 @@ pub fn read_words(rt: &HostRuntime) -> Asked
         }
     };
     match parsed(alloc, words.as_slice()) {
-        Ok(()) => Asked::Status,
+        Ok(relay) => Asked::Status { relay },
         Err(error) if error.kind() == ErrorKind::OutOfMemory => Asked::Refused(Fault::Memory),
         Err(error) => {
             let _ = eprint!(rt; "{error}");
@@ -71,11 +72,14 @@ fn command<'a>(alloc: Global) -> Result<Command<'a>, AllocError>
         .subcommand(status)
 }
 
-/// The only command is `status`, so words that clap takes ask for it.
-fn parsed(alloc: Global, words: &[String]) -> Result<(), Error>
+/// The only command is `status`, so words that clap takes ask for it; and whether they have the flag `--relay`.
+fn parsed(alloc: Global, words: &[String]) -> Result<bool, Error>
     ensures faults { FailsBy (word_faults (map string_bytes words.now)) result }
     ensures status { IsStatusLine (map string_bytes words.now) → IfErr result (λ e. kind_of e ≡ ErrorKind.OutOfMemory) }
 {
-    command(alloc)?.try_get_matches_from(words)?;
-    Ok(())
+    let matches = command(alloc)?.try_get_matches_from(words)?;
+    match matches.subcommand() {
+        Some((_, options)) => Ok(options.get_flag("relay")),
+        None => Ok(false),
+    }
 }

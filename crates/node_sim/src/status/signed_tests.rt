@@ -3,6 +3,7 @@
 use super::*;
 use crate::device::{CountedReader, CountedWriter};
 use lms_sign::{LmsType, OtsType, SecretKey};
+use ref_programs::Tally;
 use std::test::Fail;
 
 /// The key of a node: its identifier and its seed end with the node's number.
@@ -59,7 +60,7 @@ fn report_of(alloc: Global, hashes: [u8; 2]) -> Result<Vec<u8>, Fail> {
     let input = input_of(alloc, keys, &first, &second)?;
     let mut reader = CountedReader::new(input.as_slice());
     let mut writer = CountedWriter::new(Vec::new(alloc));
-    run(alloc, &mut reader, &mut writer)?;
+    run(alloc, &Tally, &mut reader, &mut writer)?;
     Ok(writer.writer)
 }
 

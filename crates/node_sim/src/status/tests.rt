@@ -2,6 +2,7 @@
 
 use super::*;
 use crate::device::{CountedReader, CountedWriter};
+use ref_programs::Tally;
 use std::io;
 use std::test::Fail;
 
@@ -81,7 +82,7 @@ impl io::Write for Narrow {
 fn outcome<R: io::Read + Drop>(alloc: Global, reader: R) -> (Result<(), Fault>, Vec<u8>) {
     let mut reader = CountedReader::new(reader);
     let mut writer = CountedWriter::new(Vec::new(alloc));
-    let answer = run(alloc, &mut reader, &mut writer);
+    let answer = run(alloc, &Tally, &mut reader, &mut writer);
     (answer, writer.writer)
 }
 
@@ -156,7 +157,7 @@ fn each_write_may_fail(rt: HostRuntime) {
     for k in 1..21 {
         let mut reader = CountedReader::new(no_statements());
         let mut writer = CountedWriter::new(Narrow { turn: 0, fails: k });
-        let answer = run(rt.alloc(), &mut reader, &mut writer);
+        let answer = run(rt.alloc(), &Tally, &mut reader, &mut writer);
         assert_eq!(rt; answer, Err(Fault::WriteFailed), "at {k}");
     }
 }

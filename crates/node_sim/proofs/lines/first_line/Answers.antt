@@ -35,15 +35,15 @@ not_empty : (xs : List ℕ) (r : Bool) → r ≡ (length xs == 0) → r ≡ fals
 not_empty [] r is false_is = absurd cc
 not_empty (x ∷ xs) r is false_is = λ e. absurd cc
 
-pub returns-then-is_empty : goal.returns-then-is_empty
-returns-then-is_empty c = none c.args.bytes.now (nil_from_length _ (eqb-true _ _ (sym c.is_empty.ensures ∙ c.if-is_empty.true)))
+pub returns-then-is_empty-clause-line : goal.returns-then-is_empty-clause-line
+returns-then-is_empty-clause-line c = none c.args.bytes.now (nil_from_length _ (eqb-true _ _ (sym c.is_empty.ensures ∙ c.if-is_empty.true)))
 
-pub returns-in-Some : goal.returns-in-Some
-returns-in-Some c =
+pub returns-in-Some-clause-line : goal.returns-in-Some-clause-line
+returns-in-Some-clause-line c =
     let at : position_from is_feed 0 c.args.bytes.now ≡ Some c.in-Some.end = sym (position_from-zero is_feed c.args.bytes.now) ∙ sym c.line_feed.ensures ∙ c.in-Some.is in
     found c.args.bytes.now c.in-Some.end (line_ends c.args.bytes.now 0 c.in-Some.end at)
 
-pub returns-in-None : goal.returns-in-None
-returns-in-None c =
+pub returns-in-None-clause-line : goal.returns-in-None-clause-line
+returns-in-None-clause-line c =
     let at : position_from is_feed 0 c.args.bytes.now ≡ None = sym (position_from-zero is_feed c.args.bytes.now) ∙ sym c.line_feed.ensures ∙ c.in-None.is in
     missing c.args.bytes.now (not_empty c.args.bytes.now c.is_empty.result c.is_empty.ensures c.if-is_empty.false) at

@@ -34,20 +34,24 @@ want_of_memory (k ∷ ks) e (inr h) none = cc
 told : (a : App) (words : List Text) (e : Error) → a ≡ program → HasKind (fault_of a words) e → HasKind (word_faults words) e
 told a words e is h = subst (λ (ks : Kinds). HasKind ks e) (of_program a words is) h
 
-pub returns-in_err-try_get_matches_from-clause-faults : goal.returns-in_err-try_get_matches_from-clause-faults
-returns-in_err-try_get_matches_from-clause-faults c =
+pub returns-in_err-matches-clause-faults : goal.returns-in_err-matches-clause-faults
+returns-in_err-matches-clause-faults c =
     let is = c.in_ok-command.ensures in
-    let kinds = told _ _ c.in_err-try_get_matches_from.field-0.0 is (c.in_err-try_get_matches_from.ensures.kinds (ap is_simple_and_free is ∙ is_simple)) in
+    let kinds = told _ _ c.in_err-matches.field-0.0 is (c.in_err-matches.ensures.kinds (ap is_simple_and_free is ∙ is_simple)) in
     search rules
 
-pub returns-in_err-try_get_matches_from-clause-status : goal.returns-in_err-try_get_matches_from-clause-status
-returns-in_err-try_get_matches_from-clause-status c =
+pub returns-in_err-matches-clause-status : goal.returns-in_err-matches-clause-status
+returns-in_err-matches-clause-status c =
     let is = c.in_ok-command.ensures in
-    let kinds = told _ _ c.in_err-try_get_matches_from.field-0.0 is (c.in_err-try_get_matches_from.ensures.kinds (ap is_simple_and_free is ∙ is_simple)) in
-    λ line. let spent = want_of_memory _ c.in_err-try_get_matches_from.field-0.0 kinds (taken _ line) in search rules
+    let kinds = told _ _ c.in_err-matches.field-0.0 is (c.in_err-matches.ensures.kinds (ap is_simple_and_free is ∙ is_simple)) in
+    λ line. let spent = want_of_memory _ c.in_err-matches.field-0.0 kinds (taken _ line) in search rules
+
+pub returns-in-Some-clause-faults : goal.returns-in-Some-clause-faults
+returns-in-Some-clause-faults c =
+    let is = c.in_ok-command.ensures in
+    sym (of_program _ _ is) ∙ c.in_ok-matches.ensures.kinds (ap is_simple_and_free is ∙ is_simple)
 
 pub returns-clause-faults : goal.returns-clause-faults
 returns-clause-faults c =
     let is = c.in_ok-command.ensures in
-    let kinds = c.in_ok-try_get_matches_from.ensures.kinds (ap is_simple_and_free is ∙ is_simple) in
-    sym (of_program _ _ is) ∙ kinds
+    sym (of_program _ _ is) ∙ c.in_ok-matches.ensures.kinds (ap is_simple_and_free is ∙ is_simple)
