@@ -17,7 +17,7 @@ use Rattle.replay_verifier.specs.ReplayLaws.{ConformingListsRise}
 use Rattle.commitment.specs.Accounts.{IsLogged, Stamp, stamp}
 use Rattle.commitment.specs.Laws.{HonestNodesAnswer, IsOfSigned}
 use Rattle.commitment.specs.Nodes.{Honest}
-use Rattle.commitment.specs.OwnLogs.{CheckpointedPartsConform, HonestNodesSignOneHash, IsPartOf}
+use Rattle.commitment.specs.OwnLogs.{OwnPartsConform, HonestNodesSignOneHash, IsPartOf}
 use Rattle.item_forms.specs.declared.forms.Fields.{Fields}
 use Rattle.item_forms.specs.declared.forms.Fields.TheVariants as form
 use Rattle.item_forms.specs.declared.forms.Segment.{Segment}
@@ -43,7 +43,7 @@ use Rattle.accuracy.proofs.TextRanges.{segment_logged, texts_have_bytes}
 pub record Lower {S : Type 0} (program : Meaning S) : Type 0 where
   pub answer : HonestNodesAnswer S
   pub one_hash : HonestNodesSignOneHash S
-  pub parts : CheckpointedPartsConform program
+  pub parts : OwnPartsConform program
   pub agrees : OneLogAgrees
   pub prefixes : PrefixesConform S
   pub rise : ConformingListsRise S

@@ -4,7 +4,7 @@ ghost use Rattle.accuracy.specs.Accuracy.{HonestNodesAreNotExposed};
 ghost use Rattle.accuracy.specs.PremiseLaws.{CollisionsAreOfTwoTexts, ForgeriesAreUnsigned, TextsAreHashed};
 
 use commitment::laws::{
-    checkpointed_parts_conform, honest_nodes_answer, honest_nodes_sign_one_hash,
+    own_parts_conform, honest_nodes_answer, honest_nodes_sign_one_hash,
 };
 use evidence_item::laws::valid_segments_begin;
 use evidence_set::laws::{held_statements_are_signed, sets_are_as_expected, sets_are_lists};
@@ -19,7 +19,7 @@ pub fn honest_nodes_are_not_exposed<P: Program>()
 {
     honest_nodes_answer::<P>();
     honest_nodes_sign_one_hash::<P>();
-    checkpointed_parts_conform::<P>();
+    own_parts_conform::<P>();
     one_log_agrees();
     prefixes_conform::<P::State>();
     conforming_lists_rise::<P::State>();

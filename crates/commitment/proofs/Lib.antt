@@ -1,6 +1,5 @@
 mod Appending
 mod Awaited
-mod CheckpointedParts
 mod Entries
 mod Grown
 mod HonestNodes
@@ -15,5 +14,4 @@ mod Receipts
 mod SameKeys
 mod SentAll
 mod SentOutputs
-mod Stands
 mod Valid

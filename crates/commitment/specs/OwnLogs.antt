@@ -18,8 +18,8 @@ pub record IsPartOf (log : List Entry) (prev : List ℕ) (part : List Entry) : T
   pub before : prev ≡ chain_end base front
 
 -- A part of an honest node's log that begins with a CHECKPOINT, after another hash than the base hash, conforms by itself.
-abbrev pub CheckpointedPartsConform : {S : Type 0} → Meaning S → Type 0
-CheckpointedPartsConform program =
+abbrev pub OwnPartsConform : {S : Type 0} → Meaning S → Type 0
+OwnPartsConform program =
     (ds : List (ℕ × PublicKey)) (me : ℕ) (log : List Entry) (signed : List Stamp) (prev : List ℕ) (e : Entry) (es : List Entry)
     → me < 2 ^ 32 → All IsLogged log → Honest (setting_of ds me program) log signed → IsPartOf log prev (e ∷ es)
     → e.kind ≡ CHECKPOINT → prev ≢ base → Conforms (setting_of ds me program) prev (e ∷ es)

@@ -1,3 +1,4 @@
+mod CheckpointedParts
 mod Courses
 pub mod Growing
 mod Judging

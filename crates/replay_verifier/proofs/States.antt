@@ -63,7 +63,7 @@ module _ {S : Type 0} (IsState : S → Type 0) (z : Setting S) (sound : IsSound 
   moment_fits : (c : List ℕ) → length c ≡ 8 → IsBytes c → from_be_bytes w64 c < 2 ^ 64
   moment_fits c l y = omega (arith, y 0, y 1, y 2, y 3, y 4, y 5, y 6, y 7)
 
-  state_steps : (s : S) (b : Block) (e : Entry) → IsState s → IsBytes e.content → IsProper z b → act e ≡ head_act z s b → IsState (step_of z s b).state
+  pub state_steps : (s : S) (b : Block) (e : Entry) → IsState s → IsBytes e.content → IsProper z b → act e ≡ head_act z s b → IsState (step_of z s b).state
   state_steps s (Receives c q) e i y p h =
       let g : c ≡ e.content = sym (ap (λ (x : Act). x.content) h) in
       let r = quote_reads c q (subst IsBytes (sym g) y) p.0 in

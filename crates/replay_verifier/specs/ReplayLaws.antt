@@ -1,14 +1,20 @@
 -- What follows of the definitions of conforming and of deviating, and what bites on them. `laws` proves each.
-use Rattle.std.specs.Prelude.{◌≡◌, ◌≢◌, ℕ, List, ◌∷◌, ◌++◌, length, map, Bool, true, false, IsTrue, Some, ◌⊎◌}
+use Rattle.std.specs.Prelude.{◌≡◌, ◌≢◌, ℕ, ◌<◌, ◌^◌, List, ◌∷◌, ◌++◌, length, map, Bool, true, false, IsTrue, Some, ◌⊎◌}
 use Rattle.std.specs.List.{All, AllByRecursion}
 use Rattle.outcome.specs.Bytes.{IsBytes}
+use Rattle.lms_sign.specs.declared.key.PublicKey.{PublicKey}
 use Rattle.log_chain.specs.declared.entry.Entry.{Entry}
 use Rattle.log_chain.specs.declared.kind.TheConstants.{RECV, TIMER, CHECKPOINT}
-use Rattle.log_chain.specs.Chain.{base, Rising}
+use Rattle.log_chain.specs.Chain.{base, chain_end, Rising}
 use Rattle.replay_verifier.specs.declared.verdict.Reason.{Reason}
+use Rattle.replay_verifier.specs.Meaning.{Meaning}
 use Rattle.replay_verifier.specs.Quotes.{Quote, receipt_of, IsGenuine}
-use Rattle.replay_verifier.specs.Conforming.{Setting, act, init_act, send_act, is_short, Conforms}
+use Rattle.replay_verifier.specs.Conforming.{Setting, setting_of, act, init_act, send_act, is_short, Conforms}
 use Rattle.replay_verifier.specs.Deviation.{Place, First, After, Leaves, table, DeviatesAt}
+
+-- The contents of the entries are bytes.
+abbrev pub AreBytes : List Entry → Type 0
+AreBytes log = All (λ (e : Entry). IsBytes e.content) log
 
 -- ---- what conforms
 
@@ -42,6 +48,14 @@ ConformingListsLeaveOnePlace S =
     (z : Setting S) (prev : List ℕ) (log : List Entry) → Conforms z prev log
     → (place : Place S) × Leaves z prev log place × ((other : Place S) → Leaves z prev log other → Alike place other)
 
+-- Of a log of bytes that conforms from the base hash on, a part that begins with a CHECKPOINT, after another hash than that,
+-- conforms by itself.
+abbrev pub CheckpointedPartsConform : {S : Type 0} → Meaning S → Type 0
+CheckpointedPartsConform program =
+    (ds : List (ℕ × PublicKey)) (me : ℕ) (front : List Entry) (e : Entry) (es back : List Entry) → me < 2 ^ 32
+    → AreBytes (front ++ ((e ∷ es) ++ back)) → Conforms (setting_of ds me program) base (front ++ ((e ∷ es) ++ back))
+    → e.kind ≡ CHECKPOINT → chain_end base front ≢ base → Conforms (setting_of ds me program) (chain_end base front) (e ∷ es)
+
 -- ---- what deviates
 
 -- No list conforms and deviates.
@@ -66,7 +80,3 @@ DeviationsHaveALine S =
 -- A list of entries conforms or deviates.
 abbrev pub IsJudged : {S : Type 0} → Setting S → List ℕ → List Entry → Type 0
 IsJudged z prev log = Conforms z prev log ⊎ ((at : ℕ) × (why : Reason) × DeviatesAt z prev log at why)
-
--- The contents of the entries are bytes.
-abbrev pub AreBytes : List Entry → Type 0
-AreBytes log = All (λ (e : Entry). IsBytes e.content) log

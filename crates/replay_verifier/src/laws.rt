@@ -8,10 +8,11 @@ ghost use Rattle.replay_verifier.specs.declared.output.Output.{Output as TheOutp
 ghost use Rattle.replay_verifier.specs.Conforming.{LogsBegin, LogsGrow, PrefixesConform, RestingLogsConform, setting_of};
 ghost use Rattle.replay_verifier.specs.Meaning.{Lawful};
 ghost use Rattle.replay_verifier.specs.Quotes.{ReceiptsHaveOneText, TestsQuotes};
-ghost use Rattle.replay_verifier.specs.ReplayLaws.{AreBytes, ConformingListsAreProper, ConformingListsBegin, ConformingListsLeaveOnePlace, ConformingListsRise, DeviatingListsDoNotConform, DeviationsHaveALine, IsJudged, ListsDeviateOnce};
+ghost use Rattle.replay_verifier.specs.ReplayLaws.{AreBytes, CheckpointedPartsConform, ConformingListsAreProper, ConformingListsBegin, ConformingListsLeaveOnePlace, ConformingListsRise, DeviatingListsDoNotConform, DeviationsHaveALine, IsJudged, ListsDeviateOnce};
 
 use crate::output::Output;
 use crate::program::Program;
+use log_chain::laws::parts_rise;
 
 /// A quote has one text, and that text is read as the quote.
 pub fn receipts_have_one_text()
@@ -67,6 +68,13 @@ pub fn conforming_lists_begin<S>()
 pub fn conforming_lists_are_proper<S>()
     ensures { ConformingListsAreProper S }
 {}
+
+/// Of a log that conforms, a part that begins with a CHECKPOINT conforms by itself, under each program.
+pub fn checkpointed_parts_conform<P: Program>()
+    ensures { CheckpointedPartsConform P.means }
+{
+    parts_rise();
+}
 
 /// A list that conforms leaves one state behind it, and one list of SEND entries that are awaited.
 pub fn conforming_lists_leave_one_place<S>()
