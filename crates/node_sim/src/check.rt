@@ -80,3 +80,6 @@ pub fn run<P: Program, R: Source, W: Sink>(
 {
     engine::run(alloc, &Checking { program }, reader, writer)
 }
+
+#[cfg(test)]
+mod tests;

@@ -1,8 +1,14 @@
 //! `node_sim`: what a set of evidence says of the nodes of a directory.
 //!
-//! `node_sim status` reads two lines of hexadecimal text from standard input, a directory and a store of signed
-//! statements, and writes a line for each node: `ID trusted` or `ID exposed`. Everything that decides what is written is
-//! in the module `status`, whose function `run` carries the theorem; here words are read, and its answer is told.
+//! The program reads lines of hexadecimal text from standard input: a directory, and behind it stores or a proof.
+//!
+//! - `status` writes a line for each node: `ID trusted`, `ID suspected` or `ID exposed`.
+//! - `merge` writes the store of the items of all stores.
+//! - `prove NODE` writes a proof that convicts the node, or `none`.
+//! - `check` writes whom a proof convicts: `exposes ID`.
+//!
+//! Each of the four is an engine, in the module of its name, whose function `run` carries the theorem; `engine` has what they share.
+//! Here words are read, and an answer is told.
 #![tactic(auto)]
 
 ghost use Rattle.std.specs.Prelude.{◌≡◌, OnErr, OnOk};
@@ -10,6 +16,8 @@ ghost use Rattle.std.specs.Process.{exit_status};
 
 pub mod check;
 pub mod device;
+#[cfg(test)]
+mod device_tests;
 pub mod engine;
 pub mod evidence;
 pub mod fault;
@@ -22,6 +30,9 @@ mod node_tests;
 pub mod prove;
 pub mod report;
 pub mod status;
+pub mod task;
+#[cfg(test)]
+mod testing;
 mod words;
 
 use device::{CountedReader, CountedWriter};
@@ -30,23 +41,25 @@ use ref_programs::{Relay, Tally};
 use replay_verifier::Program;
 use std::io;
 use std::process::ExitCode;
+use task::Task;
 use words::Asked;
 
-/// Ends with 0 where the report was written, with 1 after `refused NUMBER NAME`, and with 2 after clap's text.
+/// Ends with 0 where the command was done, with 1 after `refused NUMBER NAME`, and with 2 after clap's text.
 fn main(rt: HostRuntime) -> ExitCode {
     match words::read_words(&rt) {
-        Asked::Status { relay: false } => told(&rt, run_status(&rt, &Tally)),
-        Asked::Status { relay: true } => told(&rt, run_status(&rt, &Relay)),
+        Asked::Run(request) if request.relay => told(&rt, run(&rt, &Relay, request.task)),
+        Asked::Run(request) => told(&rt, run(&rt, &Tally, request.task)),
         Asked::Refused(fault) => told(&rt, Err(fault)),
         Asked::Other => ExitCode::from(2),
     }
 }
 
-/// The command `status`, on standard input and output.
-fn run_status<P: Program>(rt: &HostRuntime, program: &P) -> Result<(), Fault> {
+/// The command, on standard input and output.
+fn run<P: Program>(rt: &HostRuntime, program: &P, task: Task) -> Result<(), Fault> {
+    let alloc = rt.alloc();
     let mut reader = CountedReader::new(rt.stdin());
     let mut writer = CountedWriter::new(io::writer(rt));
-    status::run(rt.alloc(), program, &mut reader, &mut writer)
+    task.run(alloc, program, &mut reader, &mut writer)
 }
 
 /// Tells a refusal on standard error. Where that cannot be written, the exit status alone tells it.

@@ -71,3 +71,6 @@ pub fn run<P: Program, R: Source, W: Sink>(
 {
     engine::run(alloc, &Merging { program }, reader, writer)
 }
+
+#[cfg(test)]
+mod tests;

@@ -74,3 +74,6 @@ pub fn run<P: Program, R: Source, W: Sink>(
 {
     engine::run(alloc, &Proving { program, node }, reader, writer)
 }
+
+#[cfg(test)]
+mod tests;

@@ -1,23 +1,31 @@
 //! The words of the command line, read by `clap`.
 
-ghost use Rattle.std.specs.Prelude.{◌≡◌, IfErr, IfOk, map};
+ghost use Rattle.std.specs.Prelude.{◌≡◌, false, IfErr, IfOk, map};
 ghost use Rattle.std.specs.String.{string_bytes};
-ghost use Rattle.clap.specs.Words.{FailsBy, app_of, kind_of};
-ghost use Rattle.node_sim.specs.CommandLine.{IsStatusLine, program, word_faults};
+ghost use Rattle.clap.specs.Words.{FailsBy, app_of, kind_of, rule_of};
+ghost use Rattle.node_sim.specs.CommandLine.{IsPlainLine, alone, node, program, relay, word_faults};
 ghost use Rattle.node_sim.specs.declared.fault.Fault.{Fault};
 ghost use Rattle.node_sim.specs.declared.fault.Fault.TheVariants.{Memory};
 ghost use Rattle.node_sim.specs.declared.words.Asked.TheVariants.{Refused};
 
 use crate::fault::Fault;
+use crate::task::Task;
+use authenticators::NodeId;
 use clap::error::ErrorKind;
-use clap::{Arg, ArgAction, Command, Error};
+use clap::{Arg, ArgAction, ArgMatches, Command, Error, value_parser};
 use std::alloc::{AllocError, Global};
 use std::io;
 
+/// A command, for nodes that run Relay, or else Tally.
+#[derive(Clone, Copy, Debug)]
+pub struct Request {
+    pub task: Task,
+    pub relay: bool,
+}
+
 /// What the words ask for.
 pub enum Asked {
-    /// The report, of nodes that run Relay, or else Tally.
-    Status { relay: bool },
+    Run(Request),
     /// Memory ran out while the words were read.
     Refused(Fault),
     /// A fault of the words, or a request for help: clap's text is on standard error.
@@ -40,7 +48,8 @@ pub fn read_words(rt: &HostRuntime) -> Asked
         }
     };
     match parsed(alloc, words.as_slice()) {
-        Ok(relay) => Asked::Status { relay },
+        Ok(Some(request)) => Asked::Run(request),
+        Ok(None) => Asked::Other,
         Err(error) if error.kind() == ErrorKind::OutOfMemory => Asked::Refused(Fault::Memory),
         Err(error) => {
             let _ = eprint!(rt; "{error}");
@@ -54,32 +63,88 @@ fn words_of(rt: &HostRuntime) -> io::Result<Vec<String>> {
     Ok(words)
 }
 
+/// The flag of every command.
+fn relay<'a>(alloc: Global) -> Arg<'a>
+    ensures rule { rule_of result ≡ relay }
+    ensures local { result.global ≡ false }
+{
+    Arg::new(alloc, "relay")
+        .long("relay")
+        .action(ArgAction::SetTrue)
+        .help("The nodes run the program Relay, in place of Tally")
+}
+
+/// The number of a node.
+fn node<'a>(alloc: Global) -> Arg<'a>
+    ensures rule { rule_of result ≡ node }
+    ensures local { result.global ≡ false }
+{
+    Arg::new(alloc, "NODE")
+        .required(true)
+        .value_parser(value_parser!(u32))
+        .help("The number of the node, in decimal digits")
+}
+
+/// The program's command, without those beneath it.
+fn alone<'a>(alloc: Global) -> Command<'a>
+    ensures { app_of result ≡ alone }
+{
+    Command::new(alloc, "node_sim")
+        .about("Tells what signed evidence says of nodes. Reads lines of hexadecimal digits from standard input")
+        .subcommand_required(true)
+        .arg_required_else_help(true)
+}
+
 /// The program's command.
 fn command<'a>(alloc: Global) -> Result<Command<'a>, AllocError>
     ensures { IfOk result (λ c. app_of c ≡ program) }
 {
-    let relay = Arg::new(alloc, "relay")
-        .long("relay")
-        .action(ArgAction::SetTrue)
-        .help("The nodes run the program Relay, in place of Tally");
     let status = Command::new(alloc, "status")
-        .about("Reads a directory and a store, and writes what each node is")
-        .arg(relay)?;
-    Command::new(alloc, "node_sim")
-        .about("What evidence says of the nodes of a directory")
-        .subcommand_required(true)
-        .arg_required_else_help(true)
-        .subcommand(status)
+        .about("Writes what each node is: trusted, suspected or exposed. Two lines: a directory, a store")
+        .arg(relay(alloc))?;
+    let merge = Command::new(alloc, "merge")
+        .about("Writes the store of all items of stores. A line for the directory, and one for each store")
+        .arg(relay(alloc))?;
+    let prove = Command::new(alloc, "prove")
+        .about("Writes a proof that the node misbehaved, or none. Two lines: a directory, a store")
+        .arg(node(alloc))?
+        .arg(relay(alloc))?;
+    let check = Command::new(alloc, "check")
+        .about("Writes which node a proof exposes. Two lines: a directory, a proof")
+        .arg(relay(alloc))?;
+    alone(alloc)
+        .subcommand(status)?
+        .subcommand(merge)?
+        .subcommand(prove)?
+        .subcommand(check)
 }
 
-/// The only command is `status`, so words that clap takes ask for it; and whether they have the flag `--relay`.
-fn parsed(alloc: Global, words: &[String]) -> Result<bool, Error>
+/// The command of the name; none where it is unknown or NODE is missing, which clap has refused.
+fn task_of(name: &str, options: &ArgMatches<'_>) -> Option<Task> {
+    match name {
+        "status" => Some(Task::Status),
+        "merge" => Some(Task::Merge),
+        "prove" => match options.get_one::<u32>("NODE") {
+            Some(node) => Some(Task::Prove(NodeId(node))),
+            None => None,
+        },
+        "check" => Some(Task::Check),
+        _ => None,
+    }
+}
+
+/// What the words ask for, where clap takes them.
+fn parsed(alloc: Global, words: &[String]) -> Result<Option<Request>, Error>
     ensures faults { FailsBy (word_faults (map string_bytes words.now)) result }
-    ensures status { IsStatusLine (map string_bytes words.now) → IfErr result (λ e. kind_of e ≡ ErrorKind.OutOfMemory) }
+    ensures plain { IsPlainLine (map string_bytes words.now) → IfErr result (λ e. kind_of e ≡ ErrorKind.OutOfMemory) }
 {
     let matches = command(alloc)?.try_get_matches_from(words)?;
-    match matches.subcommand() {
-        Some((_, options)) => Ok(options.get_flag("relay")),
-        None => Ok(false),
-    }
+    let Some((name, options)) = matches.subcommand() else {
+        return Ok(None);
+    };
+    let Some(task) = task_of(name, options) else {
+        return Ok(None);
+    };
+    let relay = options.get_flag("relay");
+    Ok(Some(Request { task, relay }))
 }

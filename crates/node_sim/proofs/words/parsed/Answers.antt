@@ -3,7 +3,7 @@ use Rattle.clap.proofs.OnLiterals.{clap_on_literals}
 use Rattle.clap.specs.Words.{App, HasKind, Kinds, Text, fault_of, is_simple_and_free, kind_of}
 use Rattle.clap.specs.declared.error.Error.{Error}
 use Rattle.clap.specs.declared.error.ErrorKind.TheVariants.{OutOfMemory}
-use Rattle.node_sim.specs.CommandLine.{IsStatusLine, program, word_faults}
+use Rattle.node_sim.specs.CommandLine.{IsPlainLine, program, word_faults}
 use Rattle.node_sim.proofs.words.parsed.Goals as goal
 
 is_simple : is_simple_and_free program ≡ true
@@ -14,17 +14,37 @@ of_program : (a : App) (words : List Text) → a ≡ program → fault_of a word
 unfolding word_faults
 of_program a words is = ap (λ (a : App). fault_of a words) is
 
-status_taken : (name : Text) → word_faults (name ∷ codes "status" ∷ []) ≡ []
+status_taken : (first : Text) → word_faults (first ∷ codes "status" ∷ []) ≡ []
 unfolding clap_on_literals word_faults
-status_taken name = refl
+status_taken first = refl
 
-relay_taken : (name : Text) → word_faults (name ∷ codes "status" ∷ codes "--relay" ∷ []) ≡ []
+status_relay_taken : (first : Text) → word_faults (first ∷ codes "status" ∷ codes "--relay" ∷ []) ≡ []
 unfolding clap_on_literals word_faults
-relay_taken name = refl
+status_relay_taken first = refl
 
-taken : (words : List Text) → IsStatusLine words → word_faults words ≡ []
-taken words (name, inl is) = ap word_faults is ∙ status_taken name
-taken words (name, inr is) = ap word_faults is ∙ relay_taken name
+merge_taken : (first : Text) → word_faults (first ∷ codes "merge" ∷ []) ≡ []
+unfolding clap_on_literals word_faults
+merge_taken first = refl
+
+merge_relay_taken : (first : Text) → word_faults (first ∷ codes "merge" ∷ codes "--relay" ∷ []) ≡ []
+unfolding clap_on_literals word_faults
+merge_relay_taken first = refl
+
+check_taken : (first : Text) → word_faults (first ∷ codes "check" ∷ []) ≡ []
+unfolding clap_on_literals word_faults
+check_taken first = refl
+
+check_relay_taken : (first : Text) → word_faults (first ∷ codes "check" ∷ codes "--relay" ∷ []) ≡ []
+unfolding clap_on_literals word_faults
+check_relay_taken first = refl
+
+of_line : (words : List Text) → IsPlainLine words → word_faults words ≡ []
+of_line words (first, name, inl n, inl is) = ap word_faults (is ∙ ap (λ (t : Text). first ∷ t ∷ []) n) ∙ status_taken first
+of_line words (first, name, inl n, inr is) = ap word_faults (is ∙ ap (λ (t : Text). first ∷ t ∷ codes "--relay" ∷ []) n) ∙ status_relay_taken first
+of_line words (first, name, inr (inl n), inl is) = ap word_faults (is ∙ ap (λ (t : Text). first ∷ t ∷ []) n) ∙ merge_taken first
+of_line words (first, name, inr (inl n), inr is) = ap word_faults (is ∙ ap (λ (t : Text). first ∷ t ∷ codes "--relay" ∷ []) n) ∙ merge_relay_taken first
+of_line words (first, name, inr (inr n), inl is) = ap word_faults (is ∙ ap (λ (t : Text). first ∷ t ∷ []) n) ∙ check_taken first
+of_line words (first, name, inr (inr n), inr is) = ap word_faults (is ∙ ap (λ (t : Text). first ∷ t ∷ codes "--relay" ∷ []) n) ∙ check_relay_taken first
 
 want_of_memory : (ks : Kinds) (e : Error) → HasKind ks e → ks ≡ [] → kind_of e ≡ OutOfMemory
 want_of_memory ks e (inl is) none = is
@@ -40,14 +60,14 @@ returns-in_err-matches-clause-faults c =
     let kinds = told _ _ c.in_err-matches.field-0.0 is (c.in_err-matches.ensures.kinds (ap is_simple_and_free is ∙ is_simple)) in
     search rules
 
-pub returns-in_err-matches-clause-status : goal.returns-in_err-matches-clause-status
-returns-in_err-matches-clause-status c =
+pub returns-in_err-matches-clause-plain : goal.returns-in_err-matches-clause-plain
+returns-in_err-matches-clause-plain c =
     let is = c.in_ok-command.ensures in
     let kinds = told _ _ c.in_err-matches.field-0.0 is (c.in_err-matches.ensures.kinds (ap is_simple_and_free is ∙ is_simple)) in
-    λ line. let spent = want_of_memory _ c.in_err-matches.field-0.0 kinds (taken _ line) in search rules
+    λ line. let spent = want_of_memory _ c.in_err-matches.field-0.0 kinds (of_line _ line) in search rules
 
-pub returns-in-Some-clause-faults : goal.returns-in-Some-clause-faults
-returns-in-Some-clause-faults c =
+pub returns-in_default-task_of-clause-faults : goal.returns-in_default-task_of-clause-faults
+returns-in_default-task_of-clause-faults c =
     let is = c.in_ok-command.ensures in
     sym (of_program _ _ is) ∙ c.in_ok-matches.ensures.kinds (ap is_simple_and_free is ∙ is_simple)
 
