@@ -6,9 +6,12 @@ ends with the right status is shown here: each run names its input, its words, a
 and that of Rattle's own compiler, where they are there. Wants crates/node_sim/out/node_sim, which `rt ci` and `rt run` leave.
 """
 
+import itertools
 import os
+import shutil
 import subprocess
 import sys
+import tempfile
 import threading
 import time
 
@@ -101,6 +104,39 @@ def closed_pipe():
     return writing
 
 
+def sessions():
+    """The commands of the page of examples, those of one block together, each with the output that the page tells."""
+    with open(f"{TOP}/examples/README.md") as file:
+        blocks = file.read().split("\n\n")
+    for block in blocks:
+        if not block.startswith("    $ "):
+            continue
+        lines = [line[4:] for line in block.split("\n")]
+        commands = [line[2:] for line in lines if line.startswith("$ ")]
+        yield commands, "".join(f"{line}\n" for line in lines if not line.startswith("$ "))
+
+
+def page(build):
+    """The page of examples, command by command, in a copy of their folder."""
+    with tempfile.TemporaryDirectory() as folder:
+        shutil.copytree(f"{TOP}/examples", f"{folder}/examples")
+        os.symlink(build, f"{folder}/node_sim")
+        words = {**os.environ, "PATH": f"{folder}:{os.environ['PATH']}"}
+        for commands, want in sessions():
+            done = subprocess.run(["bash", "-c", "\n".join(commands)], cwd=f"{folder}/examples", env=words, capture_output=True)
+            got = (done.returncode, done.stdout.decode(), done.stderr.decode())
+            yield f"the page of examples: {commands[-1]}", got, lambda got, want=want: got == (0, want, "")
+
+
+def scenes():
+    """Whether each example that the tour makes is what its stored run writes."""
+    with open(f"{TOP}/crates/tour/stdout") as file:
+        for scene in file.read().split("== ")[1:]:
+            name, text = scene.split("\n--\n")[0].split("\n", 1)
+            with open(f"{TOP}/examples/{name}.txt") as example:
+                yield f"the scene {name}", example.read() == f"{text}\n", lambda got: got
+
+
 def cases(build):
     """Each case: its name, what came of it, and whether that is right."""
     with open(f"{TOP}/bench/status_512.txt") as file:
@@ -117,6 +153,19 @@ def cases(build):
         yield name, run(build, words, feed), lambda got: got == (0, want, "")
     example = small.encode()
     yield "the example, byte by byte", run(build, ["status"], in_pieces(example, 1, 400)), lambda got: got == (0, report(small), "")
+    directory, store = small.split("\n")[:2]
+    exposed = [line.split()[0] for line in report(small).split("\n") if line.endswith(" exposed")]
+    for name, lines, want in [
+        ("no store", [directory], "505253544f5245310000000000000000\n"),
+        ("a store with itself", [directory, store, store.upper()], store.lower() + "\n"),
+    ]:
+        yield f"merge: {name}", run(build, ["merge"], at_once("\n".join(lines).encode())), lambda got, want=want: got == (0, want, "")
+    for node in exposed:
+        proved = run(build, ["prove", node], at_once(example))
+        yield f"prove {node}", proved, lambda got: got[0] == 0 and got[1].endswith("\n") and got[1] != "none\n" and got[2] == ""
+        checked = run(build, ["check"], at_once(f"{directory}\n{proved[1]}".encode()))
+        yield f"check of it", checked, lambda got, node=node: got == (0, f"exposes {node}\n", "")
+    yield "prove of an unlisted node", run(build, ["prove", "4294967295"], at_once(example)), lambda got: got == (1, "", "refused 44 UnknownNode\n")
     for name, feed, told in [
         ("an empty input", at_once(b""), "refused 104 LineCount\n"),
         ("a letter that is no digit", at_once(b"0g\n50"), "refused 103 BadHex\n"),
@@ -133,9 +182,9 @@ def cases(build):
         got = run(build, ["status"], at_once(example), stdout=output)
         os.close(output)
         yield name, got, lambda got: got == (1, "", "refused 102 WriteFailed\n")
-    for words in [[], ["nothing"], ["status", "more"], ["status", "--other"], ["--help"], ["help"], ["status", "--help"]]:
+    for words in [[], ["nothing"], ["status", "more"], ["status", "--other"], ["--help"], ["help"], ["status", "--help"], ["prove"], ["prove", "x"], ["prove", "4294967296"], ["merge", "more"], ["check", "--other"]]:
         name = f"the words {' '.join(words) or '(none)'}"
-        yield name, run(build, words, at_once(example)), lambda got: got[0] == 2 and got[1] == "" and "Usage: node_sim" in got[2]
+        yield name, run(build, words, at_once(example)), lambda got: got[0] == 2 and got[1] == "" and ("Usage: node_sim" in got[2] or "try '--help'" in got[2])
 
 
 def main():
@@ -145,12 +194,11 @@ def main():
         return 2
     done = failed = 0
     for build in builds:
-        for name, got, is_right in cases(build):
+        for name, got, is_right in itertools.chain(cases(build), page(build), scenes()):
             done += 1
             if not is_right(got):
                 failed += 1
-                status, output, errors = got
-                print(f"{os.path.basename(build)}: {name}: status {status}, output {output[:200]!r}, error {errors[:300]!r}")
+                print(f"{os.path.basename(build)}: {name}: {str(got)[:500]}")
     print(f"whole program: {done - failed} of {done} runs are right, over {len(builds)} builds")
     return 1 if failed else 0
 

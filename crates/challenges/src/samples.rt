@@ -55,7 +55,7 @@ pub(crate) fn make_nodes(alloc: Global) -> Result<Nodes, Fail> {
 }
 
 /// Node 2 under Tally, whose log begins with the number 1.
-pub(crate) fn new_node(alloc: Global, nodes: &Nodes) -> Result<Node<Tally>, Fail> {
+fn new_node(alloc: Global, nodes: &Nodes) -> Result<Node<Tally>, Fail> {
     let directory = nodes.directory.try_clone()?;
     let key = key_of(alloc, 2)?;
     Ok(

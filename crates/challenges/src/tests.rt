@@ -1,15 +1,21 @@
 //! Challenges to node 2 and its answers, with the hashes of its log as a program in Python over its `hashlib` has them.
 
-use crate::samples::{Nodes, Signer, ZEROS, make_nodes, new_node, node_with_log, spend_key};
+use crate::samples::{Nodes, Signer, ZEROS, make_nodes, node_with_log, spend_key};
 use crate::{Answer, AnswerFault, ChallengeFault, answer, audit_challenge, send_challenge};
 use authenticators::{Authenticator, NodeId};
 use commitment::Node;
 use evidence_item::check_item;
 use item_forms::{Form, Item};
-use log_chain::{ByteString, Hash, base_hash, chain_end};
+use log_chain::{ByteString, Hash, chain_end};
 use ref_programs::Tally;
 use std::alloc::Global;
 use std::test::Fail;
+
+/// The hash before the first entry.
+const BASE: Hash = Hash([
+    0xe3, 0xb0, 0xc4, 0x42, 0x98, 0xfc, 0x1c, 0x14, 0x9a, 0xfb, 0xf4, 0xc8, 0x99, 0x6f, 0xb9, 0x24,
+    0x27, 0xae, 0x41, 0xe4, 0x64, 0x9b, 0x93, 0x4c, 0xa4, 0x95, 0x99, 0x1b, 0x78, 0x52, 0xb8, 0x55,
+]);
 
 /// The hash of entry 2 of the log.
 const SECOND: Hash = Hash([
@@ -78,7 +84,7 @@ fn audit(alloc: Global, two: &mut Signer, first: Option<(u64, Hash)>) -> Result<
 }
 
 /// What the node shows where it is asked from the entry `first`, if one is given, to entry 6. It sends no messages.
-fn shown_by(
+fn shown(
     alloc: Global,
     node: &mut Node<Tally>,
     two: &mut Signer,
@@ -92,86 +98,37 @@ fn shown_by(
     part_of(alloc, node, given.item)
 }
 
-fn shown(alloc: Global, first: Option<(u64, Hash)>) -> Result<Option<Part>, Fail> {
-    let mut nodes = make_nodes(alloc)?;
-    let mut node = node_with_log(alloc, &nodes)?;
-    shown_by(alloc, &mut node, &mut nodes.two, first)
-}
-
-#[test]
-fn an_audit_is_answered_from_the_beginning(rt: HostRuntime) -> Result<(), Fail> {
-    let whole = Part {
-        prev: base_hash(),
-        end: SIXTH,
-        first: 1,
-        last: 6,
-    };
-    assert_eq!(rt; shown(rt.alloc(), None)?, Some(whole));
-    assert_eq!(rt; shown(rt.alloc(), Some((2, SECOND)))?, Some(whole));
-    Ok(())
-}
-
-#[test]
-fn an_audit_is_answered_from_a_checkpoint(rt: HostRuntime) -> Result<(), Fail> {
-    let part = Part {
-        prev: SECOND,
-        end: SIXTH,
-        first: 3,
-        last: 6,
-    };
-    assert_eq!(rt; shown(rt.alloc(), Some((4, FOURTH)))?, Some(part));
-    Ok(())
-}
-
-/// The refusal of an audit from the beginning to entry 6 with this hash, which the signer states.
+/// The refusal of an audit from the beginning to the entry with this hash, which the signer states.
 fn audit_refusal(
     alloc: Global,
     node: &mut Node<Tally>,
     signer: &mut Signer,
+    seq: u64,
     hash: Hash,
 ) -> Result<u8, Fail> {
-    let last = signer.statement(alloc, 6, hash)?;
+    let last = signer.statement(alloc, seq, hash)?;
     refusal(alloc, node, audit_challenge(None, last)?)
 }
 
-/// The refusals of audits up to entry 6: of another node, and with a wrong hash.
-fn audit_refusals(alloc: Global) -> Result<[u8; 2], Fail> {
-    let mut nodes = make_nodes(alloc)?;
-    let mut node = node_with_log(alloc, &nodes)?;
-    let of_another = audit_refusal(alloc, &mut node, &mut nodes.one, SIXTH)?;
-    let of_wrong_hash = audit_refusal(alloc, &mut node, &mut nodes.two, SECOND)?;
-    Ok([of_another, of_wrong_hash])
+/// The refusal of a message to node 2, or to another node.
+fn message_refusal(
+    alloc: Global,
+    node: &mut Node<Tally>,
+    signer: &mut Signer,
+    to: u32,
+) -> Result<u8, Fail> {
+    let message = signer.message(alloc, to, 21, b"X")?;
+    refusal(alloc, node, send_challenge(message)?)
 }
 
-/// The refusal of an audit by a node without the entry.
-fn refusal_without_entry(alloc: Global) -> Result<u8, Fail> {
-    let mut nodes = make_nodes(alloc)?;
-    let mut node = new_node(alloc, &nodes)?;
-    audit_refusal(alloc, &mut node, &mut nodes.two, SIXTH)
-}
-
-/// The refusals of a message to another node, and of a statement, which is no challenge.
-fn other_refusals(alloc: Global) -> Result<[u8; 2], Fail> {
-    let mut nodes = make_nodes(alloc)?;
-    let mut node = new_node(alloc, &nodes)?;
-    let message = nodes.two.message(alloc, 1, 4, b"X")?;
-    let of_another = refusal(alloc, &mut node, send_challenge(message)?)?;
-    let statement = nodes.one.statement(alloc, 6, SIXTH)?;
-    let of_statement = refusal(alloc, &mut node, Item::auth(statement)?)?;
-    Ok([of_another, of_statement])
-}
-
-#[test]
-fn audits_of_others_and_of_other_logs_are_refused(rt: HostRuntime) -> Result<(), Fail> {
-    assert_eq!(rt; audit_refusals(rt.alloc())?, [70, 71]);
-    assert_eq!(rt; refusal_without_entry(rt.alloc())?, 71);
-    Ok(())
-}
-
-#[test]
-fn messages_to_others_and_statements_are_refused(rt: HostRuntime) -> Result<(), Fail> {
-    assert_eq!(rt; other_refusals(rt.alloc())?, [70, 72]);
-    Ok(())
+/// The refusal of a statement, which is no challenge.
+fn statement_refusal(
+    alloc: Global,
+    node: &mut Node<Tally>,
+    signer: &mut Signer,
+) -> Result<u8, Fail> {
+    let statement = signer.statement(alloc, 6, SIXTH)?;
+    refusal(alloc, node, Item::auth(statement)?)
 }
 
 /// The place in the receiver's log that an acknowledged message has: the number of the RECV entry, and the hash before it.
@@ -218,13 +175,120 @@ fn told_twice(alloc: Global, node: &mut Node<Tally>, item: Item) -> Result<Told,
 }
 
 /// What answers a message that adds one.
-fn acknowledged(alloc: Global) -> Result<Told, Fail> {
+fn acknowledged(alloc: Global, node: &mut Node<Tally>, one: &mut Signer) -> Result<Told, Fail> {
+    let message = one.message(alloc, 2, 4, &[b'A', 0, 0, 0, 0, 0, 0, 0, 1])?;
+    told_twice(alloc, node, send_challenge(message)?)
+}
+
+/// A question to node 2, whose log has six entries.
+#[derive(Clone, Copy)]
+enum Question {
+    /// What it shows from this entry on, or from the beginning.
+    Shown(Option<(u64, Hash)>),
+    /// The same with no leaf of its key left.
+    ShownWhenSpent,
+    /// What answers a message.
+    Acknowledged,
+    /// The refusal of an audit of node 1.
+    AuditOfAnother,
+    /// The refusal of an audit of node 2 up to the entry of this number, with this hash.
+    AuditTo(u64, Hash),
+    /// The refusal of a message of node 2 to node 1.
+    MessageToAnother,
+    /// The refusal of a message with no leaf of its key left.
+    MessageWhenSpent,
+    /// The refusal of a statement.
+    Statement,
+}
+
+/// What is told.
+#[derive(Clone, Copy, Debug, PartialEq, Eq)]
+enum Seen {
+    Part(Option<Part>),
+    Told(Told),
+    Refusal(u8),
+}
+
+/// Asks for what is shown.
+fn ask_for_part(
+    alloc: Global,
+    nodes: &mut Nodes,
+    node: &mut Node<Tally>,
+    first: Option<(u64, Hash)>,
+) -> Result<Seen, Fail> {
+    let part = shown(alloc, node, &mut nodes.two, first)?;
+    Ok(Seen::Part(part))
+}
+
+fn ask(
+    alloc: Global,
+    nodes: &mut Nodes,
+    node: &mut Node<Tally>,
+    question: Question,
+) -> Result<Seen, Fail> {
+    let number = match question {
+        Question::Shown(first) => return ask_for_part(alloc, nodes, node, first),
+        Question::ShownWhenSpent => {
+            spend_key(alloc, &mut nodes.one, node)?;
+            return ask_for_part(alloc, nodes, node, None);
+        }
+        Question::Acknowledged => {
+            let told = acknowledged(alloc, node, &mut nodes.one)?;
+            return Ok(Seen::Told(told));
+        }
+        Question::AuditOfAnother => audit_refusal(alloc, node, &mut nodes.one, 6, SIXTH)?,
+        Question::AuditTo(seq, hash) => audit_refusal(alloc, node, &mut nodes.two, seq, hash)?,
+        Question::MessageToAnother => message_refusal(alloc, node, &mut nodes.two, 1)?,
+        Question::MessageWhenSpent => {
+            spend_key(alloc, &mut nodes.one, node)?;
+            message_refusal(alloc, node, &mut nodes.one, 2)?
+        }
+        Question::Statement => statement_refusal(alloc, node, &mut nodes.one)?,
+    };
+    Ok(Seen::Refusal(number))
+}
+
+/// What node 2 tells.
+fn told_of(alloc: Global, question: Question) -> Result<Seen, Fail> {
     let mut nodes = make_nodes(alloc)?;
     let mut node = node_with_log(alloc, &nodes)?;
-    let message = nodes
-        .one
-        .message(alloc, 2, 4, &[b'A', 0, 0, 0, 0, 0, 0, 0, 1])?;
-    told_twice(alloc, &mut node, send_challenge(message)?)
+    ask(alloc, &mut nodes, &mut node, question)
+}
+
+/// The whole log.
+const WHOLE: Part = Part {
+    prev: BASE,
+    end: SIXTH,
+    first: 1,
+    last: 6,
+};
+
+#[test]
+fn an_audit_is_answered_from_the_beginning(rt: HostRuntime) -> Result<(), Fail> {
+    for first in [None, Some((2, SECOND))] {
+        let part = told_of(rt.alloc(), Question::Shown(first))?;
+        assert_eq!(rt; part, Seen::Part(Some(WHOLE)));
+    }
+    Ok(())
+}
+
+#[test]
+fn an_audit_is_answered_from_a_checkpoint(rt: HostRuntime) -> Result<(), Fail> {
+    let part = Part {
+        prev: SECOND,
+        first: 3,
+        ..WHOLE
+    };
+    let told = told_of(rt.alloc(), Question::Shown(Some((4, FOURTH))))?;
+    assert_eq!(rt; told, Seen::Part(Some(part)));
+    Ok(())
+}
+
+#[test]
+fn a_node_without_leaves_is_audited(rt: HostRuntime) -> Result<(), Fail> {
+    let part = told_of(rt.alloc(), Question::ShownWhenSpent)?;
+    assert_eq!(rt; part, Seen::Part(Some(WHOLE)));
+    Ok(())
 }
 
 #[test]
@@ -238,41 +302,24 @@ fn a_message_is_acknowledged_once(rt: HostRuntime) -> Result<(), Fail> {
         entries: 8,
         is_same: true,
     };
-    assert_eq!(rt; acknowledged(rt.alloc())?, expected);
+    let told = told_of(rt.alloc(), Question::Acknowledged)?;
+    assert_eq!(rt; told, Seen::Told(expected));
     Ok(())
 }
 
-/// Node 2 with its log, and no leaf of its key left.
-fn node_without_leaves(alloc: Global, nodes: &mut Nodes) -> Result<Node<Tally>, Fail> {
-    let mut node = node_with_log(alloc, nodes)?;
-    spend_key(alloc, &mut nodes.one, &mut node)?;
-    Ok(node)
-}
-
-fn shown_without_leaves(alloc: Global) -> Result<Option<Part>, Fail> {
-    let mut nodes = make_nodes(alloc)?;
-    let mut node = node_without_leaves(alloc, &mut nodes)?;
-    shown_by(alloc, &mut node, &mut nodes.two, None)
-}
-
-/// The number of the refusal to receive the message of a challenge.
-fn refusal_without_leaves(alloc: Global) -> Result<u8, Fail> {
-    let mut nodes = make_nodes(alloc)?;
-    let mut node = node_without_leaves(alloc, &mut nodes)?;
-    let message = nodes.one.message(alloc, 2, 21, b"X")?;
-    refusal(alloc, &mut node, send_challenge(message)?)
-}
-
 #[test]
-fn a_node_without_leaves_is_audited(rt: HostRuntime) -> Result<(), Fail> {
-    let whole = Part {
-        prev: base_hash(),
-        end: SIXTH,
-        first: 1,
-        last: 6,
-    };
-    assert_eq!(rt; shown_without_leaves(rt.alloc())?, Some(whole));
-    assert_eq!(rt; refusal_without_leaves(rt.alloc())?, 36);
+fn what_is_no_challenge_to_the_node_is_refused(rt: HostRuntime) -> Result<(), Fail> {
+    for (question, number) in [
+        (Question::AuditOfAnother, 70),
+        (Question::AuditTo(6, SECOND), 71),
+        (Question::AuditTo(7, SIXTH), 71),
+        (Question::MessageToAnother, 70),
+        (Question::MessageWhenSpent, 36),
+        (Question::Statement, 72),
+    ] {
+        let told = told_of(rt.alloc(), question)?;
+        assert_eq!(rt; told, Seen::Refusal(number));
+    }
     Ok(())
 }
 
