@@ -6,6 +6,7 @@ pub mod JoinedEnds
 pub mod KeyTexts
 pub mod NodeHashes
 pub mod OrderedChains
+pub mod OpenChains
 pub mod Paths
 pub mod SignedTexts
 pub mod Lengths

@@ -1,2 +1,3 @@
 pub mod LeafChains
 pub mod TreeNodes
+pub mod OpenChains

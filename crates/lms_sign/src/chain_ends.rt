@@ -1,4 +1,4 @@
-//! The one-time public key of a signature (RFC 8554, section 4.6), its chains run four at a time.
+//! The one-time public key of a signature (RFC 8554, section 4.6), its chains run eight at a time.
 
 ghost use Rattle.std.specs.Prelude.{◌≡◌, ℕ, List, [], ◌++◌, ◌-◌, ◌*◌, ◌^◌, ◌<◌, ◌≤◌, length, slice_index, slice_index_or};
 ghost use Rattle.std.specs.List.{flat_map};
@@ -8,8 +8,8 @@ ghost use Rattle.lms_sign.specs.within.LeafChains.{AreEnds};
 ghost use Rattle.lms_sign.specs.Parameters.{chain_count, width};
 ghost use Rattle.lms_sign.specs.Signing.{joined};
 
-use crate::chain_groups::all_ends;
 use crate::chain_order::MAX_CHAINS;
+use crate::chain_runs::all_ends;
 use crate::coefficients::coefficient;
 use crate::text::put;
 use crate::types::OtsType;
@@ -18,7 +18,7 @@ use sha2::{Digest, Sha256};
 const D_PBLC: [u8; 2] = [0x80, 0x80];
 
 /// I and q, with which the text of each chain of a leaf begins.
-fn leaf_text(id: &[u8; 16], q: u32) -> [u8; 20]
+pub(crate) fn leaf_text(id: &[u8; 16], q: u32) -> [u8; 20]
     ensures { result ≡ id.now ++ u32_text q }
 {
     let mut text = [0u8; 20];
