@@ -7,6 +7,7 @@ pub mod KeyTexts
 pub mod NodeHashes
 pub mod OrderedChains
 pub mod OpenChains
+pub mod SeedChains
 pub mod Paths
 pub mod SignedTexts
 pub mod Lengths

@@ -4,7 +4,6 @@ use Rattle.std.proofs.lemmas.Bool.{cases_eq}
 use Rattle.std.proofs.lemmas.List.{get_or-set_same, get_or-set_other}
 use Rattle.sha256_lanes.specs.HashChain.{chain, chain_step}
 use Rattle.lms_sign.specs.declared.open_chain.OpenChain.{OpenChain}
-use Rattle.lms_sign.specs.within.LeafChains.{place_of}
 use Rattle.lms_sign.specs.within.OpenChains.{IsAhead, leads_to}
 
 -- one more step, after n and k
@@ -22,22 +21,23 @@ chain_joined p s n zero v = let none : n + 0 ≡ n = omega arith in rw none refl
 chain_joined p s n (suc k) v = more_step p s n k v (chain p (s + n) k (chain p s n v)) (chain_joined p s n k v)
 
 -- a chain is ahead of itself
-pub same_ahead : (leaf : List ℕ) (i : ℕ) (c : OpenChain) → IsAhead leaf i c c
-same_ahead leaf i c = record { left = omega arith; last = refl; end = refl }
+pub same_ahead : (c : OpenChain) → IsAhead c c
+same_ahead c = record { place = refl; left = omega arith; last = refl; end = refl }
 
 -- a chain that is ahead of one that is ahead
-pub further_ahead : (leaf : List ℕ) (i : ℕ) (a b c : OpenChain) → IsAhead leaf i a b → IsAhead leaf i b c → IsAhead leaf i a c
-further_ahead leaf i a b c ab bc = record { left = omega (arith, ab.left, bc.left); last = bc.last ∙ ab.last; end = bc.end ∙ ab.end }
+pub further_ahead : (a b c : OpenChain) → IsAhead a b → IsAhead b c → IsAhead a c
+further_ahead a b c ab bc = record { place = bc.place ∙ ab.place; left = omega (arith, ab.left, bc.left); last = bc.last ∙ ab.last; end = bc.end ∙ ab.end }
 
 -- a chain some steps on
-pub steps_ahead : (leaf : List ℕ) (i n : ℕ) (c : OpenChain) (v : List ℕ) → n ≤ c.left → v ≡ chain (place_of leaf i) c.step n c.value
-    → IsAhead leaf i c (record { step = c.step + n; left = c.left - n; value = v })
-steps_ahead leaf i n c v le is =
+pub steps_ahead : (n : ℕ) (c : OpenChain) (v : List ℕ) → n ≤ c.left → v ≡ chain c.place c.step n c.value
+    → IsAhead c (record { place = c.place; step = c.step + n; left = c.left - n; value = v })
+steps_ahead n c v le is =
     let all : n + (c.left - n) ≡ c.left = omega arith in
     record {
+      place = refl;
       left = omega arith;
       last = omega arith;
-      end = ap (chain (place_of leaf i) (c.step + n) (c.left - n)) is ∙ chain_joined (place_of leaf i) c.step n (c.left - n) c.value ∙ ap (λ k. chain (place_of leaf i) c.step k c.value) all;
+      end = ap (chain c.place (c.step + n) (c.left - n)) is ∙ chain_joined c.place c.step n (c.left - n) c.value ∙ ap (λ k. chain c.place c.step k c.value) all;
     }
 
 -- what holds of an element after a write
@@ -54,5 +54,5 @@ unfolding chain
 no_step p s n v is = rw is refl
 
 -- what a chain at its end has
-pub end_reached : (leaf : List ℕ) (i : ℕ) (before now : OpenChain) → IsAhead leaf i before now → now.left ≡ 0 → now.value ≡ leads_to leaf i before
-end_reached leaf i before now ahead done = sym (no_step (place_of leaf i) now.step now.left now.value done) ∙ ahead.end
+pub end_reached : (before now : OpenChain) → IsAhead before now → now.left ≡ 0 → now.value ≡ leads_to before
+end_reached before now ahead done = sym (no_step now.place now.step now.left now.value done) ∙ ahead.end

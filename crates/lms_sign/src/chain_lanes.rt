@@ -1,8 +1,7 @@
-//! The chains of a leaf in eight lanes.
+//! Chains in eight lanes.
 
 ghost use Rattle.std.specs.Prelude.{◌≡◌, ℕ, [], ◌+◌, ◌-◌, ◌<◌, ◌≤◌, length, slice_index, slice_index_or, All};
 ghost use Rattle.lms_sign.specs.declared.open_chain.OpenChain.{OpenChain};
-ghost use Rattle.lms_sign.specs.within.LeafChains.{place_of};
 ghost use Rattle.lms_sign.specs.within.OpenChains.{HasRoom, IsAhead};
 
 use crate::open_chain::{NO_CHAIN, OpenChain};
@@ -10,18 +9,6 @@ use sha256_lanes::eight_chains;
 
 /// The number of lanes.
 const LANES: usize = 8;
-
-/// What each text of chain `i` begins with.
-fn place(leaf: &[u8; 20], i: u16) -> [u8; 22]
-    ensures { result ≡ place_of leaf.now i }
-{
-    let [high, low] = i.to_be_bytes();
-    [
-        leaf[0], leaf[1], leaf[2], leaf[3], leaf[4], leaf[5], leaf[6], leaf[7], leaf[8], leaf[9],
-        leaf[10], leaf[11], leaf[12], leaf[13], leaf[14], leaf[15], leaf[16], leaf[17], leaf[18],
-        leaf[19], high, low,
-    ]
-}
 
 /// The chains in the lanes.
 fn in_lanes(chains: &[OpenChain], lanes: &[u16; LANES]) -> [OpenChain; LANES]
@@ -36,23 +23,24 @@ fn in_lanes(chains: &[OpenChain], lanes: &[u16; LANES]) -> [OpenChain; LANES]
 }
 
 /// The place of the chain in each lane.
-fn places(leaf: &[u8; 20], lanes: &[u16; LANES]) -> [[u8; 22]; LANES]
-    ensures { (l : ℕ) → l < 8 → slice_index_or result l [] ≡ place_of leaf.now (slice_index lanes.now l) }
+fn places(runs: &[OpenChain; LANES]) -> [[u8; 22]; LANES]
+    ensures { (l : ℕ) (d : OpenChain) → l < 8 → slice_index_or result l [] ≡ (slice_index_or runs.now l d).place }
 {
     let mut places = [[0u8; 22]; LANES];
     for l in 0..LANES {
-        places[l] = place(leaf, lanes[l]);
+        places[l] = runs[l].place;
     }
     places
 }
 
 /// The number of each lane's next step.
 fn steps(runs: &[OpenChain; LANES]) -> [u8; LANES]
+    requires { (l : ℕ) (d : OpenChain) → l < 8 → (slice_index_or runs.now l d).step < 256 }
     ensures { (l : ℕ) (d : OpenChain) → l < 8 → slice_index result l ≡ (slice_index_or runs.now l d).step }
 {
     let mut steps = [0u8; LANES];
     for l in 0..LANES {
-        steps[l] = runs[l].step;
+        steps[l] = runs[l].step as u8;
     }
     steps
 }
@@ -69,22 +57,19 @@ fn values(runs: &[OpenChain; LANES]) -> [[u8; 32]; LANES]
 }
 
 /// The chains in the lanes, `count` steps on.
-fn moved(
-    leaf: &[u8; 20],
-    lanes: &[u16; LANES],
-    runs: &[OpenChain; LANES],
-    count: u8,
-) -> [OpenChain; LANES]
+fn moved(runs: &[OpenChain; LANES], count: u8) -> [OpenChain; LANES]
+    requires some { 0 < count }
     requires room { (l : ℕ) (d : OpenChain) → l < 8 → HasRoom (slice_index_or runs.now l d) }
     requires count { (l : ℕ) (d : OpenChain) → l < 8 → count ≤ (slice_index_or runs.now l d).left }
-    ensures ahead { (l : ℕ) (d : OpenChain) → l < 8 → IsAhead leaf.now (slice_index lanes.now l) (slice_index_or runs.now l d) (slice_index_or result l d) }
+    ensures ahead { (l : ℕ) (d : OpenChain) → l < 8 → IsAhead (slice_index_or runs.now l d) (slice_index_or result l d) }
     ensures left { (l : ℕ) (d : OpenChain) → l < 8 → (slice_index_or result l d).left ≡ (slice_index_or runs.now l d).left - count }
 {
-    let after = eight_chains(&places(leaf, lanes), steps(runs), count, &values(runs));
+    let after = eight_chains(&places(runs), steps(runs), count, &values(runs));
     let mut moved = *runs;
     for l in 0..LANES {
         moved[l] = OpenChain {
-            step: runs[l].step + count,
+            place: runs[l].place,
+            step: runs[l].step + u16::from(count),
             left: runs[l].left - count,
             value: after[l],
         };
@@ -93,16 +78,17 @@ fn moved(
 }
 
 /// Runs the chains in the lanes `count` steps on. A chain may stand in more than one lane.
-fn run_lanes(leaf: &[u8; 20], chains: &mut [OpenChain], lanes: &[u16; LANES], count: u8)
+fn run_lanes(chains: &mut [OpenChain], lanes: &[u16; LANES], count: u8)
+    requires some { 0 < count }
     requires lanes { (l : ℕ) → l < 8 → slice_index lanes.now l < length chains.old }
     requires room { All HasRoom chains.old }
     requires count { (l : ℕ) (d : OpenChain) → l < 8 → count ≤ (slice_index_or chains.old (slice_index lanes.now l) d).left }
     ensures len { length chains.new ≡ length chains.old }
-    ensures ahead { (i : ℕ) (d : OpenChain) → i < length chains.old → IsAhead leaf.now i (slice_index_or chains.old i d) (slice_index_or chains.new i d) }
+    ensures ahead { (i : ℕ) (d : OpenChain) → i < length chains.old → IsAhead (slice_index_or chains.old i d) (slice_index_or chains.new i d) }
     ensures left { (l : ℕ) (d : OpenChain) → l < 8 → (slice_index_or chains.new (slice_index lanes.now l) d).left ≡ (slice_index_or chains.old (slice_index lanes.now l) d).left - count }
 {
     let runs = in_lanes(chains, lanes);
-    let moved = moved(leaf, lanes, &runs, count);
+    let moved = moved(&runs, count);
     for l in 0..LANES {
         chains[usize::from(lanes[l])] = moved[l];
     }
@@ -124,22 +110,18 @@ fn first_to_end(chains: &[OpenChain], lanes: &[u16; LANES]) -> usize
 }
 
 /// Runs the chains in the lanes until the first is at its end, and tells its lane.
-pub(crate) fn run_to_first_end(
-    leaf: &[u8; 20],
-    chains: &mut [OpenChain],
-    lanes: &[u16; LANES],
-) -> usize
+pub(crate) fn run_to_first_end(chains: &mut [OpenChain], lanes: &[u16; LANES]) -> usize
     requires lanes { (l : ℕ) → l < 8 → slice_index lanes.now l < length chains.old }
     requires room { All HasRoom chains.old }
     ensures lane { result < 8 }
     ensures len { length chains.new ≡ length chains.old }
-    ensures ahead { (i : ℕ) (d : OpenChain) → i < length chains.old → IsAhead leaf.now i (slice_index_or chains.old i d) (slice_index_or chains.new i d) }
+    ensures ahead { (i : ℕ) (d : OpenChain) → i < length chains.old → IsAhead (slice_index_or chains.old i d) (slice_index_or chains.new i d) }
     ensures ended { (d : OpenChain) → (slice_index_or chains.new (slice_index lanes.now result) d).left ≡ 0 }
 {
     let first = first_to_end(chains, lanes);
     let count = chains[usize::from(lanes[first])].left;
     if count > 0 {
-        run_lanes(leaf, chains, lanes, count);
+        run_lanes(chains, lanes, count);
     }
     first
 }

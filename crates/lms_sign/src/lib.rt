@@ -22,6 +22,7 @@ pub mod laws;
 mod making;
 mod open_chain;
 mod secret_key;
+mod seed_chains;
 mod signature_text;
 #[cfg(test)]
 mod tests;

@@ -1,38 +1,38 @@
-//! Chains that are being run.
+//! Chains that are being run (RFC 8554, section 4.3).
 
-ghost use Rattle.std.specs.Prelude.{◌≡◌, ℕ, [], ◌-◌, ◌<◌, length, slice_index, slice_index_or};
+ghost use Rattle.std.specs.Prelude.{◌≡◌, ℕ, [], ◌<◌, length, slice_index_or};
 ghost use Rattle.lms_sign.specs.declared.open_chain.OpenChain.{OpenChain};
-ghost use Rattle.lms_sign.specs.within.OpenChains.{opened};
+ghost use Rattle.lms_sign.specs.OneTimeSignature.{chain_place};
 
-/// A chain that is being run: the number of its next step, the steps that it has left, and its value.
+use crate::text::put;
+
+/// A chain that is being run: what each of its texts begins with, the number of its next step, the steps that it has
+/// left, and its value.
 #[derive(Clone, Copy)]
 pub(crate) struct OpenChain {
-    pub(crate) step: u8,
+    pub(crate) place: [u8; 22],
+    pub(crate) step: u16,
     pub(crate) left: u8,
     pub(crate) value: [u8; 32],
 }
 
 /// No chain, for the places of an array.
 pub(crate) const NO_CHAIN: OpenChain = OpenChain {
+    place: [0; 22],
     step: 0,
     left: 0,
     value: [0; 32],
 };
 
-/// Opens the chains of a leaf: chain `i` is to take the steps from `starts[i]` to before `to` on `values[i]`.
-pub(crate) fn open_chains(starts: &[u8], to: u8, values: &[[u8; 32]], chains: &mut [OpenChain])
-    requires values { length values.now ≡ length starts.now }
-    requires chains { length chains.old ≡ length starts.now }
-    ensures len { length chains.new ≡ length starts.now }
-    ensures each { (i : ℕ) (d : OpenChain) → i < length starts.now → slice_index_or chains.new i d ≡ opened starts.now to values.now i }
+/// What each text of chain `i` of leaf `q` begins with.
+pub(crate) fn chain_place(id: &[u8; 16], q: u32, i: u16) -> [u8; 22]
+    ensures { result ≡ chain_place id.now q i }
 {
-    for i in 0..starts.len() {
-        chains[i] = OpenChain {
-            step: starts[i],
-            left: to.saturating_sub(starts[i]),
-            value: values[i],
-        };
-    }
+    let mut text = [0u8; 22];
+    put(&mut text, 0, id);
+    put(&mut text, 16, &q.to_be_bytes());
+    put(&mut text, 20, &i.to_be_bytes());
+    text
 }
 
 /// Writes the chains' values.

@@ -1,39 +1,25 @@
 //! The text of a signature (RFC 8554, sections 4.5 and 5.4.1).
 
-ghost use Rattle.std.specs.Prelude.{◌≡◌, ℕ, List, ◌+◌, ◌*◌, ◌/◌, ◌^◌, ◌<◌, ◌≤◌, ◌++◌, [], length, take, slice_index_or};
-ghost use Rattle.lms_sign.specs.declared.open_chain.OpenChain.{OpenChain};
-ghost use Rattle.lms_sign.specs.Parameters.{chain_count};
-ghost use Rattle.lms_sign.specs.within.OpenChains.{from_secret};
+ghost use Rattle.std.specs.Prelude.{◌≡◌, ℕ, List, ◌+◌, ◌*◌, ◌/◌, ◌^◌, ◌<◌, ◌≤◌, ◌++◌, [], length, take, slice_index, slice_index_or};
+ghost use Rattle.lms_sign.specs.Numbers.{coef};
+ghost use Rattle.lms_sign.specs.Parameters.{chain_count, width};
 ghost use Rattle.lms_sign.specs.Signing.{chain_values, joined, sibling};
 
-use crate::chain_ends::leaf_text;
-use crate::chain_order::MAX_CHAINS;
-use crate::chain_runs::run_all;
+use crate::chain_order::MOST_CHAINS;
 use crate::coefficients::coefficient;
-use crate::making::secret;
-use crate::open_chain::{NO_CHAIN, OpenChain, write_values};
+use crate::seed_chains::values_from_seed;
 use crate::text::put;
 use crate::types::OtsType;
 
-/// Opens the chains of leaf `q` at their starts: each is to take as many steps as its coefficient tells.
-fn open_secrets(
-    ots: OtsType,
-    id: &[u8; 16],
-    seed: &[u8; 32],
-    q: u32,
-    text: &[u8; 34],
-    chains: &mut [OpenChain],
-)
-    requires { length chains.old ≡ chain_count ots }
-    ensures len { length chains.new ≡ chain_count ots }
-    ensures each { (i : ℕ) (d : OpenChain) → i < chain_count ots → slice_index_or chains.new i d ≡ from_secret ots id.now seed.now q text.now i }
+/// Writes the steps that a signature's chains take from their starts: the coefficients of `text`, the digest and its
+/// checksum.
+fn write_steps(text: &[u8; 34], ots: OtsType, steps: &mut [u8])
+    requires { length steps.old ≡ chain_count ots }
+    ensures len { length steps.new ≡ chain_count ots }
+    ensures each { (i : ℕ) → i < chain_count ots → slice_index steps.new i ≡ coef text.now i (width ots) }
 {
     for i in 0..ots.chain_count() {
-        chains[usize::from(i)] = OpenChain {
-            step: 0,
-            left: coefficient(text, i, ots),
-            value: secret(id, seed, q, i),
-        };
+        steps[usize::from(i)] = coefficient(text, i, ots);
     }
 }
 
@@ -61,13 +47,13 @@ pub(crate) fn put_chain_values(
     requires { place + 32 * chain_count ots ≤ length out.old }
     ensures { take (place + 32 * chain_count ots) out.new ≡ take place out.old ++ chain_values ots id.now seed.now q text.now }
 {
-    let mut chains = [NO_CHAIN; MAX_CHAINS];
-    let chains = &mut chains[..usize::from(ots.chain_count())];
-    open_secrets(ots, id, seed, q, text, chains);
-    run_all(&leaf_text(id, q), chains);
-    let mut values = [[0u8; 32]; MAX_CHAINS];
-    let values = &mut values[..chains.len()];
-    write_values(chains, values);
+    let count = usize::from(ots.chain_count());
+    let mut steps = [0u8; MOST_CHAINS];
+    let steps = &mut steps[..count];
+    write_steps(text, ots, steps);
+    let mut values = [[0u8; 32]; MOST_CHAINS];
+    let values = &mut values[..count];
+    values_from_seed(ots, id, seed, q, 1, steps, values);
     put_hashes(out, place, values);
 }
 

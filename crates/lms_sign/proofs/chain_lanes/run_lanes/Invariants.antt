@@ -6,6 +6,6 @@ use Rattle.lms_sign.proofs.chain_lanes.run_lanes.Given as goal
 abbrev pub invariant-loop-l : goal.invariant-loop-l
 invariant-loop-l l = record {
   len : length l.chains ≡ length l.initial.chains;
-  ahead : (i : ℕ) (d : OpenChain) → i < length l.initial.chains → IsAhead l.leaf i (slice_index_or l.initial.chains i d) (slice_index_or l.chains i d);
+  ahead : (i : ℕ) (d : OpenChain) → i < length l.initial.chains → IsAhead (slice_index_or l.initial.chains i d) (slice_index_or l.chains i d);
   left : (k : ℕ) (d : OpenChain) → k < l.l → (slice_index_or l.chains (slice_index l.lanes k) d).left ≡ (slice_index_or l.initial.chains (slice_index l.lanes k) d).left - l.count;
 }

@@ -7,7 +7,7 @@ abbrev pub invariant-loop-ended : goal.invariant-loop-ended
 invariant-loop-ended l = record {
   chains : length l.chains ≡ length l.initial.chains;
   order : length l.order ≡ length l.initial.order;
-  ahead : (i : ℕ) (d : OpenChain) → i < length l.initial.chains → IsAhead l.leaf i (slice_index_or l.initial.chains i d) (slice_index_or l.chains i d);
+  ahead : (i : ℕ) (d : OpenChain) → i < length l.initial.chains → IsAhead (slice_index_or l.initial.chains i d) (slice_index_or l.chains i d);
   entries : All (λ x. x.1 < length l.initial.chains) l.order;
   kept : (x : ℕ × ℕ) → Contains l.initial.order x → Contains l.order x;
   ends : (k : ℕ) (e : ℕ × ℕ) (d : OpenChain) → length l.order ≤ k + l.ended → k < length l.order → (slice_index_or l.chains (slice_index_or l.order k e).1 d).left ≡ 0;

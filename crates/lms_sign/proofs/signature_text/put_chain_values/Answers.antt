@@ -1,19 +1,16 @@
-use Rattle.std.proofs.Common.{◌≡◌, ◌<◌, List, ℕ, [], length, slice_index_or, arith, refl, ap, ◌∙◌}
-use Rattle.lms_sign.specs.declared.open_chain.OpenChain.{OpenChain}
-use Rattle.lms_sign.specs.within.OpenChains.{leads_to}
+use Rattle.std.proofs.Common.{◌≡◌, ◌+◌, ◌*◌, ◌<◌, List, ℕ, [], length, slice_index, slice_index_or, arith, refl, ap, sym, ◌∙◌}
 use Rattle.lms_sign.specs.Parameters.{width, chain_count}
 use Rattle.lms_sign.specs.Numbers.{coef}
 use Rattle.lms_sign.specs.Signing.{chain_at}
+use Rattle.lms_sign.proofs.SeedChains.{of_first_leaf}
 use Rattle.lms_sign.proofs.signature_text.put_chain_values.Goals as goal
 
 pub returns : goal.returns
 returns c =
-    let none : OpenChain = record { step = 0; left = 0; value = [] } in
+    let count : length c.values_from_seed.new.values ≡ chain_count c.args.ots = omega (arith, c.values_from_seed.ensures.len) in
     let f : ℕ → List ℕ = λ i. chain_at c.args.id.now c.args.seed.now c.args.q i (coef c.args.text.now i (width c.args.ots)) in
-    let count : length c.write_values.new.values ≡ chain_count c.args.ots = omega (arith, c.write_values.ensures.len, c.run_all.ensures.len, c.open_secrets.ensures.len) in
-    let is : (i : ℕ) → i < length c.write_values.new.values → slice_index_or c.write_values.new.values i [] ≡ f i = λ i lt.
-    c.write_values.ensures.each i none (omega (arith, c.write_values.ensures.len))
-    ∙ c.run_all.ensures.values i none (omega (arith, c.write_values.ensures.len, c.run_all.ensures.len))
-    ∙ ap (leads_to c.leaf_text.result i) (c.open_secrets.ensures.each i none (omega (arith, count)))
-    ∙ rw c.leaf_text.ensures refl in
+    let is : (i : ℕ) → i < length c.values_from_seed.new.values → slice_index_or c.values_from_seed.new.values i [] ≡ f i = λ i lt.
+    let low : i < chain_count c.args.ots = omega (arith, count, lt) in
+    of_first_leaf c.args.id.now c.args.seed.now c.args.q i (chain_count c.args.ots) c.write_steps.new.steps c.values_from_seed.new.values (c.values_from_seed.ensures.each 0 i (omega arith) low)
+    ∙ ap (chain_at c.args.id.now c.args.seed.now c.args.q i) (c.write_steps.ensures.each i low) in
     rw count at (c.put_hashes.ensures f is)
