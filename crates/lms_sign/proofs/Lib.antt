@@ -1,4 +1,3 @@
-pub mod ChainSteps
 pub mod Checksums
 pub mod Decisions
 pub mod Joined

@@ -20,10 +20,6 @@ unfolding chain
 chain_joined p s n zero v = let none : n + 0 ≡ n = omega arith in rw none refl
 chain_joined p s n (suc k) v = more_step p s n k v (chain p (s + n) k (chain p s n v)) (chain_joined p s n k v)
 
--- a chain is ahead of itself
-pub same_ahead : (c : OpenChain) → IsAhead c c
-same_ahead c = record { place = refl; left = omega arith; last = refl; end = refl }
-
 -- a chain that is ahead of one that is ahead
 pub further_ahead : (a b c : OpenChain) → IsAhead a b → IsAhead b c → IsAhead a c
 further_ahead a b c ab bc = record { place = bc.place ∙ ab.place; left = omega (arith, ab.left, bc.left); last = bc.last ∙ ab.last; end = bc.end ∙ ab.end }
