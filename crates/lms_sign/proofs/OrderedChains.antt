@@ -1,5 +1,5 @@
 -- The order in which chains are taken.
-use Rattle.std.proofs.Common.{◌≡◌, ℕ, ◌<◌, List, length, slice_index_or, All, Contains, IsPermutation, arith, sym, subst, ◌∙◌}
+use Rattle.std.proofs.Common.{◌≡◌, ℕ, ◌<◌, List, length, slice_index_or, All, Contains, IsPermutation, arith, sym, subst}
 use Rattle.std.proofs.lemmas.List.Sorted.{All-permutation, Contains-permutation}
 
 -- the numbered chains in any order

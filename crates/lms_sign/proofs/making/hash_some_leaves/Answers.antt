@@ -1,4 +1,4 @@
-use Rattle.std.proofs.Common.{◌≡◌, ◌≢◌, ℕ, ◌+◌, ◌-◌, ◌*◌, ◌^◌, ◌<◌, ◌≤◌, [], List, length, slice_index, slice_index_or, arith, inl, inr, ap, sym, length-set, get_or-set_other, get_or-set_same, ◌∙◌}
+use Rattle.std.proofs.Common.{◌≡◌, ◌≢◌, ℕ, ◌+◌, ◌-◌, ◌*◌, ◌^◌, ◌<◌, ◌≤◌, [], arith, inl, inr, ap, length-set, get_or-set_other, get_or-set_same, ◌∙◌}
 use Rattle.std.proofs.lemmas.Bool.{cases_lt}
 use Rattle.lms_sign.specs.MerkleTree.{leaf_hash}
 use Rattle.lms_sign.specs.Parameters.{chain_count, width}

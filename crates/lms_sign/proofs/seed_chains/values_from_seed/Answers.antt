@@ -1,4 +1,4 @@
-use Rattle.std.proofs.Common.{◌≡◌, ℕ, [], ◌+◌, ◌*◌, ◌<◌, length, slice_index, slice_index_or, arith, ap, ◌∙◌}
+use Rattle.std.proofs.Common.{ℕ, [], ◌+◌, ◌*◌, ◌<◌, length, slice_index, slice_index_or, arith, ap, ◌∙◌}
 use Rattle.lms_sign.specs.declared.open_chain.OpenChain.{OpenChain}
 use Rattle.lms_sign.specs.Parameters.{chain_count}
 use Rattle.lms_sign.specs.within.OpenChains.{leads_to}

@@ -1,4 +1,4 @@
-use Rattle.std.proofs.Common.{◌≡◌, ◌+◌, ◌*◌, ◌<◌, List, ℕ, [], length, slice_index, slice_index_or, arith, refl, ap, sym, ◌∙◌}
+use Rattle.std.proofs.Common.{◌≡◌, ◌<◌, List, ℕ, [], length, slice_index_or, arith, ap, ◌∙◌}
 use Rattle.lms_sign.specs.Parameters.{width, chain_count}
 use Rattle.lms_sign.specs.Numbers.{coef}
 use Rattle.lms_sign.specs.Signing.{chain_at}
