@@ -9,16 +9,22 @@ use Rattle.std.proofs.lemmas.List.{length-map}
 use Rattle.std.proofs.lemmas.List.Elements.{All-contains, All-from_recursion, Contains-get_or, recursion_from_All}
 use Rattle.lms_sign.specs.declared.key.PublicKey.{PublicKey}
 use Rattle.outcome.specs.Bytes.{IsBytes}
-use Rattle.item_forms.specs.Pieces.{Piece, by_bytes}
+use Rattle.outcome.proofs.Steps.{Ok-inj}
+use Rattle.item_forms.specs.declared.forms.Fields.{Fields}
+use Rattle.item_forms.specs.Pieces.{Piece, by_bytes, same_piece}
 use Rattle.item_forms.specs.Spelling.{spelling}
 use Rattle.item_forms.specs.SpellingLaws.{ItemsAreOrdered, SpellingsAreShort}
+use Rattle.evidence_item.specs.Checking.{Checked}
 use Rattle.evidence_item.specs.Validity.{fault_of, ValidItemsHaveNoFault}
-use Rattle.containers.specs.CheckedItems.{checked_of, is_before}
+use Rattle.containers.specs.declared.fault.Cause.TheVariants as cause
+use Rattle.containers.specs.declared.fault.ImportFault.{ImportFault}
+use Rattle.containers.specs.CheckedItems.{checked_of, fields_of as checked_fields, is_before}
 use Rattle.containers.specs.Container.{container_text, import_of}
 use Rattle.containers.specs.ItemLaws.{AreInOrder, ItemsHaveOneContainer}
+use Rattle.containers.specs.Refusals.{Refuses}
 use Rattle.evidence_set.specs.Exports.{AreValid, fields_of}
 use Rattle.evidence_set.specs.ItemSets.{Has, Items, SetsAreLists, SetsAsExpected, count, insert_all, listed, none}
-use Rattle.transfer.specs.Packs.{IsPackText, PacksHaveOneText, pack_magic, pack_text}
+use Rattle.transfer.specs.Packs.{IsPackText, PacksHaveOneText, items_of, pack_magic, pack_text, pieces}
 
 -- the text of an item
 abbrev spell : Piece → List ℕ
@@ -113,3 +119,52 @@ module _ (lists : SetsAreLists) (sets : SetsAsExpected) (ordered : ItemsAreOrder
 
   pub pack_texts : PacksHaveOneText
   pack_texts = record { found = text_found; only = text_read }
+
+-- ---- what was read
+
+-- the fields of checked items are those of their items
+one_list : (checked : List Checked) → checked_fields checked ≡ fields_of (pieces checked)
+one_list [] = refl
+one_list (c ∷ checked) = ap (λ (l : List Fields). c.item.fields ∷ l) (one_list checked)
+
+-- pieces with the same fields are the same
+same_pieces : (xs ys : List Piece) → fields_of xs ≡ fields_of ys → xs ≡ ys
+same_pieces [] [] e = refl
+same_pieces [] (y ∷ ys) e = absurd cc
+same_pieces (x ∷ xs) [] e = absurd cc
+same_pieces (x ∷ xs) (y ∷ ys) e =
+    let first : x.fields ≡ y.fields = cc in
+    let others : fields_of xs ≡ fields_of ys = cc in
+    λ i. same_piece x y first i ∷ same_pieces xs ys others i
+
+module _ (law : PacksHaveOneText) (ds : List (ℕ × PublicKey)) (bytes : List ℕ) where
+  -- What was read is a pack.
+  pub is_pack : (checked : List Checked) → IsBytes bytes → import_of pack_magic (checked_of ds) bytes ≡ Ok (checked_fields checked) → IsPackText ds bytes (pieces checked)
+  is_pack checked fits e = law.found ds bytes (pieces checked) fits (e ∙ ap (λ (x : List Fields). Ok x) (one_list checked))
+
+  -- The text of a pack is read as its items,
+  pub read_so : SetsAreLists → (E : Items) (checked : List Checked) → AreValid ds E → count E < 2 ^ 64 → bytes ≡ pack_text E → import_of pack_magic (checked_of ds) bytes ≡ Ok (checked_fields checked) → items_of checked ≡ E
+  read_so lists E checked valid few is e =
+      let told : import_of pack_magic (checked_of ds) bytes ≡ Ok (fields_of (listed E)) = ap (import_of pack_magic (checked_of ds)) is ∙ law.only ds E valid few in
+      let fields : checked_fields checked ≡ fields_of (listed E) = Ok-inj {E = ImportFault} (checked_fields checked) (fields_of (listed E)) (sym e ∙ told) in
+      ap (insert_all none) (same_pieces (pieces checked) (listed E) (sym (one_list checked) ∙ fields)) ∙ lists.whole E
+
+  -- and refused for want of memory alone.
+  pub refused_so : (E : Items) (f : ImportFault) → AreValid ds E → count E < 2 ^ 64 → bytes ≡ pack_text E → Refuses f (import_of pack_magic (checked_of ds) bytes) → f.cause ≡ cause.Memory
+  refused_so E f valid few is (inl memory) = memory
+  refused_so E f valid few is (inr told) =
+      let read : import_of pack_magic (checked_of ds) bytes ≡ Ok (fields_of (listed E)) = ap (import_of pack_magic (checked_of ds)) is ∙ law.only ds E valid few in
+      absurd cc
+
+-- a pack has as many items as its list
+pub counted : SetsAreLists → (checked : List Checked) → IsStrictlySortedBy by_bytes (pieces checked) → count (items_of checked) ≡ length checked
+counted lists checked up = lists.size (items_of checked) ∙ ap length (lists.same (pieces checked) up) ∙ length-map checked (λ (c : Checked). c.item)
+
+-- the text of a pack's items in their order
+pub spelled : SetsAreLists → (checked : List Checked) → IsStrictlySortedBy by_bytes (pieces checked) → container_text pack_magic (map (λ (c : Checked). spelling c.item.fields) checked) ≡ pack_text (items_of checked)
+spelled lists checked up =
+    ap (container_text pack_magic) (texts checked) ∙ ap (λ (xs : List Piece). container_text pack_magic (map spell xs)) (sym (lists.same (pieces checked) up))
+  where
+    texts : (checked : List Checked) → map (λ (c : Checked). spelling c.item.fields) checked ≡ map spell (pieces checked)
+    texts [] = refl
+    texts (c ∷ checked) = ap (λ (l : List (List ℕ)). spelling c.item.fields ∷ l) (texts checked)

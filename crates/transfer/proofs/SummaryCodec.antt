@@ -14,9 +14,9 @@ use Rattle.std.proofs.lemmas.List.Concat.{flat_map-cons}
 use Rattle.std.proofs.lemmas.List.Elements.{All-from_recursion, recursion_from_All}
 use Rattle.std.proofs.lemmas.Slice.Eq.{bytes_eq-Decides}
 use Rattle.outcome.specs.Bytes.{IsBytes}
-use Rattle.outcome.specs.Outcome.{◌>>=◌, told_as}
+use Rattle.outcome.specs.Outcome.{◌>>=◌, Fails, told_as}
 use Rattle.outcome.proofs.ByteLists.{spelled_in_eight}
-use Rattle.outcome.proofs.Steps.{bind_ok, guard_true, Ok-inj}
+use Rattle.outcome.proofs.Steps.{bind_ok, Fails-then, guard_true, Ok-inj}
 use Rattle.log_chain.specs.Fields.{IsBytesOf, number_at, take_at}
 use Rattle.log_chain.proofs.Codec.{Takes, told}
 use Rattle.log_chain.proofs.FieldKinds.{block_field, front_again, u64_field}
@@ -117,6 +117,20 @@ no_more count i before bytes le =
     let k : count - i ≡ 0 = omega arith in
     rw k refl
 
+-- a step of the reading
+pub next_read : (count i : ℕ) (before lent after : List (List ℕ)) (bytes digest rest : List ℕ) → i < count → lent ≡ before → digest_at (last_of lent) bytes ≡ Ok (digest, rest) → after ≡ before ++ digest ∷ [] → digests_at (count - (i + 1)) after rest ≡ digests_at (count - i) before bytes
+next_read count i before lent after bytes digest rest lt same read pushed =
+    let now : digest_at (last_of before) bytes ≡ Ok (digest, rest) = ap (λ (l : List (List ℕ)). digest_at (last_of l) bytes) (sym same) ∙ read in
+    ap (λ (l : List (List ℕ)). digests_at (count - (i + 1)) l rest) pushed
+    ∙ sym (one_more count i before bytes lt ∙ ap (λ (r : Result (List ℕ × List ℕ) SummaryFault). r >>= λ digest. digests_at (count - (i + 1)) (before ++ digest.0 ∷ []) digest.1) now)
+
+-- a step that fails
+pub next_fails : (count i : ℕ) (before lent : List (List ℕ)) (bytes : List ℕ) (e : SummaryFault) → i < count → lent ≡ before → Fails fault.Memory e (digest_at (last_of lent) bytes) → Fails fault.Memory e (digests_at (count - i) before bytes)
+next_fails count i before lent bytes e lt same fails =
+    let now : Fails fault.Memory e (digest_at (last_of before) bytes) = subst (λ (l : List (List ℕ)). Fails fault.Memory e (digest_at (last_of l) bytes)) same fails in
+    subst (λ (r : Result (List (List ℕ) × List ℕ) SummaryFault). Fails fault.Memory e r) (sym (one_more count i before bytes lt))
+    (Fails-then fault.Memory e (digest_at (last_of before) bytes) (λ digest. digests_at (count - (i + 1)) (before ++ digest.0 ∷ []) digest.1) now)
+
 -- one digest, and then the others
 then_others : (n : ℕ) (before : List (List ℕ)) (bytes digest rest : List ℕ) (r : Result (List (List ℕ) × List ℕ) SummaryFault) → digest_at (last_of before) bytes ≡ Ok (digest, rest) → digests_at n (before ++ digest ∷ []) rest ≡ r → digests_at (suc n) before bytes ≡ r
 unfolding digests_at
@@ -180,6 +194,11 @@ above_none : (text : List ℕ) → 1 ≤ length text → is_before [] text ≡ t
 above_none [] long = absurd (omega (arith, long))
 above_none (byte ∷ text) long = refl
 
+-- the first digest of all
+pub first_is_above : (before : List (List ℕ)) (digest : List ℕ) → length before < 1 → length digest ≡ 32 → true ≡ is_before (last_of before) digest
+first_is_above [] digest none whole = sym (above_none digest (omega (arith, whole)))
+first_is_above (d ∷ ds) digest none whole = absurd (omega (arith, none))
+
 first_above : (xs : List (List ℕ)) → AllByRecursion (IsBytesOf 32) xs → IsFirstAbove [] xs
 first_above [] fits = tt
 first_above (x ∷ xs) fits = above_none x (omega (arith, fits.0.count))
@@ -204,21 +223,33 @@ count_again text tail body n a b = rw (a, b) refl
 whole : (bytes : List ℕ) (ds : List (List ℕ)) (n : ℕ) (body : List ℕ) → bytes ≡ summary_magic ++ (to_be_bytes w64 n ++ body) → body ≡ joined ds → length ds ≡ n → bytes ≡ summary_text ds
 whole bytes ds n body e g len = e ∙ ap (λ (k : ℕ). summary_magic ++ (to_be_bytes w64 k ++ body)) (sym len) ∙ ap (λ (y : List ℕ). summary_magic ++ (to_be_bytes w64 (length ds) ++ y)) g
 
+-- the header, and digests after which nothing is left
+assembled : (bytes body rest : List ℕ) (n : ℕ) (all ds : List (List ℕ)) → bytes ≡ summary_magic ++ (to_be_bytes w64 n ++ body) → Adds n [] body all rest → rest ≡ [] → all ≡ ds → IsSummary ds × (bytes ≡ summary_text ds)
+assembled bytes body rest n all ds front read nothing is =
+    let same : ds ≡ read.more = sym is ∙ read.all_is in
+    let above : AreAbove [] ds = subst (AreAbove []) (sym same) read.above in
+    let behind : body ≡ joined ds = read.parts ∙ ap (λ (y : List ℕ). joined read.more ++ y) nothing ∙ append-nil (joined read.more) ∙ ap joined (sym same) in (
+      record { ascending = ascends [] ds above; each = All-from_recursion (IsBytesOf 32) ds (each_fits [] ds above) },
+      whole bytes ds n body front behind (ap length same ∙ read.count),
+    )
+
+-- what follows the count
+abbrev rest_of : ℕ × List ℕ → Result (List (List ℕ)) SummaryFault
+rest_of count = digests_at count.0 [] count.1 >>= λ read. refused_unless fault.Trailing (eqb (length read.1) 0) >>= λ _. Ok read.0
+
+rest_found : (bytes : List ℕ) (count : ℕ × List ℕ) (ds : List (List ℕ)) → IsBytes count.1 → bytes ≡ summary_magic ++ (to_be_bytes w64 count.0 ++ count.1) → rest_of count ≡ Ok ds → IsSummary ds × (bytes ≡ summary_text ds)
+rest_found bytes count ds fits front e =
+    let r = bind_ok (digests_at count.0 [] count.1) (λ read. refused_unless fault.Trailing (eqb (length read.1) 0) >>= λ _. Ok read.0) ds e in
+    let m = bind_ok (refused_unless fault.Trailing (eqb (length r.0.1) 0)) (λ _. Ok r.0.0) ds r.2 in
+    let g = guard_true (eqb (length r.0.1) 0) fault.Trailing (Ok tt) m.0 m.1 in
+    assembled bytes count.1 r.0.1 count.0 r.0.0 ds front (digests_found count.0 [] count.1 r.0 fits r.1) (nil_from_length r.0.1 (eqb-true _ _ g.0)) (Ok-inj {E = SummaryFault} r.0.0 ds m.2)
+
 summary_found : (bytes : List ℕ) (ds : List (List ℕ)) → IsBytes bytes → summary_of bytes ≡ Ok ds → IsSummary ds × (bytes ≡ summary_text ds)
 unfolding summary_of
 summary_found bytes ds fits e =
-    let a = bind_ok (count_at bytes) (λ count. digests_at count.0 [] count.1 >>= λ read. refused_unless fault.Trailing (eqb (length read.1) 0) >>= λ _. Ok read.0) ds e in
+    let a = bind_ok (count_at bytes) rest_of ds e in
     let h = count_found bytes a.0 fits a.1 in
-    let r = bind_ok (digests_at a.0.0 [] a.0.1) (λ read. refused_unless fault.Trailing (eqb (length read.1) 0) >>= λ _. Ok read.0) ds a.2 in
-    let read = digests_found a.0.0 [] a.0.1 r.0 h.0 r.1 in
-    let m = bind_ok (refused_unless fault.Trailing (eqb (length r.0.1) 0)) (λ _. Ok r.0.0) ds r.2 in
-    let g = guard_true (eqb (length r.0.1) 0) fault.Trailing (Ok tt) m.0 m.1 in
-    let nothing : r.0.1 ≡ [] = nil_from_length r.0.1 (eqb-true _ _ g.0) in
-    let all : ds ≡ read.more = sym (Ok-inj {E = SummaryFault} r.0.0 ds m.2) ∙ read.all_is in
-    let above : AreAbove [] ds = subst (AreAbove []) (sym all) read.above in (
-      record { ascending = ascends [] ds above; each = All-from_recursion (IsBytesOf 32) ds (each_fits [] ds above) },
-      whole bytes ds a.0.0 a.0.1 h.1 (read.parts ∙ ap (λ (y : List ℕ). joined read.more ++ y) nothing ∙ append-nil (joined read.more) ∙ ap joined (sym all)) (ap length all ∙ read.count),
-    )
+    rest_found bytes a.0 ds h.0 h.1 a.2
 
 steps_again : (text body : List ℕ) (n : ℕ) (ds : List (List ℕ)) → count_at text ≡ Ok (n, body) → digests_at n [] body ≡ Ok (ds, []) → summary_of text ≡ Ok ds
 unfolding summary_of
@@ -232,6 +263,10 @@ summary_again ds few h =
     let digests : digests_at (length ds) [] body ≡ Ok (ds, []) = ap (digests_at (length ds) []) (sym (append-nil body)) ∙ digests_again ds [] [] above in
     let count = count_again (summary_text ds) (to_be_bytes w64 (length ds) ++ body) body (length ds) (front_again 8 summary_magic (to_be_bytes w64 (length ds) ++ body) refl) (u64_field.again (length ds) body few) in
     steps_again (summary_text ds) body (length ds) ds count digests
+
+-- what is spelled so is read
+pub read_so : (bytes : List ℕ) (ds : List (List ℕ)) → length ds < 2 ^ 64 → IsSummary ds → bytes ≡ summary_text ds → summary_of bytes ≡ Ok ds
+read_so bytes ds few fits is = ap summary_of is ∙ summary_again ds few fits
 
 pub summary_texts : SummariesHaveOneText
 summary_texts = record { found = summary_found; only = summary_again }

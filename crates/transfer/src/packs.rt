@@ -8,13 +8,14 @@ ghost use Rattle.evidence_item.specs.Checking.{IsChecked};
 ghost use Rattle.containers.specs.CheckedItems.{checked_of};
 ghost use Rattle.containers.specs.Container.{import_of};
 ghost use Rattle.containers.specs.Refusals.{Refuses};
-ghost use Rattle.containers.specs.declared.fault.Cause.TheVariants.{Memory};
+ghost use Rattle.containers.specs.declared.fault.Cause.TheVariants as cause;
 ghost use Rattle.evidence_set.specs.Exports.{AreValid};
 ghost use Rattle.evidence_set.specs.ItemSets.{Items, count};
 ghost use Rattle.transfer.specs.Packs.{items_of, pack_magic, pack_text, pieces};
 
+use crate::laws::packs_have_one_text;
+use crate::ranges::bytes_fit;
 use authenticators::Directory;
-use containers::laws::items_have_one_container;
 use containers::{ImportFault, read_all, write_all};
 use evidence_item::Checked;
 use evidence_set::laws::sets_are_lists;
@@ -100,12 +101,13 @@ impl<P: Program> Pack<P> {
         // What is read is spelled so.
         ensures found { IfOk result (λ p. bytes.now ≡ pack_text (items_of p)) }
         // What is spelled so is read, unless memory runs out.
-        ensures only { (E : Items) → AreValid directory.now E → count E < 2 ^ 64 → bytes.now ≡ pack_text E → MatchResult result (λ p. items_of p ≡ E) (λ f. f.cause ≡ Memory) }
+        ensures only { (E : Items) → AreValid directory.now E → count E < 2 ^ 64 → bytes.now ≡ pack_text E → MatchResult result (λ p. items_of p ≡ E) (λ f. f.cause ≡ cause.Memory) }
         ensures checked { IfOk result (λ p. All (IsChecked directory.now P.means) p) }
         ensures fault { IfErr result (λ f. Refuses f (import_of pack_magic (checked_of directory.now) bytes.now)) }
     {
+        bytes_fit(bytes);
         sets_are_lists();
-        items_have_one_container();
+        packs_have_one_text();
         let items = read_all(alloc, program, directory, MAGIC, bytes)?;
         Ok(Pack { items })
     }
