@@ -54,7 +54,7 @@ pub digests_more : (xs : List Piece) (n : ℕ) (x : Piece) (old new : List (List
     → (old ≡ map digest_of (take n xs)) × All (IsBytesOf 32) old → (new ≡ map digest_of (take (n + 1) xs)) × All (IsBytesOf 32) new
 digests_more xs n x old new digest here is fits pushed before = (
   pushed ∙ ap (λ (l : List (List ℕ)). l ++ digest ∷ []) before.0 ∙ ap (λ (d : List ℕ). map digest_of (take n xs) ++ d ∷ []) is ∙ sym (map_more xs n x here digest_of),
-  All-same (IsBytesOf 32) _ _ (sym pushed) (All-push (IsBytesOf 32) old digest before.1 fits),
+  All-same (IsBytesOf 32) _ _ pushed (All-push (IsBytesOf 32) old digest before.1 fits),
 )
 
 module _ (q : List ℕ → Bool) (P : Checked → Type 0) (xs : List Piece) (n : ℕ) (digest : List ℕ) (at : IsAt xs n digest) (old : List Checked) where
@@ -71,7 +71,7 @@ module _ (q : List ℕ → Bool) (P : Checked → Type 0) (xs : List Piece) (n :
         ∙ ap (λ (l : List Piece). l ++ c.item ∷ []) before.0
         ∙ ap (λ (p : Piece). filter (λ x. q (digest_of x)) (take n xs) ++ p ∷ []) same
         ∙ sym (filter_one_more xs n at.item at.here (λ x. q (digest_of x)) true (passes true is)),
-        All-same P _ _ (sym pushed) (All-push P old c before.1 holds),
+        All-same P _ _ pushed (All-push P old c before.1 holds),
       )
 
   -- or none is
