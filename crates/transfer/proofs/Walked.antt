@@ -67,10 +67,10 @@ module _ (q : List ℕ → Bool) (P : Checked → Type 0) (xs : List Piece) (n :
   taken_more new c is here holds pushed before =
       let same : c.item ≡ at.item = Some-inj (sym here ∙ at.here) in (
         ap pieces pushed
-        ∙ pieces-push old c
-        ∙ ap (λ (l : List Piece). l ++ c.item ∷ []) before.0
-        ∙ ap (λ (p : Piece). filter (λ x. q (digest_of x)) (take n xs) ++ p ∷ []) same
-        ∙ sym (filter_one_more xs n at.item at.here (λ x. q (digest_of x)) true (passes true is)),
+            ∙ pieces-push old c
+            ∙ ap (λ (l : List Piece). l ++ c.item ∷ []) before.0
+            ∙ ap (λ (p : Piece). filter (λ x. q (digest_of x)) (take n xs) ++ p ∷ []) same
+            ∙ sym (filter_one_more xs n at.item at.here (λ x. q (digest_of x)) true (passes true is)),
         All-same P _ _ pushed (All-push P old c before.1 holds),
       )
 

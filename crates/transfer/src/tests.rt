@@ -1,7 +1,5 @@
 //! A transfer between two stores, a summary of a thousand items, texts of summaries and packs, and refusals.
 
-ghost use Rattle.std.specs.Prelude.{◌≡◌, IfOk, OnOk};
-
 use crate::{Cause, Evidence, ImportFault, Pack, Summary, SummaryFault, apply, pack, summary};
 use authenticators::{Authenticator, Directory, NodeId, statement_text};
 use evidence_item::{Item, check_item};
@@ -121,47 +119,77 @@ fn make_directory(alloc: Global, key: &SecretKey) -> Result<Directory, Fail> {
     Ok(directory)
 }
 
-/// A store under the directory, without items.
-fn new_store(alloc: Global, directory: &Directory) -> Result<PlainStore<Tally>, Fail>
-    ensures { IfOk result (λ s. s.directory ≡ directory.now) }
-{
-    let directory = directory.try_clone()?;
-    let store = PlainStore::new(alloc, directory)?;
-    Ok(store)
+/// A store under a directory of node 1 alone, without items.
+fn new_store(alloc: Global, key: &SecretKey) -> Result<PlainStore<Tally>, Fail> {
+    let directory = make_directory(alloc, key)?;
+    Ok(PlainStore::new(alloc, directory)?)
 }
 
-/// Takes a statement of node 1 on the entry with this number, which the key signs.
+/// A statement of node 1 on the entry with this number, which the key signs.
+fn statement(alloc: Global, key: &mut SecretKey, seq: u64) -> Result<Item, Fail> {
+    let hash = Hash([7; 32]);
+    let sig = key.sign(alloc, &statement_text(seq, hash), [9; 32])?;
+    Ok(Item::auth(Authenticator {
+        node: NodeId(1),
+        seq,
+        hash,
+        sig: ByteString::from_vec(sig),
+    })?)
+}
+
+/// Takes a statement on the entry with this number.
 fn take(
     alloc: Global,
     key: &mut SecretKey,
     seq: u64,
     store: &mut PlainStore<Tally>,
-) -> Result<(), Fail>
-    ensures { OnOk result (store.new.directory ≡ store.old.directory) }
-{
-    let hash = Hash([7; 32]);
-    let sig = key.sign(alloc, &statement_text(seq, hash), [9; 32])?;
-    let item = Item::auth(Authenticator {
-        node: NodeId(1),
-        seq,
-        hash,
-        sig: ByteString::from_vec(sig),
-    })?;
+) -> Result<(), Fail> {
+    let item = statement(alloc, key, seq)?;
     let checked = check_item(alloc, &Tally, store.directory(), item)?;
     store.take(checked)?;
     Ok(())
 }
 
+/// The receiver gets the statements on 1 and 3, the sender those on 1 and 2.
+fn fill(
+    alloc: Global,
+    key: &mut SecretKey,
+    receiver: &mut PlainStore<Tally>,
+    sender: &mut PlainStore<Tally>,
+) -> Result<(), Fail> {
+    take(alloc, key, 1, receiver)?;
+    let text = receiver.export()?;
+    sender.import(&Tally, &text)?;
+    take(alloc, key, 2, sender)?;
+    take(alloc, key, 3, receiver)
+}
+
+/// The text of the store's summary.
+fn text_of_summary(alloc: Global, store: &PlainStore<Tally>) -> Result<Vec<u8>, Fail> {
+    let told = summary(alloc, store)?;
+    Ok(told.to_bytes(alloc)?)
+}
+
+/// The text of the store's pack against the summary of this text.
+fn text_of_pack(alloc: Global, store: &PlainStore<Tally>, told: &[u8]) -> Result<Vec<u8>, Fail> {
+    let named = Summary::from_bytes(alloc, told)?;
+    let given = pack(alloc, store, &named)?;
+    Ok(given.to_bytes(alloc)?)
+}
+
+/// How many items of the pack of this text are new to the store, which takes them.
+fn applied(alloc: Global, store: &mut PlainStore<Tally>, text: &[u8]) -> Result<u64, Fail> {
+    let given: Pack<Tally> = Pack::from_bytes(alloc, &Tally, store.directory(), text)?;
+    Ok(apply(alloc, store, &given)?)
+}
+
 /// What a transfer by texts did.
 #[derive(Clone, Copy)]
 struct Transfer {
-    /// How many digests the summary has, and the SHA-256 value of its text.
-    named: u64,
+    /// The SHA-256 values of the texts of the summary and of the pack.
     summary: Hash,
-    /// How many items the pack has, and the SHA-256 value of its text.
-    packed: u64,
     pack: Hash,
-    /// How many of them were new at first, and when the pack was applied again.
+    /// How many items were new at first, and when the pack was applied again.
     first: u64,
     again: u64,
     /// Whether the receiver included the sender before, and afterwards.
@@ -169,41 +197,39 @@ struct Transfer {
     after: bool,
 }
 
-/// A transfer by texts: the receiver has the statements on 1 and 3, the sender those on 1 and 2.
-fn transfer_by_texts(alloc: Global) -> Result<Transfer, Fail> {
-    let mut key = make_key(alloc, LmsType::H5)?;
-    let directory = make_directory(alloc, &key)?;
-    let mut receiver = new_store(alloc, &directory)?;
-    let mut sender = new_store(alloc, &directory)?;
-    take(alloc, &mut key, 1, &mut receiver)?;
-    sender.merge(&receiver)?;
-    take(alloc, &mut key, 2, &mut sender)?;
-    take(alloc, &mut key, 3, &mut receiver)?;
-    let before = receiver.includes(&sender);
-    let told = summary(alloc, &receiver)?.to_bytes(alloc)?;
-    let named = Summary::from_bytes(alloc, &told)?;
-    let text = pack(alloc, &sender, &named)?.to_bytes(alloc)?;
-    let given: Pack<Tally> = Pack::from_bytes(alloc, &Tally, &directory, &text)?;
-    let first = apply(alloc, &mut receiver, &given)?;
-    let again = apply(alloc, &mut receiver, &given)?;
+/// A transfer by texts.
+fn exchange(
+    alloc: Global,
+    receiver: &mut PlainStore<Tally>,
+    sender: &PlainStore<Tally>,
+) -> Result<Transfer, Fail> {
+    let before = receiver.includes(sender);
+    let told = text_of_summary(alloc, receiver)?;
+    let given = text_of_pack(alloc, sender, &told)?;
+    let first = applied(alloc, receiver, &given)?;
+    let again = applied(alloc, receiver, &given)?;
     Ok(Transfer {
-        named: named.count(),
         summary: Hash(Sha256::digest(&told)),
-        packed: given.count(),
-        pack: Hash(Sha256::digest(&text)),
+        pack: Hash(Sha256::digest(&given)),
         first,
         again,
         before,
-        after: receiver.includes(&sender),
+        after: receiver.includes(sender),
     })
+}
+
+fn transfer_by_texts(alloc: Global) -> Result<Transfer, Fail> {
+    let mut key = make_key(alloc, LmsType::H5)?;
+    let mut receiver = new_store(alloc, &key)?;
+    let mut sender = new_store(alloc, &key)?;
+    fill(alloc, &mut key, &mut receiver, &mut sender)?;
+    exchange(alloc, &mut receiver, &sender)
 }
 
 /// The two values are those of `reference/transfers.py`.
 #[test]
 fn a_transfer(rt: HostRuntime) -> Result<(), Fail> {
     let done = transfer_by_texts(rt.alloc())?;
-    assert_eq!(rt; done.named, 2);
-    assert_eq!(rt; done.packed, 1);
     assert_eq!(rt; done.first, 1);
     assert_eq!(rt; done.again, 0);
     assert_eq!(rt; done.before, false);
@@ -221,36 +247,40 @@ fn a_transfer(rt: HostRuntime) -> Result<(), Fail> {
     Ok(())
 }
 
-/// Takes statements on the entries of so many numbers, from 1.
-fn take_each(
-    alloc: Global,
-    key: &mut SecretKey,
-    count: u64,
-    store: &mut PlainStore<Tally>,
-) -> Result<(), Fail> {
+/// A store with statements on so many entries.
+fn filled(alloc: Global, count: u64) -> Result<PlainStore<Tally>, Fail> {
+    let mut key = make_key(alloc, LmsType::H10)?;
+    let mut store = new_store(alloc, &key)?;
     for seq in 0..count {
-        take(alloc, key, seq, store)?;
+        take(alloc, &mut key, seq, &mut store)?;
     }
-    Ok(())
+    Ok(store)
 }
 
-/// How many digests the summary of a store of so many items has, and how many items its packs have: against no digests, and against
-/// that summary.
-fn counts(alloc: Global, count: u64) -> Result<[u64; 3], Fail> {
-    let mut key = make_key(alloc, LmsType::H10)?;
-    let directory = make_directory(alloc, &key)?;
-    let mut store = new_store(alloc, &directory)?;
-    let nothing = summary(alloc, &store)?;
-    take_each(alloc, &mut key, count, &mut store)?;
-    let told = summary(alloc, &store)?;
-    let all = pack(alloc, &store, &nothing)?;
-    let none = pack(alloc, &store, &told)?;
-    Ok([told.count(), all.count(), none.count()])
+/// How many digests the store's summary has, and how many items its pack against that.
+fn counts(alloc: Global, store: &PlainStore<Tally>) -> Result<(u64, u64), Fail> {
+    let told = summary(alloc, store)?;
+    let given = pack(alloc, store, &told)?;
+    Ok((told.count(), given.count()))
+}
+
+/// How many items the store's pack against no digests has.
+fn count_of_all(alloc: Global, store: &PlainStore<Tally>) -> Result<u64, Fail> {
+    let nothing = Summary::from_bytes(alloc, b"PRSUMM01\0\0\0\0\0\0\0\0")?;
+    let given = pack(alloc, store, &nothing)?;
+    Ok(given.count())
+}
+
+fn counts_of(alloc: Global, count: u64) -> Result<(u64, u64, u64), Fail> {
+    let store = filled(alloc, count)?;
+    let (named, left) = counts(alloc, &store)?;
+    let all = count_of_all(alloc, &store)?;
+    Ok((named, left, all))
 }
 
 #[test]
 fn a_summary_of_a_thousand_items(rt: HostRuntime) -> Result<(), Fail> {
-    assert_eq!(rt; counts(rt.alloc(), 1000)?, [1000, 1000, 0]);
+    assert_eq!(rt; counts_of(rt.alloc(), 1000)?, (1000, 0, 1000));
     Ok(())
 }
 
