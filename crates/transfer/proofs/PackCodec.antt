@@ -1,5 +1,5 @@
 -- The text of a pack is read as its items, and what is read is the text of a pack.
-use Rattle.std.proofs.Common.{◌≡◌, ℕ, get_or, ◌≤◌, ◌<◌, ◌^◌, true, List, [], ◌∷◌, map, length, None, Ok, refl, sym, ap, ◌∙◌, ◌⊎◌, inl, inr, arith}
+use Rattle.std.proofs.Common.{◌≡◌, ℕ, get_or, ◌≤◌, ◌<◌, ◌^◌, true, List, [], ◌∷◌, map, length, None, Ok, refl, sym, ap, ◌∙◌, inl, inr, arith}
 use Rattle.std.specs.List.{AllByRecursion, Contains}
 use Rattle.std.specs.List.Sorted.{IsStrictlySortedBy}
 use Rattle.std.specs.Ordering.{is_lt}
