@@ -90,7 +90,9 @@ fn alone<'a>(alloc: Global) -> Command<'a>
     ensures { app_of result ≡ alone }
 {
     Command::new(alloc, "node_sim")
-        .about("Tells what signed evidence says of nodes. Reads lines of hexadecimal digits from standard input")
+        .about(
+            "Tells what signed evidence says of nodes. Reads lines of hexadecimal digits from standard input",
+        )
         .subcommand_required(true)
         .arg_required_else_help(true)
 }
@@ -100,10 +102,14 @@ fn command<'a>(alloc: Global) -> Result<Command<'a>, AllocError>
     ensures { IfOk result (λ c. app_of c ≡ program) }
 {
     let status = Command::new(alloc, "status")
-        .about("Writes what each node is: trusted, suspected or exposed. Two lines: a directory, a store")
+        .about(
+            "Writes what each node is: trusted, suspected or exposed. Two lines: a directory, a store",
+        )
         .arg(relay(alloc))?;
     let merge = Command::new(alloc, "merge")
-        .about("Writes the store of all items of stores. A line for the directory, and one for each store")
+        .about(
+            "Writes the store of all items of stores. A line for the directory, and one for each store",
+        )
         .arg(relay(alloc))?;
     let prove = Command::new(alloc, "prove")
         .about("Writes a proof that the node misbehaved, or none. Two lines: a directory, a store")

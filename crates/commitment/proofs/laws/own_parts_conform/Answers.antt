@@ -10,5 +10,5 @@ returns g c = λ ds me log signed prev e es small logged honest part kind other.
     let z = setting_of ds me g.P.Program.means in
     subst (λ (h : List ℕ). Conforms z h (e ∷ es)) (sym part.before)
     (c.checkpointed_parts_conform.ensures ds me part.front e es part.back small
-      (subst AreBytes part.parts (λ i d lt. (logged i d lt).content))
-      (subst (Conforms z base) part.parts honest.conforms) kind (subst (λ (h : List ℕ). h ≢ base) part.before other))
+    (subst AreBytes part.parts (λ i d lt. (logged i d lt).content))
+    (subst (Conforms z base) part.parts honest.conforms) kind (subst (λ (h : List ℕ). h ≢ base) part.before other))
