@@ -80,4 +80,5 @@ def main():
         print(f"64 stores as a tree, {processes} at a time: {time.monotonic() - start:.2f} s, {'the same bytes' if same else 'OTHER BYTES'}")
 
 
-main()
+if __name__ == "__main__":
+    main()

@@ -10,85 +10,88 @@ use std::alloc::Global;
 use std::io;
 use std::test::Fail;
 
-/// The commands, and how many bytes each writes for the input that `input_of` gives.
-fn tasks() -> [(Task, u64); 4] {
-    [
-        (Task::Status, 20),
-        (Task::Merge, 33),
-        (Task::Prove(NodeId(1)), 5),
-        (Task::Check, 10),
-    ]
+/// Whether the command tells that the read of this number failed, of one byte each, and writes nothing.
+fn tells_read(alloc: Global, task: Task, number: u64) -> bool {
+    let reader = Scripted::new(no_statements(), 1, number, io::ErrorKind::TimedOut);
+    let (answer, written) = outcome(alloc, task, reader);
+    answer == Err(Fault::ReadFailed) && written.is_empty()
 }
 
-/// An input that the command takes.
-fn input_of(alloc: Global, task: Task) -> Result<Vec<u8>, Fail> {
+/// Whether the command ends well and writes this where the read of this number, of one byte each, is interrupted.
+fn reads_on(alloc: Global, task: Task, number: u64, text: &[u8]) -> bool {
+    let reader = Scripted::new(no_statements(), 1, number, io::ErrorKind::Interrupted);
+    let (answer, written) = outcome(alloc, task, reader);
+    answer == Ok(()) && written.as_slice() == text
+}
+
+/// Whether the command tells that the write of this number failed, of one byte each.
+fn tells_write(alloc: Global, task: Task, number: u64) -> bool {
+    let mut reader = CountedReader::new(no_statements());
+    let mut writer = CountedWriter::new(Narrow {
+        turn: 0,
+        fails: number,
+    });
+    let answer = task.run(alloc, &Tally, &mut reader, &mut writer);
+    answer == Err(Fault::WriteFailed)
+}
+
+/// The same of `check`, for a proof.
+fn check_tells_write(alloc: Global, number: u64) -> Result<bool, Fail> {
     let (_, first, second) = statements();
-    match task {
-        Task::Check => Ok(two_statements(alloc, first, second)?),
-        _ => Ok(no_statements().to_vec(alloc)?),
-    }
-}
-
-/// Whether the command tells each read that fails, of one byte each, and then writes nothing.
-fn tells_reads(alloc: Global, task: Task) -> bool {
-    let reads = no_statements().len() as u64 + 1;
-    for k in 1..reads + 1 {
-        let reader = Scripted::new(no_statements(), 1, k, io::ErrorKind::TimedOut);
-        let (answer, written) = outcome(alloc, task, reader);
-        if answer != Err(Fault::ReadFailed) || !written.is_empty() {
-            return false;
-        }
-    }
-    true
-}
-
-/// Whether the command answers and writes the same where any one read, of one byte each, is interrupted.
-fn reads_on(alloc: Global, task: Task) -> bool {
-    let (told, text) = outcome(alloc, task, no_statements());
-    let reads = no_statements().len() as u64 + 2;
-    for k in 1..reads + 1 {
-        let reader = Scripted::new(no_statements(), 1, k, io::ErrorKind::Interrupted);
-        let (answer, written) = outcome(alloc, task, reader);
-        if answer != told || written != text {
-            return false;
-        }
-    }
-    true
-}
-
-/// How many writes, of one byte each, the command can be told to fail at before it ends well.
-fn failing_writes(alloc: Global, task: Task) -> Result<u64, Fail> {
-    let input = input_of(alloc, task)?;
-    for k in 1..100 {
-        let mut reader = CountedReader::new(input.as_slice());
-        let mut writer = CountedWriter::new(Narrow { turn: 0, fails: k });
-        let answer = task.run(alloc, &Tally, &mut reader, &mut writer);
-        if answer != Err(Fault::WriteFailed) {
-            return Ok(k - 1);
-        }
-    }
-    Ok(100)
+    let input = two_statements(alloc, first, second)?;
+    let mut reader = CountedReader::new(input.as_slice());
+    let mut writer = CountedWriter::new(Narrow {
+        turn: 0,
+        fails: number,
+    });
+    let answer = Task::Check.run(alloc, &Tally, &mut reader, &mut writer);
+    Ok(answer == Err(Fault::WriteFailed))
 }
 
 #[test]
 fn each_read_may_fail(rt: HostRuntime) {
-    for (task, _) in tasks() {
-        assert!(rt; tells_reads(rt.alloc(), task));
+    let reads = no_statements().len() as u64 + 1;
+    for number in 1..reads + 1 {
+        assert!(rt; tells_read(rt.alloc(), Task::Status, number));
+        assert!(rt; tells_read(rt.alloc(), Task::Merge, number));
+        assert!(rt; tells_read(rt.alloc(), Task::Prove(NodeId(1)), number));
+        assert!(rt; tells_read(rt.alloc(), Task::Check, number));
     }
 }
 
 #[test]
 fn each_read_may_be_interrupted(rt: HostRuntime) {
-    for (task, _) in tasks() {
-        assert!(rt; reads_on(rt.alloc(), task));
+    let reads = no_statements().len() as u64 + 2;
+    for number in 1..reads + 1 {
+        assert!(rt; reads_on(rt.alloc(), Task::Status, number, b"1 trusted\n2 trusted\n"));
+        assert!(rt;
+            reads_on(
+                rt.alloc(),
+                Task::Merge,
+                number,
+                b"505253544f5245310000000000000000\n"
+            )
+        );
+        assert!(rt; reads_on(rt.alloc(), Task::Prove(NodeId(1)), number, b"none\n"));
     }
 }
 
 #[test]
-fn each_write_may_fail(rt: HostRuntime) -> Result<(), Fail> {
-    for (task, bytes) in tasks() {
-        let failed = failing_writes(rt.alloc(), task)?;
-        assert_eq!(rt; failed, bytes);
+fn each_write_may_fail(rt: HostRuntime) {
+    for number in 1..34 {
+        assert_eq!(rt; tells_write(rt.alloc(), Task::Status, number), number <= 20);
+        assert!(rt; tells_write(rt.alloc(), Task::Merge, number));
+        assert_eq!(rt;
+            tells_write(rt.alloc(), Task::Prove(NodeId(1)), number),
+            number <= 5
+        );
+    }
+}
+
+#[test]
+fn each_write_of_check_may_fail(rt: HostRuntime) -> Result<(), Fail> {
+    for number in 1..12 {
+        assert_eq!(rt; check_tells_write(rt.alloc(), number)?, number <= 10);
     }
     Ok(())
 }

@@ -2,7 +2,7 @@
 
 use super::*;
 use crate::task::Task;
-use crate::testing::{equivocation, no_statements, outcome, statements, unsigned};
+use crate::testing::{equivocation, halves, no_statements, outcome, statements, unsigned};
 use std::alloc::AllocError;
 use std::test::Fail;
 
@@ -26,7 +26,7 @@ fn union_of_three(alloc: Global, items: [&[u8]; 3]) -> Result<Vec<u8>, Fail> {
 
 /// The union where a second store, behind an empty one, has a statement with no signature.
 fn faulty(alloc: Global) -> Result<(Result<(), Fault>, usize), Fail> {
-    let (_, store) = unsigned().split_at(264);
+    let (_, store) = halves(unsigned(), 264);
     let mut input = no_statements().to_vec(alloc)?;
     input.extend_from_slice(store)?;
     let (answer, written) = outcome(alloc, Task::Merge, input.as_slice());
@@ -36,7 +36,7 @@ fn faulty(alloc: Global) -> Result<(Result<(), Fault>, usize), Fail> {
 #[test]
 fn stores_are_joined_in_each_order(rt: HostRuntime) -> Result<(), Fail> {
     let (_, first, second) = statements();
-    let (_, store) = equivocation().split_at(145);
+    let (_, store) = halves(equivocation(), 145);
     for items in [
         [first, second, first],
         [second, first, second],

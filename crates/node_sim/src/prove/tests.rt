@@ -2,12 +2,12 @@
 
 use super::*;
 use crate::task::Task;
-use crate::testing::{equivocation, no_statements, outcome};
+use crate::testing::{equivocation, halves, no_statements, outcome};
 
 #[test]
 fn two_hashes_of_one_number_are_a_proof(rt: HostRuntime) {
     let (answer, written) = outcome(rt.alloc(), Task::Prove(NodeId(7)), equivocation());
-    let (_, items) = equivocation().split_at(177);
+    let (_, items) = halves(equivocation(), 177);
     assert_eq!(rt; answer, Ok(()));
     assert!(rt;
         written
