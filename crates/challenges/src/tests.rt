@@ -180,79 +180,82 @@ fn acknowledged(alloc: Global, node: &mut Node<Tally>, one: &mut Signer) -> Resu
     told_twice(alloc, node, send_challenge(message)?)
 }
 
-/// A question to node 2, whose log has six entries.
+/// An audit of node 2, whose log has six entries.
 #[derive(Clone, Copy)]
-enum Question {
-    /// What it shows from this entry on, or from the beginning.
-    Shown(Option<(u64, Hash)>),
-    /// The same with no leaf of its key left.
-    ShownWhenSpent,
-    /// What answers a message.
-    Acknowledged,
-    /// The refusal of an audit of node 1.
+enum Asked {
+    /// From this entry on, or from the beginning.
+    From(Option<(u64, Hash)>),
+    /// From the beginning, where its key has no leaf left.
+    WhenSpent,
+}
+
+/// What node 2 shows.
+fn part_shown(alloc: Global, asked: Asked) -> Result<Option<Part>, Fail> {
+    let mut nodes = make_nodes(alloc)?;
+    let mut node = node_with_log(alloc, &nodes)?;
+    shown_to(alloc, &mut nodes, &mut node, asked)
+}
+
+fn shown_to(
+    alloc: Global,
+    nodes: &mut Nodes,
+    node: &mut Node<Tally>,
+    asked: Asked,
+) -> Result<Option<Part>, Fail> {
+    match asked {
+        Asked::From(first) => shown(alloc, node, &mut nodes.two, first),
+        Asked::WhenSpent => {
+            spend_key(alloc, &mut nodes.one, node)?;
+            shown(alloc, node, &mut nodes.two, None)
+        }
+    }
+}
+
+/// What answers a message to node 2.
+fn message_told(alloc: Global) -> Result<Told, Fail> {
+    let mut nodes = make_nodes(alloc)?;
+    let mut node = node_with_log(alloc, &nodes)?;
+    acknowledged(alloc, &mut node, &mut nodes.one)
+}
+
+/// What node 2 does not answer.
+#[derive(Clone, Copy)]
+enum Refused {
+    /// An audit of node 1.
     AuditOfAnother,
-    /// The refusal of an audit of node 2 up to the entry of this number, with this hash.
+    /// An audit up to the entry of this number, with this hash.
     AuditTo(u64, Hash),
-    /// The refusal of a message of node 2 to node 1.
+    /// A message to node 1.
     MessageToAnother,
-    /// The refusal of a message with no leaf of its key left.
+    /// A message, where its key has no leaf left.
     MessageWhenSpent,
-    /// The refusal of a statement.
+    /// A statement.
     Statement,
 }
 
-/// What is told.
-#[derive(Clone, Copy, Debug, PartialEq, Eq)]
-enum Seen {
-    Part(Option<Part>),
-    Told(Told),
-    Refusal(u8),
-}
-
-/// Asks for what is shown.
-fn ask_for_part(
+fn refused_by(
     alloc: Global,
     nodes: &mut Nodes,
     node: &mut Node<Tally>,
-    first: Option<(u64, Hash)>,
-) -> Result<Seen, Fail> {
-    let part = shown(alloc, node, &mut nodes.two, first)?;
-    Ok(Seen::Part(part))
+    what: Refused,
+) -> Result<u8, Fail> {
+    match what {
+        Refused::AuditOfAnother => audit_refusal(alloc, node, &mut nodes.one, 6, SIXTH),
+        Refused::AuditTo(seq, hash) => audit_refusal(alloc, node, &mut nodes.two, seq, hash),
+        Refused::MessageToAnother => message_refusal(alloc, node, &mut nodes.two, 1),
+        Refused::MessageWhenSpent => {
+            spend_key(alloc, &mut nodes.one, node)?;
+            message_refusal(alloc, node, &mut nodes.one, 2)
+        }
+        Refused::Statement => statement_refusal(alloc, node, &mut nodes.one),
+    }
 }
 
-fn ask(
-    alloc: Global,
-    nodes: &mut Nodes,
-    node: &mut Node<Tally>,
-    question: Question,
-) -> Result<Seen, Fail> {
-    let number = match question {
-        Question::Shown(first) => return ask_for_part(alloc, nodes, node, first),
-        Question::ShownWhenSpent => {
-            spend_key(alloc, &mut nodes.one, node)?;
-            return ask_for_part(alloc, nodes, node, None);
-        }
-        Question::Acknowledged => {
-            let told = acknowledged(alloc, node, &mut nodes.one)?;
-            return Ok(Seen::Told(told));
-        }
-        Question::AuditOfAnother => audit_refusal(alloc, node, &mut nodes.one, 6, SIXTH)?,
-        Question::AuditTo(seq, hash) => audit_refusal(alloc, node, &mut nodes.two, seq, hash)?,
-        Question::MessageToAnother => message_refusal(alloc, node, &mut nodes.two, 1)?,
-        Question::MessageWhenSpent => {
-            spend_key(alloc, &mut nodes.one, node)?;
-            message_refusal(alloc, node, &mut nodes.one, 2)?
-        }
-        Question::Statement => statement_refusal(alloc, node, &mut nodes.one)?,
-    };
-    Ok(Seen::Refusal(number))
-}
-
-/// What node 2 tells.
-fn told_of(alloc: Global, question: Question) -> Result<Seen, Fail> {
+/// The number of node 2's refusal.
+fn number_told(alloc: Global, what: Refused) -> Result<u8, Fail> {
     let mut nodes = make_nodes(alloc)?;
     let mut node = node_with_log(alloc, &nodes)?;
-    ask(alloc, &mut nodes, &mut node, question)
+    refused_by(alloc, &mut nodes, &mut node, what)
 }
 
 /// The whole log.
@@ -265,10 +268,8 @@ const WHOLE: Part = Part {
 
 #[test]
 fn an_audit_is_answered_from_the_beginning(rt: HostRuntime) -> Result<(), Fail> {
-    for first in [None, Some((2, SECOND))] {
-        let part = told_of(rt.alloc(), Question::Shown(first))?;
-        assert_eq!(rt; part, Seen::Part(Some(WHOLE)));
-    }
+    assert_eq!(rt; part_shown(rt.alloc(), Asked::From(None))?, Some(WHOLE));
+    assert_eq!(rt; part_shown(rt.alloc(), Asked::From(Some((2, SECOND))))?, Some(WHOLE));
     Ok(())
 }
 
@@ -276,18 +277,17 @@ fn an_audit_is_answered_from_the_beginning(rt: HostRuntime) -> Result<(), Fail> 
 fn an_audit_is_answered_from_a_checkpoint(rt: HostRuntime) -> Result<(), Fail> {
     let part = Part {
         prev: SECOND,
+        end: SIXTH,
         first: 3,
-        ..WHOLE
+        last: 6,
     };
-    let told = told_of(rt.alloc(), Question::Shown(Some((4, FOURTH))))?;
-    assert_eq!(rt; told, Seen::Part(Some(part)));
+    assert_eq!(rt; part_shown(rt.alloc(), Asked::From(Some((4, FOURTH))))?, Some(part));
     Ok(())
 }
 
 #[test]
 fn a_node_without_leaves_is_audited(rt: HostRuntime) -> Result<(), Fail> {
-    let part = told_of(rt.alloc(), Question::ShownWhenSpent)?;
-    assert_eq!(rt; part, Seen::Part(Some(WHOLE)));
+    assert_eq!(rt; part_shown(rt.alloc(), Asked::WhenSpent)?, Some(WHOLE));
     Ok(())
 }
 
@@ -302,23 +302,21 @@ fn a_message_is_acknowledged_once(rt: HostRuntime) -> Result<(), Fail> {
         entries: 8,
         is_same: true,
     };
-    let told = told_of(rt.alloc(), Question::Acknowledged)?;
-    assert_eq!(rt; told, Seen::Told(expected));
+    assert_eq!(rt; message_told(rt.alloc())?, expected);
     Ok(())
 }
 
 #[test]
 fn what_is_no_challenge_to_the_node_is_refused(rt: HostRuntime) -> Result<(), Fail> {
-    for (question, number) in [
-        (Question::AuditOfAnother, 70),
-        (Question::AuditTo(6, SECOND), 71),
-        (Question::AuditTo(7, SIXTH), 71),
-        (Question::MessageToAnother, 70),
-        (Question::MessageWhenSpent, 36),
-        (Question::Statement, 72),
+    for (what, number) in [
+        (Refused::AuditOfAnother, 70),
+        (Refused::AuditTo(6, SECOND), 71),
+        (Refused::AuditTo(7, SIXTH), 71),
+        (Refused::MessageToAnother, 70),
+        (Refused::MessageWhenSpent, 36),
+        (Refused::Statement, 72),
     ] {
-        let told = told_of(rt.alloc(), question)?;
-        assert_eq!(rt; told, Seen::Refusal(number));
+        assert_eq!(rt; number_told(rt.alloc(), what)?, number);
     }
     Ok(())
 }
