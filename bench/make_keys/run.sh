@@ -1,6 +1,5 @@
 #!/usr/bin/env bash
-# Measures the making of keys beside C, in one run, for the default processor. Wants gcc and libssl-dev. ../run.sh measures both
-# builds.
+# Measures the making of keys beside C, in one run. Wants gcc and libssl-dev.
 set -eu
 cd "$(dirname "$0")"
 work=$(mktemp -d)

@@ -1,3 +1,4 @@
+pub mod ChainSteps
 pub mod Checksums
 pub mod Decisions
 pub mod Joined
@@ -5,8 +6,6 @@ pub mod JoinedEnds
 pub mod KeyTexts
 pub mod NodeHashes
 pub mod OrderedChains
-pub mod OpenChains
-pub mod SeedChains
 pub mod Paths
 pub mod SignedTexts
 pub mod Lengths

@@ -13,16 +13,14 @@ pub use types::{LONGEST_SIGNATURE, LmsType, OtsType};
 pub use verification::verify;
 
 mod chain_ends;
-mod chain_lanes;
+mod chain_groups;
 mod chain_order;
-mod chain_runs;
+mod chains;
 mod coefficients;
 mod key;
 pub mod laws;
 mod making;
-mod open_chain;
 mod secret_key;
-mod seed_chains;
 mod signature_text;
 #[cfg(test)]
 mod tests;
