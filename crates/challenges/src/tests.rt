@@ -269,7 +269,10 @@ const WHOLE: Part = Part {
 #[test]
 fn an_audit_is_answered_from_the_beginning(rt: HostRuntime) -> Result<(), Fail> {
     assert_eq!(rt; part_shown(rt.alloc(), Asked::From(None))?, Some(WHOLE));
-    assert_eq!(rt; part_shown(rt.alloc(), Asked::From(Some((2, SECOND))))?, Some(WHOLE));
+    assert_eq!(rt;
+        part_shown(rt.alloc(), Asked::From(Some((2, SECOND))))?,
+        Some(WHOLE)
+    );
     Ok(())
 }
 
@@ -281,7 +284,10 @@ fn an_audit_is_answered_from_a_checkpoint(rt: HostRuntime) -> Result<(), Fail> {
         first: 3,
         last: 6,
     };
-    assert_eq!(rt; part_shown(rt.alloc(), Asked::From(Some((4, FOURTH))))?, Some(part));
+    assert_eq!(rt;
+        part_shown(rt.alloc(), Asked::From(Some((4, FOURTH))))?,
+        Some(part)
+    );
     Ok(())
 }
 
