@@ -1,4 +1,3 @@
-pub mod ChainSteps
 pub mod Checksums
 pub mod Decisions
 pub mod Joined
@@ -6,6 +5,8 @@ pub mod JoinedEnds
 pub mod KeyTexts
 pub mod NodeHashes
 pub mod OrderedChains
+pub mod OpenChains
+pub mod SeedChains
 pub mod Paths
 pub mod SignedTexts
 pub mod Lengths

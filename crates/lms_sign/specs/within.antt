@@ -1,2 +1,2 @@
-pub mod LeafChains
 pub mod TreeNodes
+pub mod OpenChains

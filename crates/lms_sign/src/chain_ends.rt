@@ -1,52 +1,48 @@
-//! The one-time public key of a signature (RFC 8554, section 4.6), its chains run four at a time.
+//! The one-time public key of a leaf, of the ends of its chains, and that of a signature (RFC 8554, sections 4.3 and 4.6).
 
-ghost use Rattle.std.specs.Prelude.{◌≡◌, ℕ, List, [], ◌++◌, ◌-◌, ◌*◌, ◌^◌, ◌<◌, ◌≤◌, length, slice_index, slice_index_or};
+ghost use Rattle.std.specs.Prelude.{◌≡◌, ℕ, List, [], ◌+◌, ◌*◌, ◌<◌, ◌≤◌, length, slice_index_or, All};
 ghost use Rattle.std.specs.List.{flat_map};
-ghost use Rattle.lms_sign.specs.Numbers.{coef, hash_at, u32_text};
+ghost use Rattle.lms_sign.specs.declared.open_chain.OpenChain.{OpenChain};
 ghost use Rattle.lms_sign.specs.OneTimeSignature.{chain_ends, key_hash};
-ghost use Rattle.lms_sign.specs.within.LeafChains.{AreEnds};
-ghost use Rattle.lms_sign.specs.Parameters.{chain_count, width};
+ghost use Rattle.lms_sign.specs.Parameters.{chain_count};
 ghost use Rattle.lms_sign.specs.Signing.{joined};
+ghost use Rattle.lms_sign.specs.within.OpenChains.{HasRoom, from_signature};
 
-use crate::chain_groups::all_ends;
-use crate::chain_order::MAX_CHAINS;
+use crate::chain_order::MOST_CHAINS;
+use crate::chain_runs::run_all;
 use crate::coefficients::coefficient;
-use crate::text::put;
+use crate::open_chain::{NO_CHAIN, OpenChain, chain_place, write_values};
+use crate::text::array_at;
 use crate::types::OtsType;
 use sha2::{Digest, Sha256};
 
 const D_PBLC: [u8; 2] = [0x80, 0x80];
 
-/// I and q, with which the text of each chain of a leaf begins.
-fn leaf_text(id: &[u8; 16], q: u32) -> [u8; 20]
-    ensures { result ≡ id.now ++ u32_text q }
-{
-    let mut text = [0u8; 20];
-    put(&mut text, 0, id);
-    put(&mut text, 16, &q.to_be_bytes());
-    text
-}
-
-/// Writes the place in each chain at which a signature has its value.
-fn write_starts(text: &[u8; 34], ots: OtsType, starts: &mut [u8])
-    requires { length starts.old ≡ chain_count ots }
-    ensures len { length starts.new ≡ chain_count ots }
-    ensures each { (i : ℕ) → i < chain_count ots → slice_index starts.new i ≡ coef text.now i (width ots) }
-    ensures most { (i : ℕ) → i < chain_count ots → slice_index starts.new i ≤ 2 ^ width ots - 1 }
+/// Opens the chains of a signature by leaf `q`, where `text` is the digest and its checksum and `ys` begins with the
+/// chains' values.
+fn open_signature(
+    ots: OtsType,
+    id: &[u8; 16],
+    q: u32,
+    text: &[u8; 34],
+    ys: &[u8],
+    chains: &mut [OpenChain],
+)
+    requires values { 32 * chain_count ots ≤ length ys.now }
+    requires chains { length chains.old ≡ chain_count ots }
+    ensures len { length chains.new ≡ chain_count ots }
+    ensures room { All HasRoom chains.new }
+    ensures each { (i : ℕ) (d : OpenChain) → i < chain_count ots → slice_index_or chains.new i d ≡ from_signature ots id.now q text.now ys.now i }
 {
     for i in 0..ots.chain_count() {
-        starts[usize::from(i)] = coefficient(text, i, ots);
+        let step = coefficient(text, i, ots);
+        chains[usize::from(i)] = OpenChain {
+            place: chain_place(id, q, i),
+            step: u16::from(step),
+            left: ots.last_step() - step,
+            value: array_at(ys, 32 * usize::from(i)),
+        };
     }
-}
-
-/// The first `count` hashes of a text.
-fn hashes_of(text: &[u8], count: usize) -> &[[u8; 32]]
-    requires { 32 * count ≤ length text.now }
-    ensures len { length result.now ≡ count }
-    ensures each { (i : ℕ) → i < count → slice_index_or result.now i [] ≡ hash_at text.now (32 * i) }
-{
-    let (hashes, _) = text.as_chunks::<32>();
-    &hashes[..count]
 }
 
 /// K, of the ends of all chains.
@@ -61,25 +57,38 @@ fn key_hash(id: &[u8; 16], q: u32, ends: &[[u8; 32]]) -> [u8; 32]
     hasher.finalize()
 }
 
-/// K of leaf `q`, each chain of which is run to its end from a place in it and the value there.
-pub(crate) fn key_of_values(
+/// K of leaf `q`, the ends of whose chains stand in `ends` from a place on.
+pub(crate) fn key_of_ends(
     id: &[u8; 16],
     q: u32,
     ots: OtsType,
-    starts: &[u8],
-    values: &[[u8; 32]],
+    ends: &[[u8; 32]],
+    from: usize,
 ) -> [u8; 32]
-    requires starts { length starts.now ≡ chain_count ots }
-    requires values { length values.now ≡ chain_count ots }
-    ensures { (end : ℕ → List ℕ) → AreEnds ots id.now q starts.now values.now end → result ≡ key_hash id.now q (joined end (chain_count ots)) }
+    requires { from + chain_count ots ≤ length ends.now }
+    ensures { (end : ℕ → List ℕ) → ((i : ℕ) → i < chain_count ots → slice_index_or ends.now (from + i) [] ≡ end i) → result ≡ key_hash id.now q (joined end (chain_count ots)) }
 {
-    let mut ends = [[0u8; 32]; MAX_CHAINS];
-    let ends = &mut ends[..starts.len()];
-    all_ends(&leaf_text(id, q), starts, ots.last_step(), values, ends);
-    key_hash(id, q, ends)
+    let count = usize::from(ots.chain_count());
+    key_hash(id, q, &ends[from..from + count])
 }
 
-/// K of a signature's chains, where `text` is the digest and its checksum and `ys` begins with the chains' values.
+/// K of leaf `q`, whose chains stand at their ends.
+// The array takes a frame of its own, and none of a caller's (docs/DECISIONS.md, "Large frames").
+#[inline(never)]
+fn key_of_ended_chains(id: &[u8; 16], q: u32, ots: OtsType, chains: &[OpenChain]) -> [u8; 32]
+    requires { length chains.now ≡ chain_count ots }
+    ensures { (end : ℕ → List ℕ) → ((i : ℕ) (d : OpenChain) → i < chain_count ots → (slice_index_or chains.now i d).value ≡ end i) → result ≡ key_hash id.now q (joined end (chain_count ots)) }
+{
+    let mut ends = [[0u8; 32]; MOST_CHAINS];
+    let ends = &mut ends[..chains.len()];
+    write_values(chains, ends);
+    key_of_ends(id, q, ots, ends, 0)
+}
+
+/// K of a signature's chains, which are run to their ends: `text` is the digest and its checksum, and `ys` begins with the
+/// chains' values.
+// The array takes a frame of its own, and none of a caller's (docs/DECISIONS.md, "Large frames").
+#[inline(never)]
 pub(crate) fn key_of_chains(
     id: &[u8; 16],
     q: u32,
@@ -91,8 +100,9 @@ pub(crate) fn key_of_chains(
     ensures { result ≡ key_hash id.now q (chain_ends ots id.now q text.now ys.now (chain_count ots)) }
 {
     let count = usize::from(ots.chain_count());
-    let mut starts = [0u8; MAX_CHAINS];
-    let starts = &mut starts[..count];
-    write_starts(text, ots, starts);
-    key_of_values(id, q, ots, starts, hashes_of(ys, count))
+    let mut chains = [NO_CHAIN; MOST_CHAINS];
+    let chains = &mut chains[..count];
+    open_signature(ots, id, q, text, ys, chains);
+    run_all(chains);
+    key_of_ended_chains(id, q, ots, chains)
 }

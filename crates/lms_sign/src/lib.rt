@@ -13,14 +13,16 @@ pub use types::{LONGEST_SIGNATURE, LmsType, OtsType};
 pub use verification::verify;
 
 mod chain_ends;
-mod chain_groups;
+mod chain_lanes;
 mod chain_order;
-mod chains;
+mod chain_runs;
 mod coefficients;
 mod key;
 pub mod laws;
 mod making;
+mod open_chain;
 mod secret_key;
+mod seed_chains;
 mod signature_text;
 #[cfg(test)]
 mod tests;

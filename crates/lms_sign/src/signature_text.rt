@@ -1,17 +1,42 @@
 //! The text of a signature (RFC 8554, sections 4.5 and 5.4.1).
 
-ghost use Rattle.std.specs.Prelude.{◌≡◌, ◌+◌, ◌*◌, ◌/◌, ◌^◌, ◌<◌, ◌≤◌, ◌++◌, [], length, take, slice_index_or};
-ghost use Rattle.lms_sign.specs.Parameters.{chain_count};
+ghost use Rattle.std.specs.Prelude.{◌≡◌, ℕ, List, ◌+◌, ◌*◌, ◌/◌, ◌^◌, ◌<◌, ◌≤◌, ◌++◌, [], length, take, slice_index, slice_index_or};
+ghost use Rattle.lms_sign.specs.Numbers.{coef};
+ghost use Rattle.lms_sign.specs.Parameters.{chain_count, width};
 ghost use Rattle.lms_sign.specs.Signing.{chain_values, joined, sibling};
 
-use crate::chains::chain_text;
+use crate::chain_order::MOST_CHAINS;
 use crate::coefficients::coefficient;
-use crate::making::secret;
+use crate::seed_chains::values_from_seed;
 use crate::text::put;
 use crate::types::OtsType;
 
+/// Writes the steps that a signature's chains take from their starts: the coefficients of `text`, the digest and its
+/// checksum.
+fn write_steps(text: &[u8; 34], ots: OtsType, steps: &mut [u8])
+    requires { length steps.old ≡ chain_count ots }
+    ensures len { length steps.new ≡ chain_count ots }
+    ensures each { (i : ℕ) → i < chain_count ots → slice_index steps.new i ≡ coef text.now i (width ots) }
+{
+    for i in 0..ots.chain_count() {
+        steps[usize::from(i)] = coefficient(text, i, ots);
+    }
+}
+
+/// Writes hashes in a row, from a place on.
+fn put_hashes(out: &mut [u8], place: usize, hashes: &[[u8; 32]])
+    requires { place + 32 * length hashes.now ≤ length out.old }
+    ensures { (f : ℕ → List ℕ) → ((i : ℕ) → i < length hashes.now → slice_index_or hashes.now i [] ≡ f i)
+        → take (place + 32 * length hashes.now) out.new ≡ take place out.old ++ joined f (length hashes.now) }
+{
+    for i in 0..hashes.len() {
+        put(out, place + 32 * i, &hashes[i]);
+    }
+}
+
 /// Writes what a signature has of the chains of leaf `q`, from a place on. `text` is the digest and its checksum.
-#[tactic(auto, unfolding(crate::specs::Signing::joined))]
+// The arrays take a frame of its own, and none of a caller's (docs/DECISIONS.md, "Large frames").
+#[inline(never)]
 pub(crate) fn put_chain_values(
     out: &mut [u8],
     place: usize,
@@ -24,11 +49,14 @@ pub(crate) fn put_chain_values(
     requires { place + 32 * chain_count ots ≤ length out.old }
     ensures { take (place + 32 * chain_count ots) out.new ≡ take place out.old ++ chain_values ots id.now seed.now q text.now }
 {
-    for i in 0..ots.chain_count() {
-        let start = secret(id, seed, q, i);
-        let value = chain_text(id, q, i, 0, coefficient(text, i, ots), &start);
-        put(out, place + 32 * usize::from(i), &value[23..]);
-    }
+    let count = usize::from(ots.chain_count());
+    let mut steps = [0u8; MOST_CHAINS];
+    let steps = &mut steps[..count];
+    write_steps(text, ots, steps);
+    let mut values = [[0u8; 32]; MOST_CHAINS];
+    let values = &mut values[..count];
+    values_from_seed(ots, id, seed, q, 1, steps, values);
+    put_hashes(out, place, values);
 }
 
 /// The other child of the same node.
