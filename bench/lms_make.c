@@ -1,8 +1,10 @@
-/* Baseline: making an LMS key of a seed (RFC 8554, sections 4.3, 5.3 and appendix A; SHA-256, n = m = 32) in plain C,
-   to measure the product against. The hash is libcrypto's SHA256_Init, Update and Final, as an ordinary C user writes
+/* Baseline: making an LMS key of a seed, and signing (RFC 8554, sections 4.3, 4.5, 5.3, 5.4.1 and appendix A; SHA-256,
+   n = m = 32) in plain C, to measure Bulwynef against. The hash is libcrypto's SHA256_Init, Update and Final, as an ordinary C user writes
    it; a step of a chain is one text of 55 bytes, updated in place. Each chain is hashed once, and the tree is kept.
-   Makes keys of (H5, W8) and of (H10, W4), and prints for each the least and the middle time and the first key's root.
-   Build: gcc -O3 -march=native lms_make.c -lcrypto (Debian libssl-dev). Run: lms_make [KEYS], 11 keys a pair by itself. */
+   Makes keys of (H5, W8) and of (H10, W4), and prints for each the least and the middle time and the first key's root;
+   then signs by 32 leaves of (H5, W8) for each key, and prints the times of a signature. With a second word it writes
+   there a line 'key message signature' in hexadecimal for each signature of the first key, for lms_verify.
+   Build: gcc -O3 -march=native lms_make.c -lcrypto (Debian libssl-dev). Run: lms_make [KEYS [FILE]], 11 keys a pair by itself. */
 #define OPENSSL_SUPPRESS_DEPRECATED
 #include <openssl/sha.h>
 #include <stdint.h>
@@ -114,18 +116,111 @@ static int measure(const char *name, int h, int w, int p, int keys) {
         free(key.nodes);
     }
     qsort(took, keys, sizeof took[0], by_value);
-    printf("%s: least %.0f us, middle %.0f us, root ", name, took[0], took[keys / 2]);
+    printf("make %s: least %.0f us, middle %.0f us, root ", name, took[0], took[keys / 2]);
     for (int i = 0; i < 32; i++)
         printf("%02x", root[i]);
     printf("\n");
     return 1;
 }
 
+/* Coefficient i of w bits of a text. */
+static int coefficient(const u8 *text, int i, int w) {
+    return ((1 << w) - 1) & (text[i * w / 8] >> (8 - (w * (i % (8 / w)) + w)));
+}
+
+/* The digest of a message with C under leaf q, and its checksum; W8 shifts it by 0. */
+static void signed_text(const Key *key, uint32_t q, const u8 *c, const u8 *msg, size_t len, u8 text[34]) {
+    SHA256_CTX hasher;
+    unsigned sum = 0;
+    begin(&hasher, key->id, q, 0x81);
+    SHA256_Update(&hasher, c, 32);
+    SHA256_Update(&hasher, msg, len);
+    SHA256_Final(text, &hasher);
+    for (int i = 0; i < 256 / key->w; i++)
+        sum += ((1 << key->w) - 1) - coefficient(text, i, key->w);
+    text[32] = sum >> 8;
+    text[33] = sum;
+}
+
+/* Signs by leaf q of a key of W8, and gives the signature's length. */
+static size_t sign(const Key *key, uint32_t q, const u8 *c, const u8 *msg, size_t len, u8 *out) {
+    u8 text[34], step[55], *at = out + 40;
+    signed_text(key, q, c, msg, len, text);
+    put32(out, q);
+    put32(out + 4, 4);
+    memcpy(out + 8, c, 32);
+    memcpy(step, key->id, 16);
+    put32(step + 16, q);
+    for (int i = 0; i < key->p; i++, at += 32) {
+        step[20] = i >> 8;
+        step[21] = i;
+        memcpy(step + 23, key->seed, 32);
+        hash_step(step, 0xff);
+        for (int j = 0; j < coefficient(text, i, key->w); j++)
+            hash_step(step, j);
+        memcpy(at, step + 23, 32);
+    }
+    put32(at, key->h / 5 + 4);
+    at += 4;
+    for (uint32_t r = (1u << key->h) + q; r > 1; r /= 2, at += 32)
+        memcpy(at, key->nodes[r ^ 1], 32);
+    return at - out;
+}
+
+static void write_hex(FILE *file, const u8 *bytes, size_t len, char end) {
+    for (size_t i = 0; i < len; i++)
+        fprintf(file, "%02x", bytes[i]);
+    fputc(end, file);
+}
+
+/* A line 'key message signature'. */
+static void write_line(FILE *file, const Key *key, const u8 *msg, size_t len, const u8 *sig, size_t sig_len) {
+    u8 text[56];
+    put32(text, key->h / 5 + 4);
+    put32(text + 4, 4);
+    memcpy(text + 8, key->id, 16);
+    memcpy(text + 24, key->nodes[1], 32);
+    write_hex(file, text, 56, ' ');
+    write_hex(file, msg, len, ' ');
+    write_hex(file, sig, sig_len, '\n');
+}
+
+/* Signs 32 messages of 40 bytes by each of five keys of (H5, W8). */
+static int measure_signing(FILE *file) {
+    static double took[160];
+    static u8 sig[9324];
+    for (int n = 1; n <= 5; n++) {
+        Key key = {.h = 5, .w = 8, .p = 34};
+        put32(key.id + 12, n);
+        put32(key.seed + 28, n);
+        if (!make(&key))
+            return 0;
+        for (int q = 0; q < 32; q++) {
+            u8 msg[40], c[32];
+            memset(msg, q, 40);
+            memset(c, n, 32);
+            double start = now();
+            size_t len = sign(&key, q, c, msg, 40, sig);
+            took[32 * (n - 1) + q] = now() - start;
+            if (file && n == 1)
+                write_line(file, &key, msg, 40, sig, len);
+        }
+        free(key.nodes);
+    }
+    qsort(took, 160, sizeof took[0], by_value);
+    printf("sign H5 W8: least %.0f us, middle %.0f us\n", took[0], took[80]);
+    return 1;
+}
+
 int main(int argc, char **argv) {
     int keys = argc > 1 ? atoi(argv[1]) : 11;
-    if (keys < 1 || keys > MOST_KEYS) {
-        fprintf(stderr, "from 1 to %d keys\n", MOST_KEYS);
+    FILE *file = argc > 2 ? fopen(argv[2], "w") : NULL;
+    if (keys < 1 || keys > MOST_KEYS || (argc > 2 && !file)) {
+        fprintf(stderr, "from 1 to %d keys, and a file that can be written\n", MOST_KEYS);
         return 2;
     }
-    return !(measure("H5 W8", 5, 8, 34, keys) && measure("H10 W4", 10, 4, 67, keys));
+    int done = measure("H5 W8", 5, 8, 34, keys) && measure("H10 W4", 10, 4, 67, keys) && measure_signing(file);
+    if (file)
+        fclose(file);
+    return !done;
 }

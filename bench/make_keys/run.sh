@@ -1,5 +1,6 @@
 #!/usr/bin/env bash
-# Measures the making of keys beside C, in one run. Wants gcc and libssl-dev.
+# Measures the making of keys beside C, in one run, for the default processor. Wants gcc and libssl-dev. ../run.sh measures both
+# builds.
 set -eu
 cd "$(dirname "$0")"
 work=$(mktemp -d)
