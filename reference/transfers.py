@@ -1,6 +1,6 @@
 #!/usr/bin/env python3
-"""Computes, over Python's hashlib alone, the digests of a summary and of a pack that the tests of transfer hold, and looks for each in
-their file.
+"""Computes, over Python's hashlib alone, the digests of a summary and of a pack that the tests of transfer hold, and that of the union
+of what three witnesses took in the tests of witness_core, and looks for each in its file.
 
 It shares no code with the crates: the keys and the hash of a text are those of nodes.py, and items, summary and pack are spelled here
 from the formats (docs/FORMATS.md).
@@ -11,14 +11,17 @@ import sys
 
 from nodes import Key, sha256, u8, u32, u64
 
-TESTS = os.path.join(os.path.dirname(os.path.abspath(__file__)), "..", "crates", "transfer", "src", "tests.rt")
-ENTRY, RANDOM = bytes([7]) * 32, bytes([9]) * 32
+CRATES = os.path.join(os.path.dirname(os.path.abspath(__file__)), "..", "crates")
+TRANSFER = os.path.join(CRATES, "transfer", "src", "tests.rt")
+WITNESSES = os.path.join(CRATES, "witness_core", "src", "spreading_tests.rt")
+RANDOM = bytes([9]) * 32
 
 
-def statement(key, seq):
-    """The item of a statement of node 1 on the entry with this number."""
-    signature = key.sign(u64(seq) + ENTRY, RANDOM)
-    return u8(1) + u32(1) + u64(seq) + ENTRY + u32(len(signature)) + signature
+def statement(key, seq, byte=7):
+    """The item of a statement of node 1 on the entry with this number, whose hash is this byte 32 times over."""
+    entry = bytes([byte]) * 32
+    signature = key.sign(u64(seq) + entry, RANDOM)
+    return u8(1) + u32(1) + u64(seq) + entry + u32(len(signature)) + signature
 
 
 def container(magic, items):
@@ -35,12 +38,13 @@ def main():
     told = summary([first, third])
     named = {told[16 + 32 * k : 48 + 32 * k] for k in range(2)}
     given = container(b"PRPACK01", [item for item in (first, second) if sha256(item) not in named])
-    with open(TESTS, encoding="utf-8") as file:
-        tests = file.read()
+    key = Key(1, 3)
+    union = container(b"PRSTORE1", [statement(key, *of) for of in ((5, 7), (5, 8), (6, 9), (6, 10))])
     missing = 0
-    for name, text in (("summary", told), ("pack", given)):
+    for name, text, tests in (("summary", told, TRANSFER), ("pack", given, TRANSFER), ("union", union, WITNESSES)):
         value = sha256(text).hex()
-        found = value in tests
+        with open(tests, encoding="utf-8") as file:
+            found = value in file.read()
         missing += not found
         print(name, value, "found" if found else "MISSING")
     sys.exit(1 if missing else 0)

@@ -8,6 +8,7 @@ and that of Rattle's own compiler, where they are there. Wants crates/node_sim/o
 
 import itertools
 import os
+import re
 import shutil
 import subprocess
 import sys
@@ -187,6 +188,14 @@ def cases(build):
         yield name, run(build, words, at_once(example)), lambda got: got[0] == 2 and got[1] == "" and ("Usage: node_sim" in got[2] or "try '--help'" in got[2])
 
 
+def probing_loops(build):
+    """How many loops probe the stack with r11, which may hold a value of the program (docs/DECISIONS.md); 0 where objdump is not there."""
+    if shutil.which("objdump") is None:
+        return 0
+    code = subprocess.run(["objdump", "-d", build], stdout=subprocess.PIPE, text=True, check=True).stdout
+    return len(re.findall(r"\bcmp +%r11,%rsp", code))
+
+
 def main():
     builds = [it for it in BUILDS if os.path.isfile(it)]
     if not builds:
@@ -194,6 +203,10 @@ def main():
         return 2
     done = failed = 0
     for build in builds:
+        done += 1
+        if loops := probing_loops(build):
+            failed += 1
+            print(f"{os.path.basename(build)}: {loops} loops probe the stack with r11")
         for name, got, is_right in itertools.chain(cases(build), page(build), scenes()):
             done += 1
             if not is_right(got):

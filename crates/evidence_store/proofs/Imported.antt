@@ -12,7 +12,7 @@ use Rattle.item_forms.specs.Pieces.{by_bytes}
 use Rattle.evidence_item.specs.Checking.{Checked}
 use Rattle.containers.specs.CheckedItems.{checked_of, fields_of as checked_fields}
 use Rattle.containers.specs.Container.{import_of}
-use Rattle.evidence_set.specs.Exports.{ExportsAreImported, IsTextOf, export_of, fields_of, magic}
+use Rattle.evidence_set.specs.Exports.{IsTextOf, SetsHaveOneText, export_of, fields_of, magic}
 use Rattle.evidence_store.specs.within.Kept.{AreKept, IsAscending, IsWhole, by_item, pieces, set_of}
 
 -- the list ascends as its items do
@@ -30,11 +30,11 @@ one_list : (kept : List Checked) → checked_fields kept ≡ fields_of (pieces k
 one_list [] = refl
 one_list (c ∷ kept) = ap (λ (l : List Fields). c.item.fields ∷ l) (one_list kept)
 
-module _ (law : ExportsAreImported) (ds : List (ℕ × PublicKey)) (bytes : List ℕ) (read found : List Checked) (fit : IsBytes bytes) (is : import_of magic (checked_of ds) bytes ≡ Ok (checked_fields read)) (same : pieces found ≡ pieces read) where
-  is_text : IsTextOf ds bytes (pieces found)
+module _ (law : SetsHaveOneText) (ds : List (ℕ × PublicKey)) (bytes : List ℕ) (read found : List Checked) (fit : IsBytes bytes) (is : import_of magic (checked_of ds) bytes ≡ Ok (checked_fields read)) (same : pieces found ≡ pieces read) where
+  is_text : IsTextOf magic ds bytes (pieces found)
   is_text =
       let fields : checked_fields read ≡ fields_of (pieces found) = one_list read ∙ ap fields_of (sym same) in
-      law.found ds bytes (pieces found) fit (is ∙ ap Ok fields)
+      law.found magic ds bytes (pieces found) fit (is ∙ ap Ok fields)
 
   -- What was read, with what was found of it, can be kept,
   pub can_be_kept : {S : Type 0} (program : Meaning S) → All (IsWhole ds program) found → AreKept ds program found

@@ -17,7 +17,7 @@ use crate::ranges::bytes_fit;
 use authenticators::{AuthenticatorStore, Directory};
 use containers::{Cause, ImportFault, read_all};
 use evidence_item::Checked;
-use evidence_set::laws::exports_are_imported;
+use evidence_set::laws::sets_have_one_text;
 use outcome::Memory;
 use replay_verifier::Program;
 use std::alloc::Global;
@@ -53,7 +53,7 @@ fn items_of<P: Program>(
     ensures fault { IfErr result (λ f. Refuses f (import_of magic (checked_of directory.now) bytes.now)) }
 {
     bytes_fit(bytes);
-    exports_are_imported();
+    sets_have_one_text();
     let mut items = read_all(alloc, program, directory, MAGIC, bytes)?;
     let count = items.len() as u64;
     let Ok(()) = find_each(alloc, directory, &mut items) else {

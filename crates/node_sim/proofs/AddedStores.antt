@@ -1,5 +1,5 @@
 -- What an import adds to a store.
-use Rattle.std.proofs.Common.{◌≡◌, ◌+◌, ◌≤◌, ◌<◌, ◌^◌, ℕ, Bool, true, false, List, [], ◌∷◌, ◌++◌, Ok, refl, sym, ap, ◌∙◌, subst, ◌⊎◌, inl, inr, ⊎_elim, arith}
+use Rattle.std.proofs.Common.{◌≡◌, ◌+◌, ◌≤◌, ◌<◌, ◌^◌, ℕ, Bool, true, false, List, [], ◌∷◌, ◌++◌, Ok, refl, sym, ap, ◌∙◌, subst, inl, inr, arith}
 use Rattle.std.specs.Prelude.{◌↔◌}
 use Rattle.std.specs.List.{Contains}
 use Rattle.std.proofs.lemmas.List.Elements.{Contains-append_cases, Contains-append_left, Contains-append_right}
@@ -8,7 +8,7 @@ use Rattle.item_forms.specs.Pieces.{Piece}
 use Rattle.outcome.specs.Outcome.{told_as}
 use Rattle.containers.specs.CheckedItems.{checked_of}
 use Rattle.containers.specs.Container.{import_of}
-use Rattle.evidence_set.specs.Exports.{AreValid, ExportsAreImported, export_of, fields_of, magic}
+use Rattle.evidence_set.specs.Exports.{AreValid, SetsHaveOneText, export_of, fields_of, magic}
 use Rattle.evidence_set.specs.ItemSets.{Has, Items, Join, JoinsAsExpected, SetsAreLists, SetsCount, contains, count, insert, insert_all, listed}
 use Rattle.evidence_store.specs.Contents.{Contents, with_items}
 use Rattle.node_sim.specs.Inputs.{AreItems}
@@ -31,7 +31,7 @@ module _ (law : SetsCount) where
       let second = by_insert (insert_all E xs) x (contains (insert_all E xs) x) refl in
       omega (arith, first, second)
 
-module _ (exports : ExportsAreImported) (joins : JoinsAsExpected) (lists : SetsAreLists) (counts : SetsCount) (old new : Contents) (text : List ℕ) (added : Items) (is : text ≡ export_of added) (joined : new ≡ with_items old (Join old.items added)) (valid : AreValid new.directory new.items) (small : count new.items < 2 ^ 64) where
+module _ (texts : SetsHaveOneText) (joins : JoinsAsExpected) (lists : SetsAreLists) (counts : SetsCount) (old new : Contents) (text : List ℕ) (added : Items) (is : text ≡ export_of added) (joined : new ≡ with_items old (Join old.items added)) (valid : AreValid new.directory new.items) (small : count new.items < 2 ^ 64) where
   directory_stays : new.directory ≡ old.directory
   directory_stays = ap (λ (s : Contents). s.directory) joined
 
@@ -63,7 +63,7 @@ module _ (exports : ExportsAreImported) (joins : JoinsAsExpected) (lists : SetsA
       )
 
   is_read : import_of magic (checked_of old.directory) text ≡ Ok (fields_of (listed added))
-  is_read = rw is (exports.read old.directory added added_valid added_small)
+  is_read = rw is (texts.read magic old.directory added refl added_valid added_small)
 
   pub adds_store : AddsStore old new text
   adds_store = record {

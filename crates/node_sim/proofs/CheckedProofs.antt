@@ -1,7 +1,7 @@
 -- What `prove` writes of an exposed node, `check` accepts.
-use Rattle.std.proofs.Common.{◌≡◌, ℕ, ◌<◌, ◌==◌, Bool, true, false, List, [], ◌∷◌, ◌++◌, Option, Some, None, Result, Ok, Err, refl, sym, ap, ◌∙◌, subst, codes, inl, inr, arith}
+use Rattle.std.proofs.Common.{◌≡◌, ℕ, List, [], ◌∷◌, ◌++◌, Option, Some, None, Result, Ok, Err, refl, sym, ap, ◌∙◌, subst, codes, inl, inr}
 use Rattle.std.specs.Prelude.{◌↔◌, IfSome}
-use Rattle.hex.specs.Hex.{decode_of, encode_lower}
+use Rattle.hex.specs.Hex.{encode_lower}
 use Rattle.hex.proofs.HexLemmas.{decode_of-encode_lower}
 use Rattle.lms_sign.specs.declared.key.PublicKey.{PublicKey}
 use Rattle.outcome.specs.Outcome.{◌>>=◌, told_as}
@@ -11,8 +11,8 @@ use Rattle.replay_verifier.specs.Meaning.{Meaning}
 use Rattle.proofs.specs.declared.fault.ProofFault.{ProofFault}
 use Rattle.proofs.specs.declared.proof.Parts.{Parts}
 use Rattle.proofs.specs.Cases.{Case}
-use Rattle.proofs.specs.Convicting.{Convicts, ConvictingPartsAreValid, IsRefused, ProofsConvictOneNode, first_fault}
-use Rattle.proofs.specs.ProofTexts.{ProofsHaveOneText, items_of, proof_of, proof_text}
+use Rattle.proofs.specs.Convicting.{Convicts, ConvictingPartsAreValid, IsRefused, ProofsConvictOneNode}
+use Rattle.proofs.specs.ProofTexts.{ProofsHaveOneText, proof_of, proof_text}
 use Rattle.evidence_store.specs.Contents.{Contents}
 use Rattle.item_forms.specs.declared.forms.Fields.{Fields}
 use Rattle.item_forms.specs.SpellingLaws.{SpellingsAreShort}
@@ -20,7 +20,7 @@ use Rattle.node_sim.specs.declared.fault.Fault.{Fault}
 use Rattle.node_sim.specs.declared.fault.Fault.TheVariants.{BadHex}
 use Rattle.node_sim.specs.HexLines.{bytes_of, hex_line, lines_of, pair_of, two_texts_of}
 use Rattle.node_sim.specs.Inputs.{IsEvidence, Parsed, Presented, evidence_of, one_store_of, presented_of, stores_after}
-use Rattle.node_sim.specs.Output.{Check, Prove, ProofsAreChecked, exposes_line, proof_line}
+use Rattle.node_sim.specs.Output.{Check, ProofsAreChecked, exposes_line, proof_line}
 use Rattle.node_sim.specs.Refusals.{of_directory, of_reading}
 use Rattle.node_sim.proofs.LineTexts.{HasNoFeed, first_has_no_feed, hex_has_no_feed, lines-append}
 use Rattle.node_sim.proofs.ProofBytes.{proof_bytes}

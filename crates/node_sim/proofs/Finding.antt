@@ -1,12 +1,11 @@
 -- What is found against a node, and why a question is refused.
-use Rattle.std.proofs.Common.{◌≡◌, ℕ, true, false, List, Option, Some, None, Result, Ok, Err, refl, ◌⊎◌, inl, inr}
+use Rattle.std.proofs.Common.{◌≡◌, ℕ, false, List, Option, Some, None, Result, Ok, Err, refl, ◌⊎◌, inl, inr}
 use Rattle.std.specs.Prelude.{◌↔◌, is_some, IsSome}
 use Rattle.replay_verifier.specs.Meaning.{Meaning}
 use Rattle.authenticators.specs.Directory.{key_at}
 use Rattle.evidence_store.specs.Contents.{Contents}
 use Rattle.evidence_store.specs.declared.fault.AskFault.{AskFault}
 use Rattle.evidence_store.specs.declared.fault.AskFault.TheVariants as asking
-use Rattle.node_sim.specs.declared.fault.Fault.{Fault}
 use Rattle.node_sim.specs.declared.fault.Fault.TheVariants.{Memory}
 use Rattle.node_sim.specs.Inputs.{IsEvidence, one_store_of}
 use Rattle.node_sim.specs.Output.{Prove}

@@ -2,12 +2,15 @@ pub mod AddedStores
 pub mod CheckedProofs
 pub mod Convicting
 pub mod Finding
+pub mod FoundWords
 pub mod LineFeeds
 pub mod LineTexts
 pub mod Members
 pub mod Nodes
+pub mod Numbers
 pub mod OneReport
 pub mod Parsing
+pub mod PlainLines
 pub mod ProofBytes
 pub mod Refused
 pub mod Rows

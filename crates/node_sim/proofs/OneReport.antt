@@ -1,23 +1,22 @@
 -- An input has one report: its rows are those of the listed nodes in ascending order, and a node has one indication.
-use Rattle.std.proofs.Common.{◌≡◌, ℕ, List, [], ◌∷◌, Result, Ok, refl, sym, ap, ◌∙◌, subst, arith}
+use Rattle.std.proofs.Common.{◌≡◌, ℕ, List, [], ◌∷◌, Result, refl, sym, ap, ◌∙◌, subst, arith}
 use Rattle.std.specs.Prelude.{map, All}
-use Rattle.std.specs.List.{Contains, flat_map}
+use Rattle.std.specs.List.{flat_map}
 use Rattle.std.specs.Ordering.{nat_cmp}
 use Rattle.std.proofs.lemmas.Cmp.{nat_cmp_total}
 use Rattle.std.proofs.lemmas.List.Elements.{All-tail}
 use Rattle.std.proofs.lemmas.Map.Keys.{sorted_from_strictly_increasing}
 use Rattle.outcome.proofs.Steps.{Ok-inj}
 use Rattle.authenticators.proofs.AscendingLists.{same_elements}
-use Rattle.lms_sign.specs.declared.key.PublicKey.{PublicKey}
 use Rattle.item_forms.specs.declared.forms.Fields.{Fields}
 use Rattle.replay_verifier.specs.Meaning.{Meaning}
 use Rattle.evidence_set.specs.declared.indication.Indication.{Indication}
 use Rattle.evidence_set.specs.Indications.{IndicationsAreOne, IsIndication}
-use Rattle.evidence_set.specs.ItemSets.{Has, Items, JoinsAreLeastUpperBounds}
+use Rattle.evidence_set.specs.ItemSets.{Items, JoinsAreLeastUpperBounds}
 use Rattle.evidence_store.specs.Contents.{Contents}
 use Rattle.node_sim.specs.declared.fault.Fault.{Fault}
 use Rattle.node_sim.specs.Inputs.{AreItems, IsEvidence, Parsed, one_store_of}
-use Rattle.node_sim.specs.Output.{IsReport, ReportsAreOne, Status, line_of}
+use Rattle.node_sim.specs.Output.{IsReport, ReportsAreOne, line_of}
 
 -- ---- evidence is one
 

@@ -1,11 +1,8 @@
 -- What the steps of reading an input say of the whole.
 use Rattle.std.proofs.Common.{◌≡◌, ℕ, List, [], ◌∷◌, ◌++◌, Result, Ok, Err, refl, sym, ap, ◌∙◌, subst, inl, inr}
-use Rattle.std.specs.Prelude.{◌↔◌}
-use Rattle.std.specs.List.{Contains}
 use Rattle.lms_sign.specs.declared.key.PublicKey.{PublicKey}
 use Rattle.outcome.specs.Outcome.{◌>>=◌, told_as, Fails}
 use Rattle.outcome.proofs.Steps.{Fails-then}
-use Rattle.authenticators.specs.declared.fault.DirectoryFault.{DirectoryFault}
 use Rattle.authenticators.specs.DirectoryText.{directory_of}
 use Rattle.item_forms.specs.declared.forms.Fields.{Fields}
 use Rattle.evidence_set.specs.ItemSets.{SetsAsExpected, none}

@@ -1,5 +1,5 @@
 -- An input is never refused with a device's fault.
-use Rattle.std.proofs.Common.{◌≡◌, ℕ, false, List, [], ◌∷◌, ◌++◌, Result, Ok, Err, refl, ap, inl, inr, subst}
+use Rattle.std.proofs.Common.{ℕ, List, [], ◌∷◌, ◌++◌, Result, Ok, Err, refl, ap, inl, inr, subst}
 use Rattle.std.specs.Prelude.{IfErr}
 use Rattle.hex.specs.Hex.{decode_of}
 use Rattle.lms_sign.specs.declared.key.PublicKey.{PublicKey}
@@ -25,7 +25,7 @@ use Rattle.node_sim.specs.declared.fault.Fault.{Fault}
 use Rattle.node_sim.specs.declared.fault.Fault.TheVariants as fault
 use Rattle.node_sim.specs.Refusals.{of_asking, of_cause, of_directory, of_import, of_proof, of_reading}
 use Rattle.node_sim.specs.HexLines.{all_texts_of, bytes_of, each_bytes_after, first_and_others, lines_of, pair_of, two_texts_of}
-use Rattle.node_sim.specs.Inputs.{Parsed, all_stores_of, evidence_of, one_store_of, presented_of, store_of, stores_after}
+use Rattle.node_sim.specs.Inputs.{all_stores_of, evidence_of, one_store_of, presented_of, store_of, stores_after}
 use Rattle.node_sim.specs.within.Opening.{Holds}
 use Rattle.node_sim.specs.within.OwnFaults.{IsOwn, is_devices}
 

@@ -1,9 +1,13 @@
--- The words of the command line: the program's command, in clap's terms, and what clap refuses of the words.
-use Rattle.std.specs.Prelude.{◌≡◌, ◌⊎◌, true, codes, pos, List, [], ◌∷◌, Some}
+-- The words of the command line: the program's command, in clap's terms, what clap refuses of the words, and what they ask for.
+use Rattle.std.specs.Prelude.{◌≡◌, ◌⊎◌, ℕ, false, true, codes, pos, List, [], ◌∷◌, Option, Some, Ok, option_and_then}
+use Rattle.std.specs.Str.Parse.{ParsesUnsigned}
 use Rattle.clap.specs.Simple.{on_top}
-use Rattle.clap.specs.Words.{App, Kinds, Rule, Text, fault_of, new_app, new_rule, with_rule, with_subcommand}
+use Rattle.clap.specs.Words.{App, Kinds, Row, Rule, Text, fault_of, new_app, new_rule, one_of, subcommand_of, with_rule, with_subcommand}
 use Rattle.clap.specs.declared.builder.ArgAction.TheVariants.{SetTrue}
 use Rattle.clap.specs.declared.builder.ValueParser.TheVariants.{Signed}
+use Rattle.node_sim.specs.declared.task.Task.{Task}
+use Rattle.node_sim.specs.declared.task.Task.TheVariants.{Check, Merge, Prove, Status}
+use Rattle.node_sim.specs.declared.words.Request.{Request}
 
 -- the flag `--relay`
 abbrev pub relay : Rule
@@ -33,11 +37,39 @@ program =
 unfoldable pub word_faults : List Text → Kinds
 word_faults words = fault_of program words
 
+-- ---- what they ask for
+
+-- The command that clap finds in the words, and what it finds of the command's arguments.
+unfoldable pub found_in : List Text → Option (Text × List Row)
+found_in words = subcommand_of program words
+
+-- The text is a number of 32 bits, in decimal digits.
+abbrev pub IsNumber : Text → ℕ → Type 0
+IsNumber text n = ParsesUnsigned {E = Unit {0}} 32 10 text (Ok n)
+
+-- A command of this name, with these arguments, is the task.
+abbrev pub Names : Text → List Row → Task → Type 0
+Names name rows Status = name ≡ codes "status"
+Names name rows Merge = name ≡ codes "merge"
+Names name rows (Prove n) = (name ≡ codes "prove") × (text : Text) × (one_of (codes "NODE") rows ≡ Some text) × IsNumber text n
+Names name rows Check = name ≡ codes "check"
+
+-- The words ask for the task.
+abbrev pub AsksFor : List Text → Task → Type 0
+AsksFor words task = (name : Text) × (rows : List Row) × (found_in words ≡ Some (name, rows)) × Names name rows task
+
+-- What clap finds of the flag: `true` where it is among the command's words, else `false`.
+abbrev pub flag_in : List Text → Option Text
+flag_in words = option_and_then (λ p. one_of (codes "relay") p.1) (found_in words)
+
 -- A command that takes no other word than the flag.
-abbrev pub IsPlainName : Text → Type 0
-IsPlainName name = (name ≡ codes "status") ⊎ (name ≡ codes "merge") ⊎ (name ≡ codes "check")
+abbrev pub IsPlainName : Text → Task → Type 0
+IsPlainName name Status = name ≡ codes "status"
+IsPlainName name Merge = name ≡ codes "merge"
+IsPlainName name (Prove n) = ⊥
+IsPlainName name Check = name ≡ codes "check"
 
 -- The program's name and such a command, or also the flag.
-abbrev pub IsPlainLine : List Text → Type 0
-IsPlainLine words =
-    (first : Text) × (name : Text) × IsPlainName name × ((words ≡ first ∷ name ∷ []) ⊎ (words ≡ first ∷ name ∷ codes "--relay" ∷ []))
+abbrev pub IsPlainLine : List Text → Request → Type 0
+IsPlainLine words r =
+    (first : Text) × (name : Text) × IsPlainName name r.task × (((words ≡ first ∷ name ∷ []) × (r.relay ≡ false)) ⊎ ((words ≡ first ∷ name ∷ codes "--relay" ∷ []) × (r.relay ≡ true)))

@@ -1,6 +1,6 @@
 //! The evidence of an input: a directory, and the items of stores under it.
 
-ghost use Rattle.std.specs.Prelude.{◌≡◌, ◌<◌, ◌^◌, [], map, IfErr, OnOk};
+ghost use Rattle.std.specs.Prelude.{◌<◌, ◌^◌, [], map, IfErr, OnOk};
 ghost use Rattle.outcome.specs.Outcome.{Fails, Gives};
 ghost use Rattle.evidence_set.specs.Exports.{AreValid};
 ghost use Rattle.evidence_set.specs.ItemSets.{count};
@@ -13,7 +13,7 @@ use crate::fault::Fault;
 use crate::lines::{all_texts, two_texts};
 use authenticators::Directory;
 use evidence_set::laws::{
-    exports_are_imported, joins_are_as_expected, sets_are_as_expected, sets_are_lists, sets_count,
+    joins_are_as_expected, sets_are_as_expected, sets_are_lists, sets_count, sets_have_one_text,
 };
 use evidence_store::{Evidence, PlainStore};
 use replay_verifier::Program;
@@ -43,7 +43,7 @@ fn add_store<P: Program>(store: &mut PlainStore<P>, program: &P, text: Vec<u8>) 
     ensures added { OnOk result (AddsStore store.old store.new text.items) }
     ensures refused { IfErr result (λ f. Fails Memory f (store_of store.old.directory text.items)) }
 {
-    exports_are_imported();
+    sets_have_one_text();
     joins_are_as_expected();
     sets_are_lists();
     sets_count();

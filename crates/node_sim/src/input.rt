@@ -1,6 +1,6 @@
 //! All of the input.
 
-ghost use Rattle.std.specs.Prelude.{◌≡◌, ◌<◌, ◌≤◌, ◌+◌, ◌^◌, ◌⊎◌, IfOk, IfErr, OnOk, Ok, Err, false, vec_len, Option, List, ℕ, length};
+ghost use Rattle.std.specs.Prelude.{◌≡◌, ◌<◌, ◌≤◌, ◌+◌, ◌^◌, ◌⊎◌, IfOk, IfErr, OnOk, Ok, Err, false, vec_len, Option, List, ℕ};
 ghost use Rattle.std.specs.Io.KnownBytes.{Consumes};
 ghost use Rattle.node_sim.specs.Devices.{GoesOn, IsAllOf, IsReadFault, MeetsNoEnd};
 

@@ -1,7 +1,6 @@
 //! The commands of the program, and the engine of each.
 
-ghost use Rattle.std.specs.Prelude.{◌≡◌, ◌<◌, ◌+◌, ◌^◌, ◌⊎◌, IfErr, OnErr, OnOk, Err};
-ghost use Rattle.node_sim.specs.Devices.{MeetsNoEnd};
+ghost use Rattle.std.specs.Prelude.{◌≡◌, ◌<◌, ◌+◌, ◌^◌, IfErr, OnErr, OnOk, Err};
 ghost use Rattle.node_sim.specs.Engines.{Refuses, Writes, most_reads};
 ghost use Rattle.node_sim.specs.Output.{Answers};
 

@@ -1,9 +1,9 @@
 //! The words of the command line, read by `clap`.
 
-ghost use Rattle.std.specs.Prelude.{◌≡◌, false, IfErr, IfOk, map};
+ghost use Rattle.std.specs.Prelude.{◌≡◌, codes, false, true, IfOk, IfSome, IsSome, MatchResult, Some, map};
 ghost use Rattle.std.specs.String.{string_bytes};
-ghost use Rattle.clap.specs.Words.{FailsBy, app_of, kind_of, rule_of};
-ghost use Rattle.node_sim.specs.CommandLine.{IsPlainLine, alone, node, program, relay, word_faults};
+ghost use Rattle.clap.specs.Words.{FailsBy, app_of, found_of, kind_of, rows_of, rule_of};
+ghost use Rattle.node_sim.specs.CommandLine.{AsksFor, IsPlainLine, Names, alone, flag_in, node, program, relay, word_faults};
 ghost use Rattle.node_sim.specs.declared.fault.Fault.{Fault};
 ghost use Rattle.node_sim.specs.declared.fault.Fault.TheVariants.{Memory};
 ghost use Rattle.node_sim.specs.declared.words.Asked.TheVariants.{Refused};
@@ -126,7 +126,10 @@ fn command<'a>(alloc: Global) -> Result<Command<'a>, AllocError>
 }
 
 /// The command of the name; none where it is unknown or NODE is missing, which clap has refused.
-fn task_of(name: &str, options: &ArgMatches<'_>) -> Option<Task> {
+fn task_of(name: &str, options: &ArgMatches<'_>) -> Option<Task>
+    ensures named { IfSome result (Names name.now (rows_of (found_of options.now))) }
+    ensures only { (t : Task) → Names name.now (rows_of (found_of options.now)) t → result ≡ Some t }
+{
     match name {
         "status" => Some(Task::Status),
         "merge" => Some(Task::Merge),
@@ -139,10 +142,16 @@ fn task_of(name: &str, options: &ArgMatches<'_>) -> Option<Task> {
     }
 }
 
-/// What the words ask for, where clap takes them.
+/// What the words ask for, where clap takes them; none where they name no command, which clap has refused.
 fn parsed(alloc: Global, words: &[String]) -> Result<Option<Request>, Error>
     ensures faults { FailsBy (word_faults (map string_bytes words.now)) result }
-    ensures plain { IsPlainLine (map string_bytes words.now) → IfErr result (λ e. kind_of e ≡ ErrorKind.OutOfMemory) }
+    // The task is the one that clap finds, and Relay is taken where clap finds the flag.
+    ensures task { IfOk result (λ r. IfSome r (λ q. AsksFor (map string_bytes words.now) q.task)) }
+    ensures relay { IfOk result (λ r. IfSome r (λ q. flag_in (map string_bytes words.now) ≡ Some (codes "true") → q.relay ≡ true)) }
+    ensures tally { IfOk result (λ r. IfSome r (λ q. flag_in (map string_bytes words.now) ≡ Some (codes "false") → q.relay ≡ false)) }
+    // What clap finds is not passed over.
+    ensures found { (t : Task) → AsksFor (map string_bytes words.now) t → IfOk result (λ r. IsSome r) }
+    ensures plain { (q : Request) → IsPlainLine (map string_bytes words.now) q → MatchResult result (λ r. r ≡ Some q) (λ e. kind_of e ≡ ErrorKind.OutOfMemory) }
 {
     let matches = command(alloc)?.try_get_matches_from(words)?;
     let Some((name, options)) = matches.subcommand() else {

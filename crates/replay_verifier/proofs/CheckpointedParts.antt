@@ -1,6 +1,5 @@
 -- A part of a conforming log that begins with a CHECKPOINT conforms.
-use Rattle.std.proofs.Common.{◌≡◌, ◌≢◌, ℕ, List, [], ◌∷◌, ◌++◌, map, sym, refl, ap, ◌∙◌, subst, arith, inr}
-use Rattle.std.specs.List.{AllByRecursion}
+use Rattle.std.proofs.Common.{◌≡◌, ◌≢◌, List, [], ◌∷◌, ◌++◌, map, sym, refl, ap, ◌∙◌, subst, arith, inr}
 use Rattle.log_chain.specs.declared.entry.Entry.{Entry}
 use Rattle.log_chain.specs.declared.kind.TheConstants.{SEND, CHECKPOINT}
 use Rattle.log_chain.specs.Chain.{base, chain_end}

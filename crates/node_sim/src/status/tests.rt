@@ -3,7 +3,6 @@
 use super::*;
 use crate::task::Task;
 use crate::testing::{equivocation, no_statements, outcome, unsigned};
-use std::test::Fail;
 
 /// What is answered and written for an input.
 fn told(alloc: Global, input: &'static [u8]) -> (Result<(), Fault>, Vec<u8>) {

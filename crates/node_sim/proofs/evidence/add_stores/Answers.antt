@@ -2,7 +2,7 @@ use Rattle.std.proofs.Common.{rules, ◌≡◌, ◌∷◌, [], List, ℕ, map, l
 use Rattle.std.specs.Vec.Iter.{into_iter_items}
 use Rattle.std.proofs.lemmas.Result.{err_from_is_err_and}
 use Rattle.node_sim.specs.within.Opening.{AddsStores}
-use Rattle.node_sim.proofs.Parsing.{none_added, one_added, one_refused}
+use Rattle.node_sim.proofs.Parsing.{one_added, one_refused}
 use Rattle.node_sim.proofs.evidence.add_stores.Goals as goal
 
 none_left : {X : Type 0} (xs : List X) → length xs ≡ 0 → xs ≡ []

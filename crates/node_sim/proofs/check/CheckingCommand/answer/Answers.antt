@@ -1,4 +1,3 @@
-use Rattle.std.proofs.Common.{refl, inl, inr}
 use Rattle.std.proofs.lemmas.Result.{err_from_is_err_and}
 use Rattle.node_sim.proofs.Convicting.{presented_told, refused_told}
 use Rattle.node_sim.proofs.Refused.{presented_refuses_own, proof_own}

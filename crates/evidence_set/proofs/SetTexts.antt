@@ -1,4 +1,4 @@
--- The text of a set is read as its items, and what is read is the text of a set.
+-- The text of a set is read as its items, and what is read is the text of a set, whatever eight bytes stand in front.
 use Rattle.std.proofs.Common.{◌≡◌, ℕ, get_or, ◌≤◌, ◌<◌, ◌^◌, true, List, [], ◌∷◌, map, length, None, Result, Ok, refl, sym, ap, ◌∙◌, arith, map-id}
 use Rattle.std.specs.List.{AllByRecursion, Contains}
 use Rattle.std.specs.List.Sorted.{IsStrictlySortedBy}
@@ -23,7 +23,7 @@ use Rattle.containers.specs.Container.{Refusal, container_of, container_text, im
 use Rattle.containers.specs.ContainerLaws.{AreRead}
 use Rattle.containers.specs.ItemLaws.{AreInOrder, ItemsHaveOneContainer}
 use Rattle.containers.proofs.ContainerTexts.{container_read}
-use Rattle.evidence_set.specs.Exports.{AreValid, ExportsAreImported, IsTextOf, export_of, fields_of, magic}
+use Rattle.evidence_set.specs.Exports.{AreValid, IsTextOf, SetsHaveOneText, fields_of, set_text}
 use Rattle.evidence_set.specs.ItemSets.{Items, count, insert_all, listed, none}
 use Rattle.evidence_set.proofs.SetLists.{listed_again, of_list, sets_are_lists, whole}
 
@@ -98,49 +98,9 @@ pieces ds last (x ∷ xs) order =
     let piece : Piece = record { fields = x; fits = order.0 } in
     (piece ∷ more.0, ap (λ (items : List Fields). x ∷ items) more.1)
 
--- ---- the text of a set
-
-text_read : SpellingsAreShort → ValidItemsHaveNoFault → ItemsHaveOneContainer → (ds : List (ℕ × PublicKey)) (E : Items) → AreValid ds E → count E < 2 ^ 64 → import_of magic (checked_of ds) (export_of E) ≡ Ok (fields_of (listed E))
-text_read short valid_items container ds E valid few =
-    let xs : List Piece = listed E in
-    let none_at_fault : AllByRecursion (HasNoFault ds) xs = recursion_from_All (HasNoFault ds) xs (λ k d lt.
-    let c : Contains xs (get_or xs k d) = Contains-get_or xs k d lt in
-    (valid_items ds (get_or xs k d).fields).0 (valid (get_or xs k d) ((sets_are_lists.members E (get_or xs k d)).0 c))) in
-    let order = in_order ds [] xs (first_above short xs) (sets_are_lists.ascending E) none_at_fault in
-    let number : length (fields_of xs) < 2 ^ 64 = omega (arith, length-map xs (λ (x : Piece). x.fields), sets_are_lists.size E, few) in
-    ap (λ (texts : List (List ℕ)). import_of magic (checked_of ds) (container_text magic texts)) (sym (spell_fields xs)) ∙ container.only ds magic (fields_of xs) refl number order
-
-text_found : ValidItemsHaveNoFault → ItemsHaveOneContainer → (ds : List (ℕ × PublicKey)) (bytes : List ℕ) (xs : List Piece) → IsBytes bytes → import_of magic (checked_of ds) bytes ≡ Ok (fields_of xs) → IsTextOf ds bytes xs
-text_found valid_items container ds bytes xs fits e =
-    let order = container.order ds magic bytes (fields_of xs) fits e in
-    let up = ascends ds [] xs order in
-    let all = All-from_recursion (HasNoFault ds) xs (no_faults ds [] xs order) in
-    record {
-      ascending = up;
-      valid = λ x h. (valid_items ds x.fields).1 (All-contains (HasNoFault ds) xs x all (of_list xs x h));
-      text = container.found ds magic bytes (fields_of xs) fits e ∙ ap (container_text magic) (spell_fields xs) ∙ ap (λ (ys : List Piece). container_text magic (map spell ys)) (sym (listed_again xs up));
-    }
-
-text_of_each : ValidItemsHaveNoFault → ItemsHaveOneContainer → (ds : List (ℕ × PublicKey)) (bytes : List ℕ) (items : List Fields) → IsBytes bytes → import_of magic (checked_of ds) bytes ≡ Ok items → (xs : List Piece) × (items ≡ fields_of xs) × IsTextOf ds bytes xs
-text_of_each valid_items container ds bytes items fits e =
-    let p = pieces ds [] items (container.order ds magic bytes items fits e) in
-    let given : List Fields → Result (List Fields) ImportFault = λ (x : List Fields). Ok x in
-    (p.0, p.1, text_found valid_items container ds bytes p.0 fits (e ∙ ap given p.1))
-
--- ---- sets with one text
-
 -- a text is read as itself
 abbrev as_text : List ℕ → List ℕ → Result (List ℕ) Cause
 as_text last text = Ok text
-
-texts_read : SpellingsAreShort → (last : List ℕ) (xs : List Piece) → AreRead as_text (λ t. t) last (map spell xs)
-texts_read short last [] = tt
-texts_read short last (x ∷ xs) = (short.most x, refl, texts_read short (spell x) xs)
-
-read_back : SpellingsAreShort → (xs : List Piece) → length xs < 2 ^ 64 → container_of magic as_text (container_text magic (map spell xs)) ≡ Ok (map spell xs)
-read_back short xs few =
-    let number : length (map spell xs) < 2 ^ 64 = omega (arith, length-map xs spell, few) in
-    ap (λ (texts : List (List ℕ)). container_of magic as_text (container_text magic texts)) (sym (map-id (map spell xs))) ∙ container_read magic as_text (λ t. t) (map spell xs) refl number (texts_read short [] xs)
 
 same_pieces : ItemsHaveOneText → (xs ys : List Piece) → map spell xs ≡ map spell ys → xs ≡ ys
 same_pieces one [] [] e = refl
@@ -151,17 +111,59 @@ same_pieces one (x ∷ xs) (y ∷ ys) e =
     let others : map spell xs ≡ map spell ys = cc in
     λ i. one.item x y first i ∷ same_pieces one xs ys others i
 
-one_text : SpellingsAreShort → ItemsHaveOneText → (A B : Items) → count A < 2 ^ 64 → count B < 2 ^ 64 → export_of A ≡ export_of B → A ≡ B
-one_text short one A B few few' e =
-    let number : length (listed A) < 2 ^ 64 = omega (arith, sets_are_lists.size A, few) in
-    let number' : length (listed B) < 2 ^ 64 = omega (arith, sets_are_lists.size B, few') in
-    let texts = Ok-inj {E = Refusal} (map spell (listed A)) (map spell (listed B)) (sym (read_back short (listed A) number) ∙ ap (container_of magic as_text) e ∙ read_back short (listed B) number') in
-    sym (whole A) ∙ ap (insert_all none) (same_pieces one (listed A) (listed B) texts) ∙ whole B
+module _ (short : SpellingsAreShort) (tag : List ℕ) where
+  texts_read : (last : List ℕ) (xs : List Piece) → AreRead as_text (λ t. t) last (map spell xs)
+  texts_read last [] = tt
+  texts_read last (x ∷ xs) = (short.most x, refl, texts_read (spell x) xs)
 
-pub imported : SpellingsAreShort → ItemsHaveOneText → ValidItemsHaveNoFault → ItemsHaveOneContainer → ExportsAreImported
-imported short one valid_items container = record {
-  read = text_read short valid_items container;
-  found = text_found valid_items container;
-  each = text_of_each valid_items container;
-  one = one_text short one;
+  -- ---- the text of a set
+
+  module _ (valid_items : ValidItemsHaveNoFault) (container : ItemsHaveOneContainer) (ds : List (ℕ × PublicKey)) where
+    text_read : (E : Items) → length tag ≡ 8 → AreValid ds E → count E < 2 ^ 64 → import_of tag (checked_of ds) (set_text tag E) ≡ Ok (fields_of (listed E))
+    text_read E eight valid few =
+        let xs : List Piece = listed E in
+        let none_at_fault : AllByRecursion (HasNoFault ds) xs = recursion_from_All (HasNoFault ds) xs (λ k d lt.
+        let c : Contains xs (get_or xs k d) = Contains-get_or xs k d lt in
+        (valid_items ds (get_or xs k d).fields).0 (valid (get_or xs k d) ((sets_are_lists.members E (get_or xs k d)).0 c))) in
+        let order = in_order ds [] xs (first_above short xs) (sets_are_lists.ascending E) none_at_fault in
+        let number : length (fields_of xs) < 2 ^ 64 = omega (arith, length-map xs (λ (x : Piece). x.fields), sets_are_lists.size E, few) in
+        ap (λ (texts : List (List ℕ)). import_of tag (checked_of ds) (container_text tag texts)) (sym (spell_fields xs)) ∙ container.only ds tag (fields_of xs) eight number order
+
+    text_found : (bytes : List ℕ) (xs : List Piece) → IsBytes bytes → import_of tag (checked_of ds) bytes ≡ Ok (fields_of xs) → IsTextOf tag ds bytes xs
+    text_found bytes xs fits e =
+        let order = container.order ds tag bytes (fields_of xs) fits e in
+        let up = ascends ds [] xs order in
+        let all = All-from_recursion (HasNoFault ds) xs (no_faults ds [] xs order) in
+        record {
+          ascending = up;
+          valid = λ x h. (valid_items ds x.fields).1 (All-contains (HasNoFault ds) xs x all (of_list xs x h));
+          text = container.found ds tag bytes (fields_of xs) fits e ∙ ap (container_text tag) (spell_fields xs) ∙ ap (λ (ys : List Piece). container_text tag (map spell ys)) (sym (listed_again xs up));
+        }
+
+    text_of_each : (bytes : List ℕ) (items : List Fields) → IsBytes bytes → import_of tag (checked_of ds) bytes ≡ Ok items → (xs : List Piece) × (items ≡ fields_of xs) × IsTextOf tag ds bytes xs
+    text_of_each bytes items fits e =
+        let p = pieces ds [] items (container.order ds tag bytes items fits e) in
+        let given : List Fields → Result (List Fields) ImportFault = λ (x : List Fields). Ok x in
+        (p.0, p.1, text_found bytes p.0 fits (e ∙ ap given p.1))
+
+  -- ---- sets with one text
+
+  read_back : (xs : List Piece) → length tag ≡ 8 → length xs < 2 ^ 64 → container_of tag as_text (container_text tag (map spell xs)) ≡ Ok (map spell xs)
+  read_back xs eight few =
+      let number : length (map spell xs) < 2 ^ 64 = omega (arith, length-map xs spell, few) in
+      ap (λ (texts : List (List ℕ)). container_of tag as_text (container_text tag texts)) (sym (map-id (map spell xs))) ∙ container_read tag as_text (λ t. t) (map spell xs) eight number (texts_read [] xs)
+
+  one_text : ItemsHaveOneText → (A B : Items) → length tag ≡ 8 → count A < 2 ^ 64 → count B < 2 ^ 64 → set_text tag A ≡ set_text tag B → A ≡ B
+  one_text one A B eight few few' e =
+      let number : length (listed A) < 2 ^ 64 = omega (arith, sets_are_lists.size A, few) in
+      let number' : length (listed B) < 2 ^ 64 = omega (arith, sets_are_lists.size B, few') in
+      let texts = Ok-inj {E = Refusal} (map spell (listed A)) (map spell (listed B)) (sym (read_back (listed A) eight number) ∙ ap (container_of tag as_text) e ∙ read_back (listed B) eight number') in
+      sym (whole A) ∙ ap (insert_all none) (same_pieces one (listed A) (listed B) texts) ∙ whole B
+
+pub one_text_each : SpellingsAreShort → ItemsHaveOneText → ValidItemsHaveNoFault → ItemsHaveOneContainer → SetsHaveOneText
+one_text_each short one valid_items container = record {
+  read = λ tag. text_read short tag valid_items container;
+  found = λ tag. text_found short tag valid_items container;
+  each = λ tag. text_of_each short tag valid_items container;
+  one = λ tag. one_text short tag one;
 }
