@@ -1,0 +1,23 @@
+//! Scenarios: what nodes and witnesses do, in lines of words.
+//!
+//! - [`Scenario::read`] reads a scenario's text whole, or refuses it, before anything runs: how many witnesses there are, which nodes
+//!   and of what [`Kind`] each is, and the [`Act`]s in their order.
+//!
+//! `specs/Scenarios.antt` says which text is which scenario, `specs/Spelling.antt` how one is written. [`laws`] has what follows.
+#![tactic(auto)]
+
+pub use authenticators::NodeId;
+pub use fault::ScenarioFault;
+pub use scenario::Scenario;
+pub use statement::{Act, Kind, Member};
+
+mod draft;
+mod fault;
+pub mod laws;
+mod lines;
+mod numbers;
+mod scenario;
+mod statement;
+mod statements;
+#[cfg(test)]
+mod tests;
