@@ -103,8 +103,10 @@ class Ack:
 class Node:
     """A node under Tally in the directory of the nodes 1, 2 and 3."""
 
+    ots_type, listed = 3, (1, 2, 3)
+
     def __init__(self, number, first_seq):
-        self.number, self.key, self.next_seq, self.end = number, Key(number, 3), first_seq, sha256()
+        self.number, self.key, self.next_seq, self.end = number, Key(number, self.ots_type), first_seq, sha256()
         self.total, self.entries, self.signed, self.sent, self.acks, self.awaited = 0, 0, [], {}, {}, []
         self.log(1, u32(number))
 
@@ -125,7 +127,7 @@ class Node:
     def send(self, outputs, entropy, k):
         messages = []
         for receiver, payload in outputs:
-            if receiver != self.number and receiver in (1, 2, 3):
+            if receiver != self.number and receiver in self.listed:
                 seq, before = self.log(2, u32(receiver) + payload)
                 self.sent[seq] = Message(self.number, receiver, seq, before, self.sign(entropy, k + len(messages)), payload)
                 self.awaited.append(seq)
