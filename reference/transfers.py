@@ -32,14 +32,20 @@ def summary(items):
     return b"PRSUMM01" + u64(len(items)) + b"".join(sorted(sha256(item) for item in items))
 
 
+def taken():
+    """A directory of node 1, and the four statements that witnesses take in the tests of witness_core."""
+    key = Key(1, 3)
+    directory = b"PRDIRECT" + u32(1) + u32(1) + u32(5) + u32(3) + key.identifier + key.tree[1]
+    return directory, [statement(key, *of) for of in ((5, 7), (5, 8), (6, 9), (6, 10))]
+
+
 def main():
     key = Key(1, 3)
     first, second, third = (statement(key, seq) for seq in (1, 2, 3))
     told = summary([first, third])
     named = {told[16 + 32 * k : 48 + 32 * k] for k in range(2)}
     given = container(b"PRPACK01", [item for item in (first, second) if sha256(item) not in named])
-    key = Key(1, 3)
-    union = container(b"PRSTORE1", [statement(key, *of) for of in ((5, 7), (5, 8), (6, 9), (6, 10))])
+    union = container(b"PRSTORE1", taken()[1])
     missing = 0
     for name, text, tests in (("summary", told, TRANSFER), ("pack", given, TRANSFER), ("union", union, WITNESSES)):
         value = sha256(text).hex()

@@ -17,6 +17,11 @@ import threading
 import time
 
 TOP = os.path.dirname(os.path.dirname(os.path.abspath(__file__)))
+sys.path.insert(0, f"{TOP}/reference")
+sys.dont_write_bytecode = True
+
+import transfers
+
 BUILDS = [f"{TOP}/crates/node_sim/out/node_sim{ending}" for ending in ("", ".by-rattle")]
 LONGEST_INPUT = 67_108_864
 
@@ -138,6 +143,17 @@ def scenes():
                 yield f"the scene {name}", example.read() == f"{text}\n", lambda got: got
 
 
+def spread(build):
+    """What `merge` writes of the stores of three witnesses is the text whose digest the tests of witness_core hold."""
+    directory, items = transfers.taken()
+    stores = [transfers.container(b"PRSTORE1", [items[place] for place in places]) for places in ((0, 1), (1, 2), (2, 3, 0))]
+    lines = "\n".join(text.hex() for text in (directory, *stores))
+    with open(transfers.WITNESSES) as file:
+        held = file.read()
+    union = run(build, ["merge"], at_once(lines.encode()))
+    yield "merge of what three witnesses took", union, lambda got: got[0] == 0 and got[2] == "" and transfers.sha256(bytes.fromhex(got[1])).hex() in held
+
+
 def cases(build):
     """Each case: its name, what came of it, and whether that is right."""
     with open(f"{TOP}/bench/status_512.txt") as file:
@@ -208,7 +224,7 @@ def main():
         if loops := probing_loops(build):
             failed += 1
             print(f"{os.path.basename(build)}: {loops} loops probe the stack with r11")
-        for name, got, is_right in itertools.chain(cases(build), page(build), scenes()):
+        for name, got, is_right in itertools.chain(cases(build), spread(build), page(build), scenes()):
             done += 1
             if not is_right(got):
                 failed += 1
