@@ -154,6 +154,30 @@ def spread(build):
     yield "merge of what three witnesses took", union, lambda got: got[0] == 0 and got[2] == "" and transfers.sha256(bytes.fromhex(got[1])).hex() in held
 
 
+def plays(build):
+    """What `run` writes of scenarios, of texts that are none, and of one in which a node's key is spent."""
+    stored = {}
+    for name in ("stdin", "stdout"):
+        with open(f"{TOP}/crates/node_sim/{name}") as file:
+            stored[name] = file.read()
+    scenario = stored["stdin"].encode()
+    for words in [["run"], ["run", "--workers", "1"], ["run", "--workers", "2"], ["run", "--workers=2"]]:
+        yield f"a scenario: {' '.join(words)}", run(build, words, at_once(scenario)), lambda got: got == (0, stored["stdout"], "")
+    yield "a scenario, byte by byte", run(build, ["run"], in_pieces(scenario, 1, 40)), lambda got: got == (0, stored["stdout"], "")
+    spent = b"witnesses 1\nnode 1 honest\nnode 2 mute\n" + b"timer 1 5\n" * 33
+    for name, feed, told in [
+        ("an empty text", at_once(b""), "refused 105 BadScenario\n"),
+        ("nine witnesses", at_once(b"witnesses 9\nnode 1 honest\n"), "refused 105 BadScenario\n"),
+        ("a spent key", at_once(spent), "refused 36 KeySpent\n"),
+        ("an input one byte too long", zeros(LONGEST_INPUT + 1), "refused 101 InputTooLong\n"),
+    ]:
+        yield f"run: {name}", run(build, ["run", "--workers", "2"], feed), lambda got, told=told: got == (1, "", told)
+    output = closed_pipe()
+    got = run(build, ["run"], at_once(scenario), stdout=output)
+    os.close(output)
+    yield "run: an output that is closed", got, lambda got: got == (1, "", "refused 102 WriteFailed\n")
+
+
 def cases(build):
     """Each case: its name, what came of it, and whether that is right."""
     with open(f"{TOP}/bench/status_512.txt") as file:
@@ -199,7 +223,7 @@ def cases(build):
         got = run(build, ["status"], at_once(example), stdout=output)
         os.close(output)
         yield name, got, lambda got: got == (1, "", "refused 102 WriteFailed\n")
-    for words in [[], ["nothing"], ["status", "more"], ["status", "--other"], ["--help"], ["help"], ["status", "--help"], ["prove"], ["prove", "x"], ["prove", "4294967296"], ["merge", "more"], ["check", "--other"]]:
+    for words in [[], ["nothing"], ["status", "more"], ["status", "--other"], ["--help"], ["help"], ["status", "--help"], ["prove"], ["prove", "x"], ["prove", "4294967296"], ["merge", "more"], ["check", "--other"], ["run", "more"], ["run", "--workers"], ["run", "--workers", "0"], ["run", "--workers", "3"], ["run", "--workers", "9"], ["run", "--workers", "x"]]:
         name = f"the words {' '.join(words) or '(none)'}"
         yield name, run(build, words, at_once(example)), lambda got: got[0] == 2 and got[1] == "" and ("Usage: node_sim" in got[2] or "try '--help'" in got[2])
 
@@ -224,7 +248,7 @@ def main():
         if loops := probing_loops(build):
             failed += 1
             print(f"{os.path.basename(build)}: {loops} loops probe the stack with r11")
-        for name, got, is_right in itertools.chain(cases(build), spread(build), page(build), scenes()):
+        for name, got, is_right in itertools.chain(cases(build), plays(build), spread(build), page(build), scenes()):
             done += 1
             if not is_right(got):
                 failed += 1

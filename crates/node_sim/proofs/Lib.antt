@@ -6,11 +6,14 @@ pub mod FoundWords
 pub mod LineFeeds
 pub mod LineTexts
 pub mod Members
+pub mod NoDevices
 pub mod Nodes
 pub mod Numbers
 pub mod OneReport
 pub mod Parsing
 pub mod PlainLines
+pub mod Plays
 pub mod ProofBytes
 pub mod Refused
 pub mod Rows
+pub mod Tellings

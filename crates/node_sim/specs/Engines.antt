@@ -1,5 +1,5 @@
 -- What an engine did: it read an input, and wrote what its command makes of it. A command tells of an input and a text that the
--- text is written, or of an input and a fault that it is refused so; `specs/Output.antt` has the four commands.
+-- text is written, or of an input and a fault that it is refused so; `specs/Answers.antt` has the commands.
 use Rattle.std.specs.Prelude.{◌≡◌, ◌+◌, ◌≤◌, ◌⊎◌, ℕ, List, length, Option, Result, Ok, Err}
 use Rattle.std.specs.Io.KnownBytes.{Appends}
 use Rattle.node_sim.specs.declared.fault.Fault.{Fault}

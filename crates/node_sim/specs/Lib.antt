@@ -1,3 +1,4 @@
+pub mod Answers
 pub mod CommandLine
 pub mod Devices
 pub mod Engines
@@ -5,4 +6,6 @@ pub mod HexLines
 pub mod Inputs
 pub mod Output
 pub mod Refusals
+pub mod Scenarios
+pub mod Witnesses
 pub mod within

@@ -15,8 +15,6 @@ use Rattle.evidence_set.specs.Names.{name_of}
 use Rattle.evidence_store.specs.Contents.{Contents}
 use Rattle.node_sim.specs.declared.fault.Fault.{Fault}
 use Rattle.node_sim.specs.declared.fault.Fault.TheVariants.{UnknownNode}
-use Rattle.node_sim.specs.declared.task.Task.{Task}
-use Rattle.node_sim.specs.declared.task.Task.TheVariants as task
 use Rattle.node_sim.specs.HexLines.{hex_line, lines_of}
 use Rattle.node_sim.specs.Inputs.{IsEvidence, Presented, all_stores_of, one_store_of, presented_of}
 use Rattle.node_sim.specs.Refusals.{of_proof}
@@ -79,15 +77,6 @@ exposes_line node = codes "exposes " ++ decimal node ++ codes "\n"
 abbrev pub Check : {S : Type 0} → Meaning S → List ℕ → Result (List ℕ) Fault → Type 0
 Check program input (Ok text) = (p : Presented) × (node : ℕ) × (presented_of input ≡ Ok p) × Convicts p.directory program node p.parts × (text ≡ exposes_line node)
 Check program input (Err f) = (presented_of input ≡ Err f) ⊎ ((p : Presented) × (e : ProofFault) × (presented_of input ≡ Ok p) × IsRefused p.directory program p.parts e × (f ≡ of_proof e))
-
--- ---- each
-
--- What a command writes for an input, or its refusal.
-abbrev pub Answers : {S : Type 0} → Meaning S → Task → List ℕ → Result (List ℕ) Fault → Type 0
-Answers program task.Status = Status program
-Answers program task.Merge = Merge
-Answers program (task.Prove node) = Prove program node
-Answers program task.Check = Check program
 
 -- ---- laws, which `laws` proves
 

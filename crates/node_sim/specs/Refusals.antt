@@ -11,6 +11,7 @@ use Rattle.containers.specs.declared.fault.Cause.TheVariants as cause
 use Rattle.containers.specs.declared.fault.ImportFault.{ImportFault}
 use Rattle.evidence_store.specs.declared.fault.AskFault.{AskFault}
 use Rattle.evidence_store.specs.declared.fault.AskFault.TheVariants as asking
+use Rattle.scenario_run.specs.Refusals as of_run
 use Rattle.node_sim.specs.declared.fault.Fault.{Fault}
 use Rattle.node_sim.specs.declared.fault.Fault.TheVariants as fault
 
@@ -44,6 +45,8 @@ number_of fault.InputTooLong = 101
 number_of fault.WriteFailed = 102
 number_of fault.BadHex = 103
 number_of fault.LineCount = 104
+number_of fault.BadScenario = 105
+number_of (fault.Run f) = of_run.number_of f
 
 -- The name that is told.
 abbrev pub name_of : Fault → List ℕ
@@ -75,6 +78,8 @@ name_of fault.InputTooLong = codes "InputTooLong"
 name_of fault.WriteFailed = codes "WriteFailed"
 name_of fault.BadHex = codes "BadHex"
 name_of fault.LineCount = codes "LineCount"
+name_of fault.BadScenario = codes "BadScenario"
+name_of (fault.Run f) = of_run.name_of f
 
 -- What is told of it: `refused`, the number in decimal digits, and the name.
 abbrev pub text_of : Fault → List ℕ

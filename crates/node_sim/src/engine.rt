@@ -13,10 +13,10 @@ use crate::input::read_all;
 use std::alloc::Global;
 
 /// The most bytes of an input.
-const LONGEST_INPUT: usize = 67_108_864;
+pub(crate) const LONGEST_INPUT: usize = 67_108_864;
 
 /// The most reads of an input: as many bytes as an input has at most, one a read, and the end are met within it.
-const MOST_READS: u32 = 67_108_865;
+pub(crate) const MOST_READS: u32 = 67_108_865;
 
 /// A command, as a function of the bytes of its input.
 pub(crate) trait Command {

@@ -9,6 +9,7 @@ use containers::{Cause, ImportFault};
 use evidence_store::{AskFault, NewStoreRefused};
 use item_forms::DecodeFault;
 use proofs::ProofFault;
+use scenario_run::RunFault;
 use std::alloc::{AllocError, AllocFailed};
 use std::error::Error;
 use std::fmt;
@@ -73,6 +74,10 @@ pub enum Fault {
     BadHex,
     /// The input does not have as many lines as the command reads.
     LineCount,
+    /// The input is no scenario.
+    BadScenario,
+    /// A scenario is not run to its end: with the number and the name of the call that refused.
+    Run(RunFault),
 }
 
 impl Fault {
@@ -111,6 +116,8 @@ impl Fault {
             Fault::WriteFailed => 102,
             Fault::BadHex => 103,
             Fault::LineCount => 104,
+            Fault::BadScenario => 105,
+            Fault::Run(fault) => fault.number(),
         }
     }
 
@@ -144,6 +151,8 @@ impl Fault {
             Fault::WriteFailed => "WriteFailed",
             Fault::BadHex => "BadHex",
             Fault::LineCount => "LineCount",
+            Fault::BadScenario => "BadScenario",
+            Fault::Run(fault) => fault.name(),
         }
     }
 }

@@ -1,13 +1,14 @@
-//! `node_sim`: what a set of evidence says of the nodes of a directory.
+//! `node_sim`: what a set of evidence says of the nodes of a directory, and what witnesses make of a scenario.
 //!
-//! The program reads lines of hexadecimal text from standard input: a directory, and behind it stores or a proof.
+//! The program reads standard input: lines of hexadecimal text, of a directory and behind it stores or a proof, or a scenario.
 //!
 //! - `status` writes a line for each node: `ID trusted`, `ID suspected` or `ID exposed`.
 //! - `merge` writes the store of the items of all stores.
 //! - `prove NODE` writes a proof that convicts the node, or `none`.
 //! - `check` writes whom a proof convicts: `exposes ID`.
+//! - `run` plays a scenario, and writes what each of its witnesses tells of each node.
 //!
-//! Each of the four is an engine, in the module of its name, whose function `run` carries the theorem; `engine` has what they share.
+//! Each of them is an engine, in the module of its name (that of `run` is `scenario`), whose function `run` carries the theorem; `engine` has what they share.
 //! Here words are read, and an answer is told.
 #![tactic(auto)]
 
@@ -29,8 +30,10 @@ pub mod merge;
 mod node_tests;
 pub mod prove;
 pub mod report;
+pub mod scenario;
 pub mod status;
 pub mod task;
+pub mod telling;
 #[cfg(test)]
 mod testing;
 mod words;
@@ -39,27 +42,47 @@ use device::{CountedReader, CountedWriter};
 use fault::Fault;
 use ref_programs::{Relay, Tally};
 use replay_verifier::Program;
+use std::alloc::Global;
 use std::io;
 use std::process::ExitCode;
+use std::sync::Wait;
+use std::thread::Threads;
 use task::Task;
-use words::Asked;
+use words::{Asked, Request};
 
 /// Ends with 0 where the command was done, with 1 after `refused NUMBER NAME`, and with 2 after clap's text.
 fn main(rt: HostRuntime) -> ExitCode {
     match words::read_words(&rt) {
-        Asked::Run(request) if request.relay => told(&rt, run(&rt, &Relay, request.task)),
-        Asked::Run(request) => told(&rt, run(&rt, &Tally, request.task)),
+        Asked::Run(Request { task, relay: true }) => {
+            told(
+                &rt,
+                run(&rt, rt.alloc(), &Relay, task, rt.stdin(), io::writer(&rt)),
+            )
+        }
+        Asked::Run(Request { task, relay: false }) => {
+            told(
+                &rt,
+                run(&rt, rt.alloc(), &Tally, task, rt.stdin(), io::writer(&rt)),
+            )
+        }
         Asked::Refused(fault) => told(&rt, Err(fault)),
         Asked::Other => ExitCode::from(2),
     }
 }
 
-/// The command, on standard input and output.
-fn run<P: Program>(rt: &HostRuntime, program: &P, task: Task) -> Result<(), Fault> {
-    let alloc = rt.alloc();
-    let mut reader = CountedReader::new(rt.stdin());
-    let mut writer = CountedWriter::new(io::writer(rt));
-    task.run(alloc, program, &mut reader, &mut writer)
+/// The command, on an input and an output.
+fn run<
+    H: Threads + Wait + Sync,
+    P: Program + Copy + Send + Sync + Drop,
+    R: io::Read + Drop,
+    W: io::Write + Drop,
+>(rt: &H, alloc: Global, program: &P, task: Task, input: R, output: W) -> Result<(), Fault>
+where
+    P::State: Send,
+{
+    let mut reader = CountedReader::new(input);
+    let mut writer = CountedWriter::new(output);
+    task.run(rt, alloc, program, &mut reader, &mut writer)
 }
 
 /// Tells a refusal on standard error. Where that cannot be written, the exit status alone tells it.

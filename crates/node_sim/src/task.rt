@@ -2,14 +2,16 @@
 
 ghost use Rattle.std.specs.Prelude.{◌≡◌, ◌<◌, ◌+◌, ◌^◌, IfErr, OnErr, OnOk, Err};
 ghost use Rattle.node_sim.specs.Engines.{Refuses, Writes, most_reads};
-ghost use Rattle.node_sim.specs.Output.{Answers};
+ghost use Rattle.node_sim.specs.Answers.{Answers};
 
 use crate::device::{Sink, Source};
 use crate::fault::Fault;
-use crate::{check, merge, prove, status};
+use crate::{check, merge, prove, scenario, status};
 use authenticators::NodeId;
 use replay_verifier::Program;
 use std::alloc::Global;
+use std::sync::Wait;
+use std::thread::Threads;
 
 /// A command of the program.
 #[derive(Clone, Copy, Debug)]
@@ -22,17 +24,20 @@ pub enum Task {
     Prove(NodeId),
     /// Whom a proof convicts.
     Check,
+    /// A scenario before its witnesses, with so many workers.
+    Run(u32),
 }
 
 impl Task {
     /// Runs the command's engine: it reads all, and writes the command's answer and nothing else.
-    pub fn run<P: Program, R: Source, W: Sink>(
-        self,
-        alloc: Global,
-        program: &P,
-        reader: &mut R,
-        writer: &mut W,
-    ) -> Result<(), Fault>
+    pub fn run<
+        H: Threads + Wait + Sync,
+        P: Program + Copy + Send + Sync + Drop,
+        R: Source,
+        W: Sink,
+    >(self, rt: &H, alloc: Global, program: &P, reader: &mut R, writer: &mut W) -> Result<(), Fault>
+    where
+        P::State: Send,
         requires reads { R.reads reader.old + most_reads < 2 ^ 63 }
         requires failures { W.failures writer.old < 2 ^ 63 }
         // What is written is the command's answer to what the reader had.
@@ -47,6 +52,7 @@ impl Task {
             Task::Merge => merge::run(alloc, program, reader, writer),
             Task::Prove(node) => prove::run(alloc, program, node, reader, writer),
             Task::Check => check::run(alloc, program, reader, writer),
+            Task::Run(workers) => scenario::run(rt, alloc, program, workers, reader, writer),
         }
     }
 }

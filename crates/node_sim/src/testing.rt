@@ -1,4 +1,4 @@
-//! What the tests of the four commands share: inputs, devices that fail, and what is answered.
+//! What the tests of the commands share: inputs, devices that fail, and what is answered.
 
 use crate::device::{CountedReader, CountedWriter};
 use crate::fault::Fault;
@@ -6,6 +6,8 @@ use crate::task::Task;
 use ref_programs::Tally;
 use std::alloc::{AllocError, Global};
 use std::io;
+use std::sync::Wait;
+use std::thread::Threads;
 
 /// Nodes 1 and 2, and no statement.
 pub fn no_statements() -> &'static [u8] {
@@ -103,13 +105,14 @@ impl io::Write for Narrow {
 }
 
 /// What is answered and written for a reader's input.
-pub fn outcome<R: io::Read + Drop>(
+pub fn outcome<H: Threads + Wait + Sync, R: io::Read + Drop>(
+    rt: &H,
     alloc: Global,
     task: Task,
     reader: R,
 ) -> (Result<(), Fault>, Vec<u8>) {
     let mut reader = CountedReader::new(reader);
     let mut writer = CountedWriter::new(Vec::new(alloc));
-    let answer = task.run(alloc, &Tally, &mut reader, &mut writer);
+    let answer = task.run(rt, alloc, &Tally, &mut reader, &mut writer);
     (answer, writer.writer)
 }

@@ -3,7 +3,7 @@
 ghost use Rattle.std.specs.Prelude.{◌≡◌, codes, false, true, IfOk, IfSome, IsSome, MatchResult, Some, map};
 ghost use Rattle.std.specs.String.{string_bytes};
 ghost use Rattle.clap.specs.Words.{FailsBy, app_of, found_of, kind_of, rows_of, rule_of};
-ghost use Rattle.node_sim.specs.CommandLine.{AsksFor, IsPlainLine, Names, alone, flag_in, node, program, relay, word_faults};
+ghost use Rattle.node_sim.specs.CommandLine.{AsksFor, IsPlainLine, Names, alone, flag_in, node, plain, program, prove, relay, run, word_faults, workers};
 ghost use Rattle.node_sim.specs.declared.fault.Fault.{Fault};
 ghost use Rattle.node_sim.specs.declared.fault.Fault.TheVariants.{Memory};
 ghost use Rattle.node_sim.specs.declared.words.Asked.TheVariants.{Refused};
@@ -85,47 +85,88 @@ fn node<'a>(alloc: Global) -> Arg<'a>
         .help("The number of the node, in decimal digits")
 }
 
+/// How many workers check.
+fn workers<'a>(alloc: Global) -> Arg<'a>
+    ensures rule { rule_of result ≡ workers }
+    ensures local { result.global ≡ false }
+{
+    Arg::new(alloc, "workers")
+        .long("workers")
+        .value_name("N")
+        .value_parser(value_parser!(u32).range(1..=2))
+        .default_value("1")
+        .help("How many workers check the items: 1 or 2")
+}
+
 /// The program's command, without those beneath it.
 fn alone<'a>(alloc: Global) -> Command<'a>
     ensures { app_of result ≡ alone }
 {
     Command::new(alloc, "node_sim")
         .about(
-            "Tells what signed evidence says of nodes. Reads lines of hexadecimal digits from standard input",
+            "Tells what signed evidence says of nodes. Reads lines from standard input: of a scenario for run, of hexadecimal digits for the others",
         )
         .subcommand_required(true)
         .arg_required_else_help(true)
+}
+
+/// A command with the flag alone.
+fn plain<'a>(alloc: Global, name: &'a str, about: &'a str) -> Result<Command<'a>, AllocError>
+    ensures { IfOk result (λ c. app_of c ≡ plain name.entry.now) }
+{
+    Command::new(alloc, name).about(about).arg(relay(alloc))
+}
+
+/// The command `prove`.
+fn prove<'a>(alloc: Global) -> Result<Command<'a>, AllocError>
+    ensures { IfOk result (λ c. app_of c ≡ prove) }
+{
+    Command::new(alloc, "prove")
+        .about("Writes a proof that the node misbehaved, or none. Two lines: a directory, a store")
+        .arg(node(alloc))?
+        .arg(relay(alloc))
+}
+
+/// The command `run`.
+fn run<'a>(alloc: Global) -> Result<Command<'a>, AllocError>
+    ensures { IfOk result (λ c. app_of c ≡ run) }
+{
+    Command::new(alloc, "run")
+        .about(
+            "Plays a scenario before its witnesses, and writes what each of them tells of each node. The lines of a scenario",
+        )
+        .arg(workers(alloc))?
+        .arg(relay(alloc))
 }
 
 /// The program's command.
 fn command<'a>(alloc: Global) -> Result<Command<'a>, AllocError>
     ensures { IfOk result (λ c. app_of c ≡ program) }
 {
-    let status = Command::new(alloc, "status")
-        .about(
-            "Writes what each node is: trusted, suspected or exposed. Two lines: a directory, a store",
-        )
-        .arg(relay(alloc))?;
-    let merge = Command::new(alloc, "merge")
-        .about(
-            "Writes the store of all items of stores. A line for the directory, and one for each store",
-        )
-        .arg(relay(alloc))?;
-    let prove = Command::new(alloc, "prove")
-        .about("Writes a proof that the node misbehaved, or none. Two lines: a directory, a store")
-        .arg(node(alloc))?
-        .arg(relay(alloc))?;
-    let check = Command::new(alloc, "check")
-        .about("Writes which node a proof exposes. Two lines: a directory, a proof")
-        .arg(relay(alloc))?;
+    let status = plain(
+        alloc,
+        "status",
+        "Writes what each node is: trusted, suspected or exposed. Two lines: a directory, a store",
+    )?;
+    let merge = plain(
+        alloc,
+        "merge",
+        "Writes the store of all items of stores. A line for the directory, and one for each store",
+    )?;
+    let check = plain(
+        alloc,
+        "check",
+        "Writes which node a proof exposes. Two lines: a directory, a proof",
+    )?;
     alone(alloc)
         .subcommand(status)?
         .subcommand(merge)?
-        .subcommand(prove)?
-        .subcommand(check)
+        .subcommand(prove(alloc)?)?
+        .subcommand(check)?
+        .subcommand(run(alloc)?)
 }
 
-/// The command of the name; none where it is unknown or NODE is missing, which clap has refused.
+/// The command of the name; none where it is unknown or its number is missing, which clap has refused.
 fn task_of(name: &str, options: &ArgMatches<'_>) -> Option<Task>
     ensures named { IfSome result (Names name.now (rows_of (found_of options.now))) }
     ensures only { (t : Task) → Names name.now (rows_of (found_of options.now)) t → result ≡ Some t }
@@ -138,6 +179,10 @@ fn task_of(name: &str, options: &ArgMatches<'_>) -> Option<Task>
             None => None,
         },
         "check" => Some(Task::Check),
+        "run" => match options.get_one::<u32>("workers") {
+            Some(workers) => Some(Task::Run(workers)),
+            None => None,
+        },
         _ => None,
     }
 }

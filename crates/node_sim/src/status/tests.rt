@@ -3,22 +3,28 @@
 use super::*;
 use crate::task::Task;
 use crate::testing::{equivocation, no_statements, outcome, unsigned};
+use std::sync::Wait;
+use std::thread::Threads;
 
 /// What is answered and written for an input.
-fn told(alloc: Global, input: &'static [u8]) -> (Result<(), Fault>, Vec<u8>) {
-    outcome(alloc, Task::Status, input)
+fn told<H: Threads + Wait + Sync>(
+    rt: &H,
+    alloc: Global,
+    input: &'static [u8],
+) -> (Result<(), Fault>, Vec<u8>) {
+    outcome(rt, alloc, Task::Status, input)
 }
 
 #[test]
 fn nodes_without_statements_are_trusted(rt: HostRuntime) {
-    let (answer, written) = told(rt.alloc(), no_statements());
+    let (answer, written) = told(&rt, rt.alloc(), no_statements());
     assert_eq!(rt; answer, Ok(()));
     assert_eq!(rt; written.as_slice(), b"1 trusted\n2 trusted\n".as_slice());
 }
 
 #[test]
 fn a_node_with_two_hashes_is_exposed(rt: HostRuntime) {
-    let (answer, written) = told(rt.alloc(), equivocation());
+    let (answer, written) = told(&rt, rt.alloc(), equivocation());
     assert_eq!(rt; answer, Ok(()));
     assert_eq!(rt; written.as_slice(), b"7 exposed\n".as_slice());
 }
@@ -40,7 +46,7 @@ fn refusals_are_told(rt: HostRuntime) {
         (unsigned(), Fault::BadSignature, "refused 49 BadSignature"),
     ];
     for (input, fault, text) in inputs {
-        let (answer, written) = told(rt.alloc(), input);
+        let (answer, written) = told(&rt, rt.alloc(), input);
         assert_eq!(rt; answer, Err(fault));
         assert!(rt; written.is_empty());
         let shown = format!(in rt.alloc(); "{fault}").expect(&rt, "memory");
