@@ -1,5 +1,5 @@
 -- What is known of the witnesses of a scenario.
-use Rattle.std.specs.Prelude.{◌≡◌, ℕ, List, All}
+use Rattle.std.specs.Prelude.{◌≡◌, ℕ, List}
 use Rattle.lms_sign.specs.declared.key.PublicKey.{PublicKey}
 use Rattle.replay_verifier.specs.Meaning.{Meaning}
 use Rattle.evidence_set.specs.ItemSets.{none}
