@@ -1,8 +1,7 @@
 -- Two checks of one item give one answer.
-use Rattle.std.proofs.Common.{◌≡◌, ◌⊎◌, ⊎_elim, inl, inr, ℕ, List, Option, Some, None, Result, Ok, Err, IfSome, refl, sym, ap, ◌∙◌, subst}
+use Rattle.std.proofs.Common.{◌≡◌, ◌⊎◌, ⊎_elim, inl, inr, ℕ, List, Option, Some, None, Ok, Err, IfSome, refl, sym, ap, ◌∙◌}
 use Rattle.lms_sign.specs.declared.key.PublicKey.{PublicKey}
 use Rattle.log_chain.specs.History.{unless}
-use Rattle.replay_verifier.specs.declared.verdict.Verdict.{Verdict}
 use Rattle.replay_verifier.specs.Meaning.{Meaning}
 use Rattle.item_forms.specs.declared.forms.Fields.{Fields}
 use Rattle.item_forms.specs.declared.forms.Fields.TheVariants as form
@@ -10,7 +9,7 @@ use Rattle.item_forms.specs.Pieces.{Piece}
 use Rattle.evidence_item.specs.declared.fault.ItemFault.{ItemFault}
 use Rattle.evidence_item.specs.declared.fault.ItemFault.TheVariants as fault
 use Rattle.evidence_item.specs.declared.findings.Findings.{Findings}
-use Rattle.evidence_item.specs.Checking.{AreFindings, Checked, IsChecked, IsFound}
+use Rattle.evidence_item.specs.Checking.{AreFindings, Checked, IsFound}
 use Rattle.evidence_item.specs.CheckingLaws.{FindingsAreOne, VerdictsAreOne}
 use Rattle.evidence_item.specs.Validity.{fault_of}
 use Rattle.witness_workers.specs.Checks.{AnswersAreOne, IsAnswer}
