@@ -133,7 +133,7 @@ fn run<'a>(alloc: Global) -> Result<Command<'a>, AllocError>
 {
     Command::new(alloc, "run")
         .about(
-            "Plays a scenario before its witnesses, and writes what each of them tells of each node. The lines of a scenario",
+            "Plays a scenario before its witnesses, and writes what each of them tells of each node. Lines: those of a scenario",
         )
         .arg(workers(alloc))?
         .arg(relay(alloc))
