@@ -20,7 +20,3 @@ mod directory;
 mod fault;
 pub mod laws;
 mod node;
-#[cfg(test)]
-mod store_tests;
-#[cfg(test)]
-mod tests;

@@ -29,5 +29,3 @@ mod node;
 mod ranges;
 mod receiving;
 mod signed_log;
-#[cfg(test)]
-mod tests;

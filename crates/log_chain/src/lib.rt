@@ -31,5 +31,3 @@ pub mod kind;
 pub mod laws;
 mod limits;
 mod secure_history;
-#[cfg(test)]
-mod tests;

@@ -26,8 +26,6 @@ pub mod input;
 pub mod laws;
 pub mod lines;
 pub mod merge;
-#[cfg(test)]
-mod node_tests;
 pub mod prove;
 pub mod report;
 pub mod scenario;

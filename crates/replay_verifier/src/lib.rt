@@ -31,6 +31,4 @@ mod receipt;
 mod replayer;
 mod replaying;
 mod standing;
-#[cfg(test)]
-mod tests;
 mod verdict;

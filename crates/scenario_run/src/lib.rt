@@ -23,6 +23,4 @@ mod fault;
 mod opening;
 mod running;
 mod taking;
-#[cfg(test)]
-mod tests;
 mod witness;

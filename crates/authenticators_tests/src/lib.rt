@@ -1,0 +1,7 @@
+//! Tests of the public calls of `authenticators`.
+#![tactic(auto)]
+
+#[cfg(test)]
+mod directories;
+#[cfg(test)]
+mod stores;

@@ -1,0 +1,202 @@
+use authenticators::{Authenticator, AuthenticatorStore, Directory, NodeId, statement_text};
+use lms_sign::{LmsType, OtsType, SecretKey};
+use log_chain::{ByteString, Hash};
+use std::alloc::Global;
+use std::test::Fail;
+
+/// A statement whose hash is 32 equal bytes and whose signature is one byte.
+fn statement(alloc: Global, node: u32, seq: u64, hash: u8, sig: u8) -> Result<Authenticator, Fail> {
+    Ok(Authenticator {
+        node: NodeId(node),
+        seq,
+        hash: Hash([hash; 32]),
+        sig: ByteString::from_slice(alloc, &[sig])?,
+    })
+}
+
+/// Whether the store says that the statement is new. It is inserted once, and memory is ample.
+fn insert(
+    alloc: Global,
+    store: &mut AuthenticatorStore,
+    (node, seq, hash, sig): (u32, u64, u8, u8),
+) -> Result<bool, Fail> {
+    Ok(store.insert(statement(alloc, node, seq, hash, sig)?)?)
+}
+
+/// Whether these are the statements of the slice, in this order.
+fn are(
+    alloc: Global,
+    found: &[Authenticator],
+    expected: &[(u32, u64, u8, u8)],
+) -> Result<bool, Fail> {
+    if found.len() != expected.len() {
+        return Ok(false);
+    }
+    for (x, (node, seq, hash, sig)) in found.iter().zip(expected) {
+        if *x != statement(alloc, *node, *seq, *hash, *sig)? {
+            return Ok(false);
+        }
+    }
+    Ok(true)
+}
+
+/// The key of a node: H5 and W8, with the node's number at the end of identifier and seed, which are zero before it.
+fn node_key(alloc: Global, node: u32) -> Result<SecretKey, Fail> {
+    let mut id = [0; 16];
+    id[12..].copy_from_slice(&node.to_be_bytes());
+    let mut seed = [0; 32];
+    seed[28..].copy_from_slice(&node.to_be_bytes());
+    let Ok(key) = SecretKey::make(alloc, LmsType::H5, OtsType::W8, id, seed) else {
+        return Err("a key")?;
+    };
+    Ok(key)
+}
+
+/// The node's statement of the number 5 and a hash of 32 equal bytes, signed with C of 32 zero bytes.
+fn signed(alloc: Global, node: u32, key: &mut SecretKey, hash: u8) -> Result<Authenticator, Fail> {
+    let hash = Hash([hash; 32]);
+    let Ok(sig) = key.sign(alloc, &statement_text(5, hash), [0; 32]) else {
+        return Err("a signature")?;
+    };
+    Ok(Authenticator {
+        node: NodeId(node),
+        seq: 5,
+        hash,
+        sig: ByteString::from_vec(sig),
+    })
+}
+
+/// A store of two statements that node 1 signed: its number 5 with a hash of bytes 8, and with one of bytes 7.
+fn store_of_two(alloc: Global) -> Result<AuthenticatorStore, Fail> {
+    let mut key = node_key(alloc, 1)?;
+    let first = signed(alloc, 1, &mut key, 8)?;
+    let second = signed(alloc, 1, &mut key, 7)?;
+    let mut store = AuthenticatorStore::new(alloc);
+    if store.is_empty() && store.insert(first)? && store.insert(second)? && store.len() == 2 {
+        return Ok(store);
+    }
+    Err("both are new")?
+}
+
+/// The hashes of two conflicting statements of node 1, where both are valid.
+fn valid_conflict(directory: &Directory, store: &AuthenticatorStore) -> Result<(Hash, Hash), Fail> {
+    match store.conflict(NodeId(1)) {
+        Some((a, b)) if store.as_slice().iter().all(|s| s.is_valid(directory)) => {
+            Ok((a.hash, b.hash))
+        }
+        _ => Err("two valid statements")?,
+    }
+}
+
+#[test]
+fn two_signed_hashes_of_one_number_are_a_conflict(rt: HostRuntime) -> Result<(), Fail> {
+    let mut directory = Directory::new(rt.alloc());
+    directory.add(NodeId(1), node_key(rt.alloc(), 1)?.public_key())?;
+    let store = store_of_two(rt.alloc())?;
+    let hashes = valid_conflict(&directory, &store)?;
+    assert!(rt; hashes == (Hash([7; 32]), Hash([8; 32])));
+    Ok(())
+}
+
+#[test]
+fn two_signatures_of_one_hash_are_no_conflict(rt: HostRuntime) -> Result<(), Fail> {
+    let mut store = AuthenticatorStore::new(rt.alloc());
+    assert!(rt; insert(rt.alloc(), &mut store, (1, 5, 7, 1))?);
+    assert!(rt; insert(rt.alloc(), &mut store, (1, 5, 7, 0))?);
+    assert!(rt; !insert(rt.alloc(), &mut store, (1, 5, 7, 1))?);
+    assert!(rt; store.conflict(NodeId(1)).is_none());
+    let found = store.at(NodeId(1), 5);
+    assert!(rt; are(rt.alloc(), found, &[(1, 5, 7, 0), (1, 5, 7, 1)])?);
+    Ok(())
+}
+
+#[test]
+fn two_hashes_of_one_number_are_a_conflict(rt: HostRuntime) -> Result<(), Fail> {
+    let mut store = AuthenticatorStore::new(rt.alloc());
+    assert!(rt; insert(rt.alloc(), &mut store, (1, 5, 8, 0))?);
+    assert!(rt; insert(rt.alloc(), &mut store, (1, 5, 7, 0))?);
+    assert!(rt; insert(rt.alloc(), &mut store, (2, 5, 9, 0))?);
+    let Some((a, b)) = store.conflict(NodeId(1)) else {
+        return Err("a conflict")?;
+    };
+    assert!(rt; *a == statement(rt.alloc(), 1, 5, 7, 0)?);
+    assert!(rt; *b == statement(rt.alloc(), 1, 5, 8, 0)?);
+    assert!(rt; store.conflict(NodeId(2)).is_none());
+    assert!(rt; store.conflict(NodeId(3)).is_none());
+    Ok(())
+}
+
+#[test]
+fn statements_are_found_by_number(rt: HostRuntime) -> Result<(), Fail> {
+    let mut store = AuthenticatorStore::new(rt.alloc());
+    for one in [
+        (2, 7, 1, 3),
+        (1, u64::MAX, 2, 0),
+        (2, 4, 1, 0),
+        (2, 7, 1, 2),
+        (3, 5, 0, 0),
+        (2, 9, 6, 0),
+        (2, 7, 0, 9),
+        (2, 0, 5, 0),
+    ] {
+        assert!(rt; insert(rt.alloc(), &mut store, one)?);
+    }
+    let sevens = [(2, 7, 0, 9), (2, 7, 1, 2), (2, 7, 1, 3)];
+    let four_to_nine = [
+        (2, 4, 1, 0),
+        (2, 7, 0, 9),
+        (2, 7, 1, 2),
+        (2, 7, 1, 3),
+        (2, 9, 6, 0),
+    ];
+    assert!(rt; are(rt.alloc(), store.at(NodeId(2), 7), &sevens)?);
+    assert!(rt; are(rt.alloc(), store.range(NodeId(2), 5, 8), &sevens)?);
+    assert!(rt; are(rt.alloc(), store.range(NodeId(2), 4, 9), &four_to_nine)?);
+    assert!(rt;
+        are(
+            rt.alloc(),
+            store.at(NodeId(1), u64::MAX),
+            &[(1, u64::MAX, 2, 0)]
+        )?
+    );
+    assert!(rt; store.range(NodeId(2), 0, u64::MAX).len() == 6);
+    assert!(rt; store.range(NodeId(2), 9, 4).is_empty());
+    assert!(rt; store.at(NodeId(2), 5).is_empty());
+    assert!(rt; store.range(NodeId(4), 0, u64::MAX).is_empty());
+    Ok(())
+}
+
+/// `count` statements of node 1, of the numbers from 3 on, each twice and the last first.
+fn statements_from_three(alloc: Global, count: u8) -> Result<Vec<Authenticator>, Fail> {
+    let mut given = Vec::new(alloc);
+    for place in (0..count).rev() {
+        let seq = 3 + place as u64;
+        given.push(statement(alloc, 1, seq, 0, 0)?)?;
+        given.push(statement(alloc, 1, seq, 0, 0)?)?;
+    }
+    Ok(given)
+}
+
+/// How many statements are held after these were put in at once, where those of the numbers 0 to 4 were held before; none
+/// where they do not stand one a number, from 0 on.
+fn held_with(alloc: Global, count: u8) -> Result<Option<usize>, Fail> {
+    let mut store = AuthenticatorStore::new(alloc);
+    for seq in 0..5 {
+        insert(alloc, &mut store, (1, seq, 0, 0))?;
+    }
+    store.insert_all(statements_from_three(alloc, count)?)?;
+    let held = store.as_slice();
+    let in_order = held
+        .iter()
+        .enumerate()
+        .all(|(place, s)| s.seq == place as u64);
+    Ok(in_order.then_some(held.len()))
+}
+
+#[test]
+fn statements_are_put_in_at_once(rt: HostRuntime) -> Result<(), Fail> {
+    assert_eq!(rt; held_with(rt.alloc(), 0)?, Some(5));
+    assert_eq!(rt; held_with(rt.alloc(), 3)?, Some(6));
+    assert_eq!(rt; held_with(rt.alloc(), 12)?, Some(15));
+    Ok(())
+}

@@ -1,0 +1,273 @@
+//! Containers of two signed statements, as they are and with faults.
+
+ghost use Rattle.std.specs.Prelude.{◌<◌};
+
+use authenticators::{Authenticator, Directory, NodeId, statement_text};
+use containers::{Cause, ImportFault, Reading, read_all, write_all};
+use evidence_item::Item;
+use lms_sign::{LmsType, OtsType, SecretKey};
+use log_chain::{ByteString, Hash};
+use ref_programs::Tally;
+use std::alloc::Global;
+use std::test::Fail;
+
+const MAGIC: [u8; 8] = *b"PRSTORE1";
+
+/// Node 1 with its key, which makes short work of signing.
+#[derive(Drop)]
+struct Signer {
+    directory: Directory,
+    key: SecretKey,
+}
+
+fn make_signer(alloc: Global) -> Result<Signer, Fail> {
+    let key = SecretKey::make(alloc, LmsType::H5, OtsType::W4, [1; 16], [2; 32])?;
+    let mut directory = Directory::new(alloc);
+    directory.add(NodeId(1), key.public_key())?;
+    Ok(Signer { directory, key })
+}
+
+fn statement(alloc: Global, signer: &mut Signer, seq: u64) -> Result<Item, Fail> {
+    let hash = Hash([0; 32]);
+    let sig = signer.key.sign(alloc, &statement_text(seq, hash), [9; 32])?;
+    Ok(Item::auth(Authenticator {
+        node: NodeId(1),
+        seq,
+        hash,
+        sig: ByteString::from_vec(sig),
+    })?)
+}
+
+/// The container of the statements of these two numbers.
+fn container(alloc: Global, signer: &mut Signer, seqs: [u64; 2]) -> Result<Vec<u8>, Fail> {
+    let mut items = Vec::new(alloc);
+    for seq in seqs {
+        items.push(statement(alloc, signer, seq)?)?;
+    }
+    Ok(write_all(alloc, MAGIC, &items)?)
+}
+
+fn at(item: u64, cause: Cause) -> Option<ImportFault> {
+    Some(ImportFault { item, cause })
+}
+
+/// Why the text is refused, if it is.
+fn refusal(alloc: Global, directory: &Directory, text: &[u8]) -> Option<ImportFault> {
+    match read_all(alloc, &Tally, directory, MAGIC, text) {
+        Ok(_) => None,
+        Err(fault) => Some(fault),
+    }
+}
+
+/// The same of a container of statements of these numbers.
+fn refusal_of(alloc: Global, seqs: [u64; 2]) -> Result<Option<ImportFault>, Fail> {
+    let mut signer = make_signer(alloc)?;
+    let text = container(alloc, &mut signer, seqs)?;
+    Ok(refusal(alloc, &signer.directory, &text))
+}
+
+/// The same where one item stands twice.
+fn refusal_of_twice(alloc: Global) -> Result<Option<ImportFault>, Fail> {
+    let mut signer = make_signer(alloc)?;
+    let item = statement(alloc, &mut signer, 5)?;
+    let copy = item.try_clone(alloc)?;
+    let text = write_all(alloc, MAGIC, &[item, copy])?;
+    Ok(refusal(alloc, &signer.directory, &text))
+}
+
+#[test]
+fn items_ascend(rt: HostRuntime) -> Result<(), Fail> {
+    assert_eq!(rt; refusal_of(rt.alloc(), [5, 6])?, None);
+    assert_eq!(rt; refusal_of(rt.alloc(), [6, 5])?, at(1, Cause::NotAscending));
+    assert_eq!(rt; refusal_of_twice(rt.alloc())?, at(1, Cause::NotAscending));
+    Ok(())
+}
+
+/// The same of an item that is not signed.
+fn refusal_of_unsigned(alloc: Global) -> Result<Option<ImportFault>, Fail> {
+    let signer = make_signer(alloc)?;
+    let item = Item::auth(Authenticator {
+        node: NodeId(1),
+        seq: 5,
+        hash: Hash([0; 32]),
+        sig: ByteString::from_vec(Vec::new(alloc)),
+    })?;
+    let text = write_all(alloc, MAGIC, &[item])?;
+    Ok(refusal(alloc, &signer.directory, &text))
+}
+
+#[test]
+fn items_are_checked(rt: HostRuntime) -> Result<(), Fail> {
+    assert_eq!(rt;
+        refusal_of_unsigned(rt.alloc())?,
+        at(0, Cause::BadSignature)
+    );
+    Ok(())
+}
+
+/// The bytes up to this one.
+fn front(text: &[u8], len: usize) -> &[u8] {
+    let (front, _) = text.split_at(len.min(text.len()));
+    front
+}
+
+/// The text with another byte at the place.
+fn changed(alloc: Global, text: &[u8], place: usize, byte: u8) -> Result<Vec<u8>, Fail> {
+    let mut copy = Vec::from_slice(alloc, text)?;
+    if let Some(old) = copy.get_mut(place) {
+        *old = byte;
+    }
+    Ok(copy)
+}
+
+fn refusal_of_changed(
+    alloc: Global,
+    directory: &Directory,
+    text: &[u8],
+    place: usize,
+    byte: u8,
+) -> Result<Option<ImportFault>, Fail> {
+    let copy = changed(alloc, text, place, byte)?;
+    Ok(refusal(alloc, directory, &copy))
+}
+
+/// Why the text is refused with a byte more.
+fn refusal_of_longer(
+    alloc: Global,
+    directory: &Directory,
+    text: &[u8],
+) -> Result<Option<ImportFault>, Fail> {
+    let mut copy = Vec::from_slice(alloc, text)?;
+    copy.push(0)?;
+    Ok(refusal(alloc, directory, &copy))
+}
+
+/// Why a container of two items is refused: with 7 and 15 of its bytes, under another magic, with one item, with a first length
+/// above the limit, with a tag of the second item that there is not, and with a byte more.
+fn faults(alloc: Global) -> Result<[Option<ImportFault>; 7], Fail> {
+    let mut signer = make_signer(alloc)?;
+    let text = container(alloc, &mut signer, [5, 6])?;
+    let directory = &signer.directory;
+    let second = 8 + text.len() / 2;
+    let other_magic = refusal_of_changed(alloc, directory, &text, 7, b'2')?;
+    let long = refusal_of_changed(alloc, directory, &text, 16, 0x21)?;
+    let other_tag = refusal_of_changed(alloc, directory, &text, second + 4, 9)?;
+    let longer = refusal_of_longer(alloc, directory, &text)?;
+    Ok([
+        refusal(alloc, directory, front(&text, 7)),
+        refusal(alloc, directory, front(&text, 15)),
+        other_magic,
+        refusal(alloc, directory, front(&text, second)),
+        long,
+        other_tag,
+        longer,
+    ])
+}
+
+#[test]
+fn each_fault_is_told_at_its_item(rt: HostRuntime) -> Result<(), Fail> {
+    let told = faults(rt.alloc())?;
+    assert_eq!(rt; told[0], at(0, Cause::Truncated));
+    assert_eq!(rt; told[1], at(0, Cause::Truncated));
+    assert_eq!(rt; told[2], at(0, Cause::BadMagic));
+    assert_eq!(rt; told[3], at(1, Cause::Truncated));
+    assert_eq!(rt; told[4], at(0, Cause::TooLong));
+    assert_eq!(rt; told[5], at(1, Cause::BadTag));
+    assert_eq!(rt; told[6], at(2, Cause::Trailing));
+    Ok(())
+}
+
+/// Whether the text is told as cut off at so many bytes: at each of the first forty, and then at every hundredth.
+fn is_cut_off(alloc: Global) -> Result<bool, Fail> {
+    let mut signer = make_signer(alloc)?;
+    let text = container(alloc, &mut signer, [5, 6])?;
+    for len in 0..text.len() {
+        if len > 40 && len % 100 != 0 {
+            continue;
+        }
+        match refusal(alloc, &signer.directory, front(&text, len)) {
+            Some(fault) if fault.cause == Cause::Truncated => {}
+            _ => return Ok(false),
+        }
+    }
+    Ok(true)
+}
+
+#[test]
+fn a_container_that_is_cut_off_is_truncated(rt: HostRuntime) -> Result<(), Fail> {
+    assert!(rt; is_cut_off(rt.alloc())?);
+    Ok(())
+}
+
+/// How many items are read of a text that is fed in pieces of this size.
+fn count_in_pieces(
+    alloc: Global,
+    directory: &Directory,
+    text: &[u8],
+    size: usize,
+) -> Result<usize, ImportFault>
+    requires { 0 < size }
+{
+    let mut reading: Reading<Tally> = Reading::new(alloc, MAGIC);
+    for piece in text.chunks(size) {
+        reading.feed(&Tally, directory, piece)?;
+    }
+    let items = reading.finish()?;
+    Ok(items.len())
+}
+
+fn counts(alloc: Global) -> Result<[Result<usize, ImportFault>; 3], Fail> {
+    let mut signer = make_signer(alloc)?;
+    let text = container(alloc, &mut signer, [5, 6])?;
+    let directory = &signer.directory;
+    Ok([
+        count_in_pieces(alloc, directory, &text, 1),
+        count_in_pieces(alloc, directory, &text, 7),
+        count_in_pieces(alloc, directory, &text, 4096),
+    ])
+}
+
+#[test]
+fn pieces_are_read_as_the_whole(rt: HostRuntime) -> Result<(), Fail> {
+    assert_eq!(rt; counts(rt.alloc())?, [Ok(2), Ok(2), Ok(2)]);
+    Ok(())
+}
+
+/// The answers to a piece that is at fault, and to one more.
+fn answers(alloc: Global) -> Result<[Result<(), ImportFault>; 2], Fail> {
+    let signer = make_signer(alloc)?;
+    let mut reading: Reading<Tally> = Reading::new(alloc, MAGIC);
+    let first = reading.feed(&Tally, &signer.directory, b"PRSTORE2");
+    let second = reading.feed(&Tally, &signer.directory, &[]);
+    Ok([first, second])
+}
+
+#[test]
+fn a_refusal_stays(rt: HostRuntime) -> Result<(), Fail> {
+    let bad = ImportFault {
+        item: 0,
+        cause: Cause::BadMagic,
+    };
+    assert_eq!(rt; answers(rt.alloc())?, [Err(bad), Err(bad)]);
+    let printed = format!(in rt.alloc(); "{bad}")?;
+    assert_eq!(rt;
+        printed.as_str(),
+        "item 0: the bytes do not begin as a container"
+    );
+    Ok(())
+}
+
+/// Whether what is read of a container is written as that container again.
+fn is_written_again(alloc: Global) -> Result<bool, Fail> {
+    let mut signer = make_signer(alloc)?;
+    let text = container(alloc, &mut signer, [5, 6])?;
+    let items = read_all(alloc, &Tally, &signer.directory, MAGIC, &text)?;
+    let again = write_all(alloc, MAGIC, &items)?;
+    Ok(again.as_slice() == text.as_slice())
+}
+
+#[test]
+fn what_is_read_is_written_again(rt: HostRuntime) -> Result<(), Fail> {
+    assert!(rt; is_written_again(rt.alloc())?);
+    Ok(())
+}

@@ -1,0 +1,166 @@
+//! What checking finds of a valid item, and what is found again where only item and verdict are left.
+
+use crate::samples::{
+    Idle, Nodes, make_nodes, segment_of, unsigned_message, valid_ack, valid_auth, valid_send,
+};
+use authenticators::Directory;
+use evidence_item::{Checked, Findings, Form, Item, check_item};
+use log_chain::Hash;
+use replay_verifier::{Reason, Verdict};
+use std::alloc::Global;
+use std::test::Fail;
+
+/// The hash of the SEND entry of node 1's message.
+fn sent_hash(alloc: Global) -> Result<Hash, Fail> {
+    let message = unsigned_message(alloc)?;
+    Ok(message.signed_hash())
+}
+
+/// What checking told of a segment: the verdict, how many hashes, and what three entries quote genuinely.
+#[derive(Clone, Copy, Debug, PartialEq, Eq)]
+struct Told {
+    verdict: Option<Verdict>,
+    hashes: usize,
+    quotes: [Option<Hash>; 3],
+}
+
+fn told_of(checked: &Checked<Idle>) -> Option<Told> {
+    let Some(Findings::Segment(found)) = checked.findings() else {
+        return None;
+    };
+    let [first, second, third] = found.quotes.as_slice() else {
+        return None;
+    };
+    Some(Told {
+        verdict: checked.verdict().copied(),
+        hashes: found.hashes.as_slice().len(),
+        quotes: [*first, *second, *third],
+    })
+}
+
+#[test]
+fn a_segment_that_deviates_is_valid(rt: HostRuntime) -> Result<(), Fail> {
+    let alloc = rt.alloc();
+    let mut nodes = make_nodes(alloc)?;
+    let item = segment_of(alloc, &mut nodes)?;
+    let checked = check_item(alloc, &Idle, &nodes.directory, item)?;
+    let verdict = Verdict::Deviates {
+        at: 1,
+        reason: Reason::BadReceipt,
+    };
+    let expected = Told {
+        verdict: Some(verdict),
+        hashes: 3,
+        quotes: [None, None, Some(sent_hash(alloc)?)],
+    };
+    assert_eq!(rt; told_of(&checked), Some(expected));
+    let copy = checked.try_clone(alloc)?;
+    assert_eq!(rt; told_of(&copy), Some(expected));
+    Ok(())
+}
+
+/// What is found again, where only item and verdict are left.
+fn found_again(alloc: Global, nodes: &mut Nodes) -> Result<Option<Told>, Fail> {
+    let item = segment_of(alloc, nodes)?;
+    let checked = check_item(alloc, &Idle, &nodes.directory, item)?;
+    let verdict = checked.verdict().copied();
+    let mut bare = Checked::from_parts(checked.into_item(), verdict);
+    bare.find(alloc, &nodes.directory)?;
+    Ok(told_of(&bare))
+}
+
+#[test]
+fn what_is_missing_is_found_again(rt: HostRuntime) -> Result<(), Fail> {
+    let alloc = rt.alloc();
+    let mut nodes = make_nodes(alloc)?;
+    let again = found_again(alloc, &mut nodes)?.ok_or("findings")?;
+    assert_eq!(rt; again.hashes, 3);
+    assert_eq!(rt; again.quotes, [None, None, Some(sent_hash(alloc)?)]);
+    Ok(())
+}
+
+/// The hashes that were found of a message, or of an acknowledged one.
+#[derive(Clone, Copy, Debug, PartialEq, Eq)]
+struct Hashes {
+    sent: Hash,
+    received: Option<Hash>,
+}
+
+fn hashes_of(checked: &Checked<Idle>) -> Option<Hashes> {
+    match checked.findings() {
+        Some(Findings::Send(sent)) => Some(Hashes {
+            sent: *sent,
+            received: None,
+        }),
+        Some(Findings::Ack { sent, received }) => Some(Hashes {
+            sent: *sent,
+            received: Some(*received),
+        }),
+        Some(Findings::Segment(_)) | None => None,
+    }
+}
+
+/// The hashes that checking found, and those that are found again.
+fn found_twice(
+    alloc: Global,
+    directory: &Directory,
+    item: Item,
+) -> Result<[Option<Hashes>; 2], Fail> {
+    let checked = check_item(alloc, &Idle, directory, item)?;
+    let first = hashes_of(&checked);
+    let verdict = checked.verdict().copied();
+    let mut bare = Checked::from_parts(checked.into_item(), verdict);
+    bare.find(alloc, directory)?;
+    Ok([first, hashes_of(&bare)])
+}
+
+/// The hash of the RECV entry of an acknowledged message.
+fn received_hash(item: &Item) -> Option<Hash> {
+    match item.form() {
+        Form::Ack(ack) => Some(ack.message.received_hash(ack.seq, ack.prev)),
+        _ => None,
+    }
+}
+
+#[test]
+fn the_statement_of_a_message_is_found(rt: HostRuntime) -> Result<(), Fail> {
+    let alloc = rt.alloc();
+    let mut nodes = make_nodes(alloc)?;
+    let item = valid_send(alloc, &mut nodes)?;
+    let hashes = Hashes {
+        sent: sent_hash(alloc)?,
+        received: None,
+    };
+    assert_eq!(rt;
+        found_twice(alloc, &nodes.directory, item)?,
+        [Some(hashes); 2]
+    );
+    Ok(())
+}
+
+#[test]
+fn both_statements_of_an_acknowledged_message_are_found(rt: HostRuntime) -> Result<(), Fail> {
+    let alloc = rt.alloc();
+    let mut nodes = make_nodes(alloc)?;
+    let item = valid_ack(alloc, &mut nodes)?;
+    let received = received_hash(&item);
+    let hashes = Hashes {
+        sent: sent_hash(alloc)?,
+        received,
+    };
+    assert!(rt; received.is_some());
+    assert_eq!(rt;
+        found_twice(alloc, &nodes.directory, item)?,
+        [Some(hashes); 2]
+    );
+    Ok(())
+}
+
+#[test]
+fn nothing_is_found_of_a_statement(rt: HostRuntime) -> Result<(), Fail> {
+    let alloc = rt.alloc();
+    let mut nodes = make_nodes(alloc)?;
+    let item = valid_auth(alloc, &mut nodes)?;
+    assert_eq!(rt; found_twice(alloc, &nodes.directory, item)?, [None; 2]);
+    Ok(())
+}

@@ -1,0 +1,9 @@
+//! Tests of the public calls of `evidence_item`.
+#![tactic(auto)]
+
+#[cfg(test)]
+mod checking;
+#[cfg(test)]
+mod finding;
+#[cfg(test)]
+mod samples;

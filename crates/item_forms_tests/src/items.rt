@@ -1,0 +1,325 @@
+//! Values from outside, and each public call once on its happy path.
+
+use item_forms::{
+    Authenticator, ByteString, DecodeFault, Entry, Form, Group, Hash, Item, Message, NodeId,
+    Statement, TooLong,
+};
+use log_chain::{FieldReader, FieldWriter};
+use std::alloc::Global;
+use std::cmp::Ordering;
+use std::test::Fail;
+
+/// The statement of node 1 of number 5 and a hash of zeros, with an empty signature.
+fn auth_text() -> [u8; 49] {
+    let mut text = [0u8; 49];
+    text[0] = 1;
+    text[4] = 1;
+    text[12] = 5;
+    text
+}
+
+/// The number of the refusal, or 0 where the bytes are an item.
+fn refusal(alloc: Global, bytes: &[u8]) -> u8 {
+    match Item::decode(alloc, bytes) {
+        Ok(_) => 0,
+        Err(fault) => fault.number(),
+    }
+}
+
+/// The refusal of all bytes but the last.
+fn refusal_of_front(alloc: Global, bytes: &[u8]) -> u8 {
+    match bytes {
+        [front @ .., _] => refusal(alloc, front),
+        [] => 0,
+    }
+}
+
+/// Whether the text is an item's, and is written as it was.
+fn is_written_again(alloc: Global, text: &[u8]) -> Result<bool, Fail> {
+    let item = Item::decode(alloc, text)?;
+    let again = item.encode(alloc)?;
+    Ok(item.encoded_len() == text.len() && again.as_slice() == text)
+}
+
+/// The refusals of the text with a byte more, with a byte less, under tag 6, and with a signature of 9,325 bytes.
+fn refusals(alloc: Global) -> [u8; 4] {
+    let text = auth_text();
+    let mut longer = [0u8; 50];
+    longer[..49].copy_from_slice(&text);
+    let mut other_tag = text;
+    other_tag[0] = 6;
+    let mut long_signature = text;
+    long_signature[47] = 0x24;
+    long_signature[48] = 0x6d;
+    [
+        refusal(alloc, &longer),
+        refusal_of_front(alloc, &text),
+        refusal(alloc, &other_tag),
+        refusal(alloc, &long_signature),
+    ]
+}
+
+#[test]
+fn a_statement_has_its_text(rt: HostRuntime) -> Result<(), Fail> {
+    assert!(rt; is_written_again(rt.alloc(), &auth_text())?);
+    assert_eq!(rt; refusals(rt.alloc()), [43, 40, 41, 42]);
+    assert_eq!(rt; refusal(rt.alloc(), &[]), 40);
+    Ok(())
+}
+
+fn signature(alloc: Global) -> Result<ByteString, Fail> {
+    Ok(ByteString::from_slice(alloc, &[9, 8, 7])?)
+}
+
+fn statement(alloc: Global, seq: u64) -> Result<Statement, Fail> {
+    let sig = signature(alloc)?;
+    Ok(Statement {
+        seq,
+        hash: Hash([3; 32]),
+        sig,
+    })
+}
+
+fn message(alloc: Global, seq: u64) -> Result<Message, Fail> {
+    let sig = signature(alloc)?;
+    let payload = ByteString::from_slice(alloc, b"hello")?;
+    Ok(Message {
+        from: NodeId(1),
+        to: NodeId(2),
+        seq,
+        prev: Hash([4; 32]),
+        sig,
+        payload,
+    })
+}
+
+/// Two entries, of this number and the next.
+fn entries(alloc: Global, seq: u32) -> Result<Vec<Entry>, Fail> {
+    let mut entries = Vec::new(alloc);
+    for place in 0..2u64 {
+        let content = ByteString::from_slice(alloc, b"content")?;
+        entries.push(Entry {
+            seq: seq as u64 + place,
+            kind: 3,
+            content,
+        })?;
+    }
+    Ok(entries)
+}
+
+fn auth(alloc: Global, seq: u32) -> Result<Item, Fail> {
+    let sig = signature(alloc)?;
+    Ok(Item::auth(Authenticator {
+        node: NodeId(1),
+        seq: seq as u64,
+        hash: Hash([3; 32]),
+        sig,
+    })?)
+}
+
+/// An item of the form, with this number in it; under 6 an audit challenge from the beginning of the log.
+fn item(alloc: Global, form: u8, seq: u32) -> Result<Item, Fail> {
+    let number = seq as u64;
+    match form {
+        1 => auth(alloc, seq),
+        2 => {
+            let entries = entries(alloc, seq)?;
+            Ok(Item::segment(NodeId(1), Hash([2; 32]), entries, signature(alloc)?)?)
+        }
+        3 => {
+            let first = statement(alloc, number)?;
+            Ok(Item::audit(NodeId(1), Some(first), statement(alloc, 400)?)?)
+        }
+        4 => Ok(Item::send(message(alloc, number)?)?),
+        5 => {
+            let message = message(alloc, 6)?;
+            Ok(Item::ack(message, number, Hash([5; 32]), signature(alloc)?)?)
+        }
+        _ => Ok(Item::audit(NodeId(1), None, statement(alloc, number)?)?),
+    }
+}
+
+/// Whether each proper prefix of the item's text is told as cut off.
+fn is_cut_off(alloc: Global, form: u8) -> Result<bool, Fail> {
+    let text = item(alloc, form, 5)?.encode(alloc)?;
+    for len in 0..text.len() {
+        if refusal(alloc, &text[..len]) != 40 {
+            return Ok(false);
+        }
+    }
+    Ok(true)
+}
+
+#[test]
+fn an_item_that_is_cut_off_is_truncated(rt: HostRuntime) -> Result<(), Fail> {
+    for form in 1..7 {
+        assert!(rt; is_cut_off(rt.alloc(), form)?, "form {form}");
+    }
+    Ok(())
+}
+
+/// The text of the statement of number 1, and behind it that of the item of the form.
+fn two_texts(alloc: Global, form: u8) -> Result<Vec<u8>, Fail> {
+    let mut writer = FieldWriter::new(alloc);
+    auth(alloc, 1)?.encode_to(&mut writer)?;
+    item(alloc, form, 5)?.encode_to(&mut writer)?;
+    Ok(writer.finish())
+}
+
+/// Whether the item that is read next is that of the form and the number.
+fn reads(alloc: Global, reader: &mut FieldReader, form: u8, seq: u32) -> Result<bool, Fail> {
+    let read = Item::read(alloc, reader)?;
+    Ok(read == item(alloc, form, seq)?)
+}
+
+fn is_read_behind_another(alloc: Global, form: u8) -> Result<bool, Fail> {
+    let text = two_texts(alloc, form)?;
+    let mut reader = FieldReader::new(&text);
+    let first = reads(alloc, &mut reader, 1, 1)?;
+    let second = reads(alloc, &mut reader, form, 5)?;
+    Ok(first && second && reader.left() == 0)
+}
+
+fn is_copied(alloc: Global, form: u8) -> Result<bool, Fail> {
+    let item = item(alloc, form, 5)?;
+    Ok(item.try_clone(alloc)? == item)
+}
+
+#[test]
+fn items_are_read_one_behind_the_other_and_copied(rt: HostRuntime) -> Result<(), Fail> {
+    for form in 1..7 {
+        assert!(rt; is_read_behind_another(rt.alloc(), form)?, "form {form}");
+        assert!(rt; is_copied(rt.alloc(), form)?, "form {form}");
+    }
+    Ok(())
+}
+
+fn tag(form: Form) -> u8 {
+    match form {
+        Form::Auth(_) => 1,
+        Form::Segment(_) => 2,
+        Form::Audit(_) => 3,
+        Form::Send(_) => 4,
+        Form::Ack(_) => 5,
+    }
+}
+
+/// Whether two items are ordered as their texts are, and equal as they are; and whether the first byte names the form.
+fn is_ordered(alloc: Global, one: (u8, u32), other: (u8, u32)) -> Result<bool, Fail> {
+    let a = item(alloc, one.0, one.1)?;
+    let b = item(alloc, other.0, other.1)?;
+    let a_text = a.encode(alloc)?;
+    let b_text = b.encode(alloc)?;
+    let order = a_text.as_slice().cmp(b_text.as_slice());
+    let equal = a_text.as_slice() == b_text.as_slice();
+    Ok(a.cmp(&b) == order && (a == b) == equal && a_text.first() == Some(&tag(a.form())))
+}
+
+#[test]
+fn items_are_ordered_as_their_texts(rt: HostRuntime) -> Result<(), Fail> {
+    for one in 1..7 {
+        for other in 1..7 {
+            assert!(rt;
+                is_ordered(rt.alloc(), (one, 5), (other, 5))?,
+                "{one} and {other}"
+            );
+            assert!(rt;
+                is_ordered(rt.alloc(), (one, 5), (other, 300))?,
+                "{one} and {other}"
+            );
+        }
+    }
+    Ok(())
+}
+
+/// Where the item of the form stands beside a group, which its tag tells and a node or a message of this number.
+fn place(alloc: Global, form: u8, tag: u8, number: u32) -> Result<Ordering, Fail> {
+    let item = item(alloc, form, 5)?;
+    let message = message(alloc, number as u64)?;
+    let group = match tag {
+        2 => Group::Segments(NodeId(number)),
+        3 => Group::AuditChallenges(NodeId(number)),
+        4 => Group::SendChallenges,
+        _ => Group::Acknowledgements(&message),
+    };
+    Ok(item.cmp_group(&group))
+}
+
+fn places(alloc: Global, tag: u8, number: u32) -> Result<[Ordering; 6], Fail> {
+    Ok([
+        place(alloc, 1, tag, number)?,
+        place(alloc, 2, tag, number)?,
+        place(alloc, 3, tag, number)?,
+        place(alloc, 4, tag, number)?,
+        place(alloc, 5, tag, number)?,
+        place(alloc, 6, tag, number)?,
+    ])
+}
+
+#[test]
+fn items_stand_before_in_or_behind_a_group(rt: HostRuntime) -> Result<(), Fail> {
+    let (less, equal, greater) = (Ordering::Less, Ordering::Equal, Ordering::Greater);
+    let segments = [less, equal, greater, greater, greater, greater];
+    assert_eq!(rt; places(rt.alloc(), 2, 1)?, segments);
+    let audits = [less, less, equal, greater, greater, equal];
+    assert_eq!(rt; places(rt.alloc(), 3, 1)?, audits);
+    let sends = [less, less, less, equal, greater, less];
+    assert_eq!(rt; places(rt.alloc(), 4, 1)?, sends);
+    let acknowledgements = [less, less, less, less, equal, less];
+    assert_eq!(rt; places(rt.alloc(), 5, 6)?, acknowledgements);
+    assert_eq!(rt; place(rt.alloc(), 2, 2, 0)?, greater);
+    assert_eq!(rt; place(rt.alloc(), 2, 2, 2)?, less);
+    assert_eq!(rt; place(rt.alloc(), 5, 5, 5)?, greater);
+    assert_eq!(rt; place(rt.alloc(), 5, 5, 7)?, less);
+    Ok(())
+}
+
+/// The refusal of an item's text in which these bytes stand from the place on.
+fn changed(alloc: Global, form: u8, place: u8, bytes: &[u8]) -> Result<u8, Fail> {
+    let mut text = item(alloc, form, 5)?.encode(alloc)?;
+    let start = place as usize;
+    let end = start + bytes.len();
+    if end > text.len() {
+        return Ok(0);
+    }
+    text[start..end].copy_from_slice(bytes);
+    Ok(refusal(alloc, &text))
+}
+
+#[test]
+fn a_flag_and_a_count_have_their_limits(rt: HostRuntime) -> Result<(), Fail> {
+    assert_eq!(rt; changed(rt.alloc(), 3, 5, &[2])?, 41);
+    assert_eq!(rt; changed(rt.alloc(), 2, 37, &[0, 0, 16, 1])?, 42);
+    assert_eq!(rt; changed(rt.alloc(), 2, 37, &[0, 0, 16, 0])?, 40);
+    Ok(())
+}
+
+/// Whether an item with a signature of so many bytes is made.
+fn is_made(alloc: Global, len: usize) -> Result<bool, Fail> {
+    let sig = ByteString::from_vec(vec![in alloc; 0; len]?);
+    let made = Item::auth(Authenticator {
+        node: NodeId(1),
+        seq: 5,
+        hash: Hash([3; 32]),
+        sig,
+    });
+    Ok(made.is_ok())
+}
+
+#[test]
+fn a_signature_has_a_greatest_length(rt: HostRuntime) -> Result<(), Fail> {
+    assert!(rt; is_made(rt.alloc(), 9324)?);
+    assert!(rt; !is_made(rt.alloc(), 9325)?);
+    Ok(())
+}
+
+#[test]
+fn refusals_have_numbers_names_and_lines(rt: HostRuntime) -> Result<(), Fail> {
+    assert_eq!(rt; TooLong.number(), 42);
+    assert_eq!(rt; TooLong.name(), "TooLong");
+    assert_eq!(rt; DecodeFault::Trailing.number(), 43);
+    assert_eq!(rt; DecodeFault::BadTag.name(), "BadTag");
+    let shown = format!(in rt.alloc(); "{}", DecodeFault::Truncated)?;
+    assert_eq!(rt; shown.as_str(), "the bytes end within a field");
+    Ok(())
+}

@@ -1,0 +1,5 @@
+//! Tests of the public calls of `log_chain`.
+#![tactic(auto)]
+
+#[cfg(test)]
+mod calls;

@@ -1,0 +1,5 @@
+//! Tests of the public calls of `proofs`.
+#![tactic(auto)]
+
+#[cfg(test)]
+mod calls;

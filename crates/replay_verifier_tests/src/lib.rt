@@ -1,0 +1,5 @@
+//! Tests of the public calls of `replay_verifier`.
+#![tactic(auto)]
+
+#[cfg(test)]
+mod calls;

@@ -1,0 +1,34 @@
+//! Scenarios that are run.
+
+use authenticators::NodeId;
+use evidence_store::{Evidence, PlainStore};
+use ref_programs::Tally;
+use scenario_run::{Outcome, run};
+use scenarios::Scenario;
+use std::alloc::Global;
+use std::sync::Wait;
+use std::test::Fail;
+use std::thread::Threads;
+
+/// What the witnesses of the scenario have in the end.
+fn outcome<R: Threads + Wait + Sync>(
+    rt: &R,
+    alloc: Global,
+    text: &[u8],
+    workers: usize,
+) -> Result<Outcome<PlainStore<Tally>>, Fail> {
+    let scenario = Scenario::read(alloc, text)?;
+    Ok(run(rt, alloc, Tally, &scenario, workers)?)
+}
+
+#[test]
+fn a_scenario_is_run(rt: HostRuntime) -> Result<(), Fail> {
+    let text =
+        b"witnesses 2\nnode 1 honest\nnode 2 wrong\nnode 3 mute\ntimer 1 5\ntimer 2 7\naudit 2\n";
+    let outcome = outcome(&rt, rt.alloc(), text, 2)?;
+    assert_eq!(rt; outcome.witnesses.len(), 2);
+    for witness in &outcome.witnesses {
+        assert_eq!(rt; witness.store.count(), 3);
+    }
+    Ok(())
+}

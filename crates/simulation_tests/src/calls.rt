@@ -1,0 +1,65 @@
+//! Scenarios that are played.
+
+use authenticators::NodeId;
+use commitment::NodeFault;
+use log_chain::Hash;
+use ref_programs::Tally;
+use scenarios::Scenario;
+use sha2::{Digest, Sha256};
+use simulation::{PlayFault, Played, play};
+use std::alloc::Global;
+use std::test::Fail;
+
+/// Each kind of node, and each kind of item.
+const SCENARIO: &[u8] = b"witnesses 1\n\
+    node 1 honest\nnode 4 fork\nnode 2 wrong\nnode 3 mute\nnode 9 fork\n\
+    timer 1 5\ntimer 2 7\ncheckpoint 2\ntimer 3 9\naudit 3\naudit 9\ntimer 4 1\naudit 2\naudit 1\n";
+
+/// What comes of the scenario under Tally.
+fn played(alloc: Global, text: &[u8]) -> Result<Result<Played, PlayFault>, Fail> {
+    let scenario = Scenario::read(alloc, text)?;
+    Ok(play(alloc, Tally, &scenario))
+}
+
+/// The SHA-256 value of the items, each behind its length in eight bytes.
+fn digest_of(alloc: Global, played: &Played) -> Result<Hash, Fail> {
+    let mut text = Vec::new(alloc);
+    for item in &played.items {
+        let item = item.encode(alloc)?;
+        text.extend_from_slice(&(item.len() as u64).to_be_bytes())?;
+        text.extend_from_slice(&item)?;
+    }
+    Ok(Hash(Sha256::digest(&text)))
+}
+
+/// The items are those of `reference/scenarios.py`, and the directory lists the nodes as the scenario does.
+#[test]
+fn each_kind_of_node_plays(rt: HostRuntime) -> Result<(), Fail> {
+    let played = played(rt.alloc(), SCENARIO)??;
+    assert_eq!(rt; played.items.len(), 9);
+    let digest = digest_of(rt.alloc(), &played)?;
+    let digits = format!(in rt.alloc(); "{digest}")?;
+    assert_eq!(rt;
+        digits.as_str(),
+        "b6c9533410d982044149b934b9f18dc51f0768535410aae635becc33fab9e2e3"
+    );
+    let nodes = [NodeId(1), NodeId(4), NodeId(2), NodeId(3), NodeId(9)];
+    assert_eq!(rt; played.directory.nodes(), nodes.as_slice());
+    Ok(())
+}
+
+/// A node that is mute drops each message, and signs until its key is spent.
+#[test]
+fn a_spent_key_ends_the_scenario(rt: HostRuntime) -> Result<(), Fail> {
+    let alloc = rt.alloc();
+    let mut text = Vec::from_slice(alloc, b"witnesses 1\nnode 1 honest\nnode 2 mute\n")?;
+    for _ in 0..32 {
+        text.extend_from_slice(b"timer 1 5\n")?;
+    }
+    let done = played(alloc, &text)??;
+    assert_eq!(rt; done.items.len(), 32);
+    text.extend_from_slice(b"timer 1 5\n")?;
+    let fault = played(alloc, &text)?.err();
+    assert_eq!(rt; fault, Some(PlayFault::Node(NodeFault::KeySpent)));
+    Ok(())
+}

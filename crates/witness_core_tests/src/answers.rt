@@ -1,0 +1,261 @@
+//! What events answer, and events that are refused.
+
+use crate::testing::{Signer, make_signer, make_world, statement, take, tell};
+use authenticators::{Directory, NodeId};
+use evidence_store::PlainStore;
+use ref_programs::Tally;
+use std::alloc::Global;
+use std::test::Fail;
+use witness_core::{Cause, Event, World, run};
+
+type TallyWorld = World<Tally, PlainStore<Tally>>;
+
+#[test]
+fn refusals_have_numbers_names_and_lines(rt: HostRuntime) -> Result<(), Fail> {
+    for (cause, number, name, line) in [
+        (
+            Cause::NoWitness,
+            80,
+            "NoWitness",
+            "there is no witness of this number",
+        ),
+        (
+            Cause::NoPacket,
+            81,
+            "NoPacket",
+            "no summary or pack of this number was made",
+        ),
+        (
+            Cause::UnknownNode,
+            82,
+            "UnknownNode",
+            "the node is not listed in the directory",
+        ),
+        (Cause::Memory, 99, "Memory", "memory ran out"),
+    ] {
+        assert_eq!(rt; cause.number(), number);
+        assert_eq!(rt; cause.name(), name);
+        let told = format!(in rt.alloc(); "{cause}")?;
+        assert_eq!(rt; told.as_str(), line);
+    }
+    Ok(())
+}
+
+/// A world of so many witnesses without items.
+fn world_of(alloc: Global, signer: &Signer, count: u64) -> Result<TallyWorld, Fail> {
+    make_world(alloc, &signer.directory, count)
+}
+
+/// The replies to a statement that one witness takes twice, to its summary, to the pack of all that it has against none, to that
+/// pack's delivery at another witness, twice, to a question, and to an export.
+fn replies_to_one_statement(alloc: Global) -> Result<[(u8, u64); 8], Fail> {
+    let mut signer = make_signer(alloc)?;
+    let mut world = world_of(alloc, &signer, 2)?;
+    let item = statement(alloc, &mut signer, 5, 7)?;
+    let again = item.try_clone(alloc)?;
+    let world = &mut world;
+    let node = NodeId(1);
+    Ok([
+        take(alloc, &Tally, world, 0, item)?,
+        take(alloc, &Tally, world, 0, again)?,
+        tell(alloc, world, Event::Summarise { witness: 1 }),
+        tell(
+            alloc,
+            world,
+            Event::Pack {
+                witness: 0,
+                summary: 0,
+            },
+        ),
+        tell(
+            alloc,
+            world,
+            Event::Deliver {
+                pack: 0,
+                witness: 1,
+            },
+        ),
+        tell(
+            alloc,
+            world,
+            Event::Deliver {
+                pack: 0,
+                witness: 1,
+            },
+        ),
+        tell(alloc, world, Event::Ask { witness: 1, node }),
+        tell(alloc, world, Event::Export { witness: 1 }),
+    ])
+}
+
+/// A statement under W4 and H5 has 2,397 bytes: one for the form, four for the node, eight for the number, 32 for the hash and 2,352
+/// for the signature and its length. Its store has 20 more.
+#[test]
+fn each_event_has_its_reply(rt: HostRuntime) -> Result<(), Fail> {
+    let replies = replies_to_one_statement(rt.alloc())?;
+    assert_eq!(rt;
+        replies,
+        [
+            (1, 1),
+            (1, 0),
+            (2, 0),
+            (3, 0),
+            (4, 1),
+            (4, 0),
+            (5, 0),
+            (6, 2417)
+        ]
+    );
+    Ok(())
+}
+
+/// What a witness with two statements of one number says of their node.
+fn says_of_two_statements(alloc: Global) -> Result<(u8, u64), Fail> {
+    let mut signer = make_signer(alloc)?;
+    let mut world = world_of(alloc, &signer, 1)?;
+    let one = statement(alloc, &mut signer, 5, 7)?;
+    let other = statement(alloc, &mut signer, 5, 8)?;
+    take(alloc, &Tally, &mut world, 0, one)?;
+    take(alloc, &Tally, &mut world, 0, other)?;
+    let event = Event::Ask {
+        witness: 0,
+        node: NodeId(1),
+    };
+    Ok(tell(alloc, &mut world, event))
+}
+
+#[test]
+fn two_statements_expose(rt: HostRuntime) -> Result<(), Fail> {
+    assert_eq!(rt; says_of_two_statements(rt.alloc())?, (5, 2));
+    Ok(())
+}
+
+/// What pack 0 brings to its own maker, twice.
+fn delivered_at_home(alloc: Global) -> Result<[(u8, u64); 2], Fail> {
+    let mut signer = make_signer(alloc)?;
+    let mut world = world_of(alloc, &signer, 1)?;
+    let item = statement(alloc, &mut signer, 5, 7)?;
+    let world = &mut world;
+    tell(alloc, world, Event::Summarise { witness: 0 });
+    take(alloc, &Tally, world, 0, item)?;
+    tell(
+        alloc,
+        world,
+        Event::Pack {
+            witness: 0,
+            summary: 0,
+        },
+    );
+    Ok([
+        tell(
+            alloc,
+            world,
+            Event::Deliver {
+                pack: 0,
+                witness: 0,
+            },
+        ),
+        tell(
+            alloc,
+            world,
+            Event::Deliver {
+                pack: 0,
+                witness: 0,
+            },
+        ),
+    ])
+}
+
+#[test]
+fn a_pack_at_its_maker_brings_nothing(rt: HostRuntime) -> Result<(), Fail> {
+    assert_eq!(rt; delivered_at_home(rt.alloc())?, [(4, 0), (4, 0)]);
+    Ok(())
+}
+
+/// The refusals of events in a world of one witness that made one summary, after which it makes another one.
+fn refusals_in_a_small_world(alloc: Global) -> Result<[(u8, u64); 6], Fail> {
+    let signer = make_signer(alloc)?;
+    let mut world = world_of(alloc, &signer, 1)?;
+    let world = &mut world;
+    let node = NodeId(3);
+    tell(alloc, world, Event::Summarise { witness: 0 });
+    Ok([
+        tell(
+            alloc,
+            world,
+            Event::Pack {
+                witness: 1,
+                summary: 1,
+            },
+        ),
+        tell(
+            alloc,
+            world,
+            Event::Pack {
+                witness: 0,
+                summary: 1,
+            },
+        ),
+        tell(
+            alloc,
+            world,
+            Event::Deliver {
+                pack: 0,
+                witness: 0,
+            },
+        ),
+        tell(alloc, world, Event::Ask { witness: 1, node }),
+        tell(alloc, world, Event::Ask { witness: 0, node }),
+        tell(alloc, world, Event::Summarise { witness: 0 }),
+    ])
+}
+
+#[test]
+fn refusals_come_in_their_order(rt: HostRuntime) -> Result<(), Fail> {
+    assert_eq!(rt;
+        refusals_in_a_small_world(rt.alloc())?,
+        [(0, 80), (0, 81), (0, 81), (0, 80), (0, 82), (2, 1)]
+    );
+    Ok(())
+}
+
+/// Of two summaries and a pack against a third: how many events are done, how many replies there are, and the refusal's number.
+fn refused_pack(alloc: Global) -> Result<(u64, u64, u8), Fail> {
+    let signer = make_signer(alloc)?;
+    let mut world = world_of(alloc, &signer, 1)?;
+    let events = [
+        Event::Summarise { witness: 0 },
+        Event::Summarise { witness: 0 },
+        Event::Pack {
+            witness: 0,
+            summary: 2,
+        },
+        Event::Summarise { witness: 0 },
+    ];
+    match run(alloc, &mut world, &events) {
+        Ok(_) => Ok((4, 4, 0)),
+        Err(fault) => Ok((fault.done, fault.replies.len() as u64, fault.cause.number())),
+    }
+}
+
+#[test]
+fn a_refusal_comes_with_the_replies_before_it(rt: HostRuntime) -> Result<(), Fail> {
+    assert_eq!(rt; refused_pack(rt.alloc())?, (2, 2, 81));
+    Ok(())
+}
+
+/// What is answered where nobody is a witness.
+fn replies_without_witnesses(alloc: Global) -> Result<[(u8, u64); 2], Fail> {
+    let mut world: TallyWorld = make_world(alloc, &Directory::new(alloc), 0)?;
+    let world = &mut world;
+    Ok([
+        tell(alloc, world, Event::Summarise { witness: 0 }),
+        tell(alloc, world, Event::Export { witness: 0 }),
+    ])
+}
+
+#[test]
+fn nobody_is_a_witness(rt: HostRuntime) -> Result<(), Fail> {
+    assert_eq!(rt; replies_without_witnesses(rt.alloc())?, [(0, 80), (0, 80)]);
+    Ok(())
+}

@@ -1,0 +1,9 @@
+//! Tests of the public calls of `witness_core`.
+#![tactic(auto)]
+
+#[cfg(test)]
+mod answers;
+#[cfg(test)]
+mod spreading;
+#[cfg(test)]
+mod testing;

@@ -1,0 +1,189 @@
+//! Stores that two callers share at once.
+
+use crate::samples::{
+    Sharing, Store, close_both, make_key, merge_nothing, new_store, share, statement, take_item,
+};
+use authenticators::NodeId;
+use evidence_item::{Item, check_item};
+use evidence_set::Indication;
+use evidence_store::Evidence;
+use lms_sign::SecretKey;
+use ref_programs::Tally;
+use std::alloc::Global;
+use std::sync::Wait;
+use std::test::Fail;
+use std::thread;
+use std::thread::Threads;
+use witness_workers::{Closed, Pass, SharedStore};
+
+/// Takes the items, merges a store without items, asks for node 1 and exports, as far as nothing is refused.
+fn every_call<R: Wait>(
+    rt: &R,
+    alloc: Global,
+    shared: &SharedStore<Tally, Store>,
+    mut pass: Pass,
+    items: Vec<Item>,
+) -> Pass {
+    for item in items {
+        let _ = take_item(rt, alloc, shared, &mut pass, item);
+    }
+    let _ = merge_nothing(rt, alloc, shared, &mut pass);
+    let _ = shared.ask(rt, &mut pass, NodeId(1));
+    let _ = shared.export(rt, &mut pass);
+    pass
+}
+
+/// What two callers at once left.
+#[derive(Clone, Copy, Debug, PartialEq, Eq)]
+struct Left {
+    /// How many calls the history has.
+    calls: usize,
+    /// What the closed store says of node 1, and how many items it has.
+    told: Indication,
+    count: u64,
+    /// Whether its text is that of a store that took the same items alone.
+    same_text: bool,
+}
+
+/// The statements of these hashes on entry 5.
+fn statements(alloc: Global, key: &mut SecretKey, hashes: &[u8]) -> Result<Vec<Item>, Fail> {
+    let mut items = Vec::new(alloc);
+    for hash in hashes {
+        items.push(statement(alloc, key, 5, *hash, 0)?)?;
+    }
+    Ok(items)
+}
+
+/// Takes the items, which are checked under the store's directory.
+fn take_all(alloc: Global, store: &mut Store, items: Vec<Item>) -> Result<(), Fail> {
+    for item in items {
+        let checked = check_item(alloc, &Tally, store.directory(), item)?;
+        store.take(checked)?;
+    }
+    Ok(())
+}
+
+/// Two callers in threads of their own, with the items that each takes.
+fn call_both<R: Threads + Wait + Sync>(
+    rt: &R,
+    alloc: Global,
+    shared: &SharedStore<Tally, Store>,
+    callers: (Pass, Pass),
+    items: (Vec<Item>, Vec<Item>),
+) -> (Pass, Pass) {
+    let (first, second) = callers;
+    let (ours, theirs) = items;
+    thread::join(
+        rt,
+        || -> Pass { every_call(rt, alloc, shared, first, ours) },
+        || -> Pass { every_call(rt, alloc, shared, second, theirs) },
+    )
+}
+
+/// Whether two stores have one text.
+fn same_text(one: &Store, other: &Store) -> Result<bool, Fail> {
+    let text = one.export()?;
+    Ok(text.as_slice() == other.export()?.as_slice())
+}
+
+/// What the closed store has, beside a store that took the same items alone.
+fn left_of(closed: &Closed<Store>, alone: &Store) -> Result<Left, Fail> {
+    Ok(Left {
+        calls: closed.history.len(),
+        told: closed.store.indication(NodeId(1))?,
+        count: closed.store.count(),
+        same_text: same_text(&closed.store, alone)?,
+    })
+}
+
+/// Two callers take, merge, ask and export, each in a thread of its own.
+fn two_at_once<R: Threads + Wait + Sync>(rt: &R, alloc: Global) -> Result<Closed<Store>, Fail> {
+    let Sharing {
+        mut key,
+        shared,
+        first,
+        second,
+    } = share(alloc)?;
+    let ours = statements(alloc, &mut key, &[1, 2])?;
+    let theirs = statements(alloc, &mut key, &[3, 4])?;
+    let passes = call_both(rt, alloc, &shared, (first, second), (ours, theirs));
+    close_both(alloc, shared, passes)
+}
+
+/// A store that took the same items alone.
+fn one_alone(alloc: Global) -> Result<Store, Fail> {
+    let mut key = make_key(alloc)?;
+    let mut store = new_store(alloc, &key)?;
+    let items = statements(alloc, &mut key, &[1, 2, 3, 4])?;
+    take_all(alloc, &mut store, items)?;
+    Ok(store)
+}
+
+fn two_callers<R: Threads + Wait + Sync>(rt: &R, alloc: Global) -> Result<Left, Fail> {
+    let closed = two_at_once(rt, alloc)?;
+    left_of(&closed, &one_alone(alloc)?)
+}
+
+#[test]
+fn two_callers_at_once(rt: HostRuntime) -> Result<(), Fail> {
+    let left = two_callers(&rt, rt.alloc())?;
+    assert_eq!(rt; left.calls, 10);
+    assert_eq!(rt; left.told, Indication::Exposed);
+    assert_eq!(rt; left.count, 4);
+    assert!(rt; left.same_text);
+    Ok(())
+}
+
+/// Takes both items and asks for node 1.
+fn take_and_ask<R: Wait>(
+    rt: &R,
+    alloc: Global,
+    shared: &SharedStore<Tally, Store>,
+    mut pass: Pass,
+    items: (Item, Item),
+) -> Option<Indication> {
+    let _ = take_item(rt, alloc, shared, &mut pass, items.0);
+    let _ = take_item(rt, alloc, shared, &mut pass, items.1);
+    shared.ask(rt, &mut pass, NodeId(1)).ok()
+}
+
+/// One caller takes both items and asks, while the other one merges a store without items.
+fn ask_and_merge<R: Threads + Wait + Sync>(
+    rt: &R,
+    alloc: Global,
+    shared: &SharedStore<Tally, Store>,
+    passes: (Pass, Pass),
+    items: (Item, Item),
+) -> (Option<Indication>, Option<u64>) {
+    let (first, mut second) = passes;
+    thread::join(
+        rt,
+        || -> Option<Indication> { take_and_ask(rt, alloc, shared, first, items) },
+        || -> Option<u64> { merge_nothing(rt, alloc, shared, &mut second) },
+    )
+}
+
+/// The same of two statements of one number and two hashes.
+fn asked_while_merged<R: Threads + Wait + Sync>(
+    rt: &R,
+    alloc: Global,
+) -> Result<(Option<Indication>, Option<u64>), Fail> {
+    let Sharing {
+        mut key,
+        shared,
+        first,
+        second,
+    } = share(alloc)?;
+    let one = statement(alloc, &mut key, 5, 1, 0)?;
+    let two = statement(alloc, &mut key, 5, 2, 0)?;
+    let done = ask_and_merge(rt, alloc, &shared, (first, second), (one, two));
+    Ok(done)
+}
+
+#[test]
+fn one_asks_while_another_merges(rt: HostRuntime) -> Result<(), Fail> {
+    let (told, merged) = asked_while_merged(&rt, rt.alloc())?;
+    assert!(rt; told == Some(Indication::Exposed));
+    assert!(rt; merged == Some(0));
+    Ok(())
+}

@@ -1,0 +1,197 @@
+//! Stores that two callers share, one after the other, and how they are closed.
+
+use crate::samples::{
+    Sharing, Store, close_both, make_key, merge_nothing, new_store, share, statement, take_item,
+};
+use authenticators::NodeId;
+use evidence_set::Indication;
+use log_chain::Hash;
+use ref_programs::Tally;
+use sha2::{Digest, Sha256};
+use std::alloc::Global;
+use std::sync::Wait;
+use std::test::Fail;
+use witness_workers::{AskFault, CallFault, CheckAllFault, CloseFault, Pass, SharedStore};
+
+#[test]
+fn refusals_have_numbers_and_names(rt: HostRuntime) -> Result<(), Fail> {
+    for (number, name, other, another) in [
+        (
+            CheckAllFault::BadWorkers.number(),
+            CheckAllFault::BadWorkers.name(),
+            90,
+            "BadWorkers",
+        ),
+        (
+            CloseFault::PassMissing.number(),
+            CloseFault::PassMissing.name(),
+            91,
+            "PassMissing",
+        ),
+        (
+            CloseFault::HistoryMismatch.number(),
+            CloseFault::HistoryMismatch.name(),
+            92,
+            "HistoryMismatch",
+        ),
+        (
+            CallFault::DirectoryChanged.number(),
+            CallFault::DirectoryChanged.name(),
+            96,
+            "DirectoryChanged",
+        ),
+        (
+            AskFault::UnknownNode.number(),
+            AskFault::UnknownNode.name(),
+            44,
+            "UnknownNode",
+        ),
+    ] {
+        assert_eq!(rt; number, other);
+        assert_eq!(rt; name, another);
+    }
+    Ok(())
+}
+
+/// What the calls of two callers were answered.
+#[derive(Clone, Copy, Debug, PartialEq, Eq)]
+struct Seen {
+    /// Whether the two items were new.
+    took: (Option<bool>, Option<bool>),
+    /// What the first caller, and then the second one, was told of node 1.
+    told: (Indication, Indication),
+    /// How many items of a store without items were new.
+    merged: Option<u64>,
+    /// The SHA-256 value of the text that was exported.
+    text: Hash,
+}
+
+/// The first caller takes two statements of one number and two hashes, and asks.
+fn first_calls<R: Wait>(
+    rt: &R,
+    alloc: Global,
+    on: &mut Sharing,
+) -> Result<(Option<bool>, Option<bool>, Indication), Fail> {
+    let one = statement(alloc, &mut on.key, 5, 1, 0)?;
+    let took_one = take_item(rt, alloc, &on.shared, &mut on.first, one);
+    let two = statement(alloc, &mut on.key, 5, 2, 0)?;
+    let took_two = take_item(rt, alloc, &on.shared, &mut on.first, two);
+    let told = on.shared.ask(rt, &mut on.first, NodeId(1))?;
+    Ok((took_one, took_two, told))
+}
+
+/// The second one merges a store without items, asks, and exports.
+fn second_calls<R: Wait>(
+    rt: &R,
+    alloc: Global,
+    on: &mut Sharing,
+) -> Result<(Option<u64>, Indication, Hash), Fail> {
+    let merged = merge_nothing(rt, alloc, &on.shared, &mut on.second);
+    let told = on.shared.ask(rt, &mut on.second, NodeId(1))?;
+    let text = on.shared.export(rt, &mut on.second)?;
+    Ok((merged, told, Hash(Sha256::digest(&text))))
+}
+
+/// The six calls, one after the other.
+fn six_calls<R: Wait>(rt: &R, alloc: Global, on: &mut Sharing) -> Result<Seen, Fail> {
+    let (took_one, took_two, told_first) = first_calls(rt, alloc, on)?;
+    let (merged, told_second, text) = second_calls(rt, alloc, on)?;
+    Ok(Seen {
+        took: (took_one, took_two),
+        told: (told_first, told_second),
+        merged,
+        text,
+    })
+}
+
+/// What the two callers were told, and how many calls the history then has.
+fn told_and_closed<R: Wait>(rt: &R, alloc: Global) -> Result<(Seen, usize), Fail> {
+    let mut on = share(alloc)?;
+    let seen = six_calls(rt, alloc, &mut on)?;
+    let closed = close_both(alloc, on.shared, (on.second, on.first))?;
+    Ok((seen, closed.history.len()))
+}
+
+/// The hash is that of `reference/shared_stores.py`.
+#[test]
+fn two_callers_one_after_the_other(rt: HostRuntime) -> Result<(), Fail> {
+    let (seen, calls) = told_and_closed(&rt, rt.alloc())?;
+    let text = format!(in rt.alloc(); "{}", seen.text)?;
+    assert_eq!(rt;
+        text.as_str(),
+        "b9bf2e141d77577f1b32ed8c396da29abcd8a61185750e6721d8a5884c3b656a"
+    );
+    assert!(rt; seen.took == (Some(true), Some(true)));
+    assert_eq!(rt; seen.told, (Indication::Exposed, Indication::Exposed));
+    assert!(rt; seen.merged == Some(0));
+    assert_eq!(rt; calls, 6);
+    Ok(())
+}
+
+/// Why the store is not closed with these passes, as its number; 0 where it is.
+fn refusal_of(shared: SharedStore<Tally, Store>, passes: Vec<Pass>) -> u8 {
+    match shared.close(passes) {
+        Ok(_) => 0,
+        Err(refused) => refused.fault.number(),
+    }
+}
+
+/// A store on which six calls were done, and its passes.
+fn used<R: Wait>(rt: &R, alloc: Global) -> Result<Sharing, Fail> {
+    let mut on = share(alloc)?;
+    six_calls(rt, alloc, &mut on)?;
+    Ok(on)
+}
+
+/// A list of one pass, or of two.
+fn list_of(alloc: Global, first: Pass, second: Option<Pass>) -> Result<Vec<Pass>, Fail> {
+    let mut passes = Vec::new(alloc);
+    passes.push(first)?;
+    if let Some(second) = second {
+        passes.push(second)?;
+    }
+    Ok(passes)
+}
+
+/// Closing without the second caller's pass.
+fn one_pass_fewer<R: Wait>(rt: &R, alloc: Global) -> Result<u8, Fail> {
+    let on = used(rt, alloc)?;
+    Ok(refusal_of(on.shared, list_of(alloc, on.first, None)?))
+}
+
+/// Closing with an unused pass of another shared store in place of the second caller's.
+fn an_unused_pass<R: Wait>(rt: &R, alloc: Global) -> Result<u8, Fail> {
+    let on = used(rt, alloc)?;
+    let other = share(alloc)?;
+    Ok(refusal_of(on.shared, list_of(alloc, on.first, Some(other.second))?))
+}
+
+/// Closing a store of one caller that was asked with the second pass of another one.
+fn a_foreign_call<R: Wait>(rt: &R, alloc: Global) -> Result<u8, Fail> {
+    let mut other = share(alloc)?;
+    let store = new_store(alloc, &other.key)?;
+    let (shared, passes) = SharedStore::open(alloc, store, 1)?;
+    shared.ask(rt, &mut other.second, NodeId(1))?;
+    Ok(refusal_of(shared, passes))
+}
+
+#[test]
+fn passes_that_do_not_agree(rt: HostRuntime) -> Result<(), Fail> {
+    let alloc = rt.alloc();
+    assert_eq!(rt; one_pass_fewer(&rt, alloc)?, 91);
+    assert_eq!(rt; an_unused_pass(&rt, alloc)?, 92);
+    assert_eq!(rt; a_foreign_call(&rt, alloc)?, 92);
+    Ok(())
+}
+
+/// What is asked of a node that is not listed.
+fn unlisted<R: Wait>(rt: &R, alloc: Global) -> Result<Option<AskFault>, Fail> {
+    let mut on = share(alloc)?;
+    Ok(on.shared.ask(rt, &mut on.first, NodeId(3)).err())
+}
+
+#[test]
+fn a_node_that_is_not_listed(rt: HostRuntime) -> Result<(), Fail> {
+    assert_eq!(rt; unlisted(&rt, rt.alloc())?, Some(AskFault::UnknownNode));
+    Ok(())
+}

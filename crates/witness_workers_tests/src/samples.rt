@@ -1,0 +1,125 @@
+//! For the tests: the key of node 1, statements that it signs, a store under its directory, and calls at one that is shared.
+
+use authenticators::{Authenticator, Directory, NodeId, statement_text};
+use evidence_item::{Item, check_item};
+use evidence_store::{Evidence, PlainStore};
+use lms_sign::{LmsType, OtsType, SecretKey};
+use log_chain::{ByteString, Hash};
+use ref_programs::Tally;
+use std::alloc::Global;
+use std::sync::Wait;
+use std::test::Fail;
+use witness_workers::{Closed, Pass, SharedStore};
+
+/// A store of nodes that run Tally.
+pub(crate) type Store = PlainStore<Tally>;
+
+/// The key (H5, W4) of node 1, whose identifier and seed end in the number.
+pub(crate) fn make_key(alloc: Global) -> Result<SecretKey, Fail> {
+    let mut id = [0; 16];
+    let mut seed = [0; 32];
+    id[15] = 1;
+    seed[31] = 1;
+    Ok(SecretKey::make(alloc, LmsType::H5, OtsType::W4, id, seed)?)
+}
+
+/// A directory of node 1 alone.
+pub(crate) fn make_directory(alloc: Global, key: &SecretKey) -> Result<Directory, Fail> {
+    let mut directory = Directory::new(alloc);
+    directory.add(NodeId(1), key.public_key())?;
+    Ok(directory)
+}
+
+/// A store under that directory, without items.
+pub(crate) fn new_store(alloc: Global, key: &SecretKey) -> Result<Store, Fail> {
+    let directory = make_directory(alloc, key)?;
+    Ok(PlainStore::new(alloc, directory)?)
+}
+
+fn auth_of(seq: u64, hash: Hash, sig: Vec<u8>) -> Result<Item, Fail> {
+    Ok(Item::auth(Authenticator {
+        node: NodeId(1),
+        seq,
+        hash,
+        sig: ByteString::from_vec(sig),
+    })?)
+}
+
+/// A statement of node 1 on the entry with this number and a hash of one byte 32 times over. The key signs it with a C of one byte
+/// 32 times over.
+pub(crate) fn statement(
+    alloc: Global,
+    key: &mut SecretKey,
+    seq: u64,
+    hash: u8,
+    c: u8,
+) -> Result<Item, Fail> {
+    let hash = Hash([hash; 32]);
+    let sig = key.sign(alloc, &statement_text(seq, hash), [c; 32])?;
+    auth_of(seq, hash, sig)
+}
+
+/// A statement of node 1 with an empty signature.
+pub(crate) fn unsigned(alloc: Global) -> Result<Item, Fail> {
+    auth_of(5, Hash([0; 32]), Vec::new(alloc))
+}
+
+/// A store that is shared by two callers, with their passes, and the key of node 1.
+#[derive(Drop)]
+pub(crate) struct Sharing {
+    pub(crate) key: SecretKey,
+    pub(crate) shared: SharedStore<Tally, Store>,
+    pub(crate) first: Pass,
+    pub(crate) second: Pass,
+}
+
+pub(crate) fn share(alloc: Global) -> Result<Sharing, Fail> {
+    let key = make_key(alloc)?;
+    let store = new_store(alloc, &key)?;
+    let (shared, mut passes) = SharedStore::open(alloc, store, 2)?;
+    let (Some(second), Some(first)) = (passes.pop(), passes.pop()) else {
+        unreachable!();
+    };
+    Ok(Sharing {
+        key,
+        shared,
+        first,
+        second,
+    })
+}
+
+/// Checks the item under the store's directory, and takes it: whether it was new, where nothing is refused.
+pub(crate) fn take_item<R: Wait>(
+    rt: &R,
+    alloc: Global,
+    shared: &SharedStore<Tally, Store>,
+    pass: &mut Pass,
+    item: Item,
+) -> Option<bool> {
+    let checked = check_item(alloc, &Tally, shared.directory(), item).ok()?;
+    shared.take(rt, pass, checked).ok()
+}
+
+/// Merges a store without items: how many items were new, where nothing is refused.
+pub(crate) fn merge_nothing<R: Wait>(
+    rt: &R,
+    alloc: Global,
+    shared: &SharedStore<Tally, Store>,
+    pass: &mut Pass,
+) -> Option<u64> {
+    let directory = shared.directory().try_clone().ok()?;
+    let other: Store = PlainStore::new(alloc, directory).ok()?;
+    shared.merge(rt, pass, &other).ok()
+}
+
+/// Closes the store with these passes.
+pub(crate) fn close_both(
+    alloc: Global,
+    shared: SharedStore<Tally, Store>,
+    passes: (Pass, Pass),
+) -> Result<Closed<Store>, Fail> {
+    let mut all = Vec::new(alloc);
+    all.push(passes.0)?;
+    all.push(passes.1)?;
+    Ok(shared.close(all)?)
+}
