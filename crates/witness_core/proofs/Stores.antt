@@ -34,11 +34,6 @@ on_both (Err e) a b f h = h b
 pub contents_at : {S : Type 0} (contents : S → Contents) (stores : List S) (i : ℕ) (old : S) → i < length stores → old ≡ get_or stores i old → contents old ≡ get_or (map contents stores) i nothing
 contents_at contents stores i old inside is = ap contents is ∙ sym (get_or-map contents stores i old nothing inside)
 
-pub contents_in : {S : Type 0} (contents : S → Contents) (stores : List S) (shown : List Contents) (i : ℕ) (old : S) → map contents stores ≡ shown → i < length stores → old ≡ get_or stores i old → (i < length shown) × (contents old ≡ get_or shown i nothing)
-contents_in contents stores shown i old view inside is =
-    subst (λ (l : List Contents). (i < length l) × (contents old ≡ get_or l i nothing)) view
-    (omega (arith, inside, length-map stores contents), contents_at contents stores i old inside is)
-
 -- ---- one directory and one program
 
 module _ {S : Type 0} (program : Meaning S) (W : World) (of : IsOfOneProgram program W) where

@@ -1,6 +1,6 @@
 use Rattle.std.proofs.Common.{ap, sym, ◌∙◌}
 use Rattle.evidence_store.specs.Contents.{Contents}
-use Rattle.witness_core.proofs.Stores.{contents_in}
+use Rattle.witness_core_tests.proofs.StoresSeen.{contents_in}
 use Rattle.witness_core_tests.proofs.spreading.merged.Goals as goal
 
 pub loop-store-init : goal.loop-store-init
