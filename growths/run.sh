@@ -2,15 +2,15 @@
 # Runs each test of nodes once for each of its growths of memory, which is refused in that run. The tests make `receive`, `timer`
 # and `checkpoint` again where they tell Memory, and then have to pass, since a refused call changes nothing. Any other refusal,
 # also of `Node::new`, ends a test with the error that memory ran out; whose growth it was is not told. All else is a fault.
-# Wants gcc, and the tests built by (cd crates/node_sim && rt test).
+# Wants gcc, and the tests built by (cd crates/commitment_tests && rt test).
 set -eu
 cd "$(dirname "$0")"
-tests=../crates/node_sim/out/node_sim_tests
+tests=../crates/commitment_tests/out/commitment_tests_tests
 work=$(mktemp -d)
 trap 'rm -rf "$work"' EXIT
 gcc -O2 -shared -fPIC -o "$work/refuse.so" refuse.c -ldl
 faults=0
-for name in $("$tests" --list | sed -n 's/^\(node_tests::.*\): test$/\1/p'); do
+for name in $("$tests" --list | sed -n 's/^\(nodes::.*\): test$/\1/p'); do
   all=$(LD_PRELOAD=$work/refuse.so "$tests" "$name" 2>&1 | sed -n 's/^growths //p')
   passed=0
   ended=0

@@ -228,9 +228,9 @@ def main():
     crates = os.path.join(os.path.dirname(os.path.abspath(__file__)), "..", "crates")
     missing = 0
     for path, values in (
-        ("commitment/src/tests.rt", messages()),
-        ("node_sim/src/node_tests/each_call.rt", round_of_calls()),
-        ("node_sim/src/node_tests.rt", spent() + exchange() + checkpoint()),
+        ("commitment_tests/src/calls.rt", messages()),
+        ("commitment_tests/src/nodes/each_call.rt", round_of_calls()),
+        ("commitment_tests/src/nodes.rt", spent() + exchange() + checkpoint()),
     ):
         with open(os.path.join(crates, path), encoding="utf-8") as file:
             text = file.read()

@@ -12,8 +12,8 @@ import sys
 from nodes import Key, sha256, u8, u32, u64
 
 CRATES = os.path.join(os.path.dirname(os.path.abspath(__file__)), "..", "crates")
-TRANSFER = os.path.join(CRATES, "transfer", "src", "tests.rt")
-WITNESSES = os.path.join(CRATES, "witness_core", "src", "spreading_tests.rt")
+TRANSFER = os.path.join(CRATES, "transfer_tests", "src", "calls.rt")
+WITNESSES = os.path.join(CRATES, "witness_core_tests", "src", "spreading.rt")
 RANDOM = bytes([9]) * 32
 
 

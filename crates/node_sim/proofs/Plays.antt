@@ -27,11 +27,11 @@ module _ {S W : Type 0} (program : Meaning S) (directory : List (ℕ × PublicKe
 
 -- ---- refusals
 
-module _ {S : Type 0} (program : Meaning S) (input : List ℕ) where
-  pub none_refused : (f : Fault) → (f ≡ Memory) ⊎ IsNone input f → (f ≡ Memory) ⊎ Run program input (Err f)
+module _ {S : Type 0} (program : Meaning S) (workers : ℕ) (input : List ℕ) where
+  pub none_refused : (f : Fault) → (f ≡ Memory) ⊎ IsNone input f → (f ≡ Memory) ⊎ Run program workers input (Err f)
   none_refused f (inl m) = inl m
   none_refused f (inr none) = inr (inl none)
 
-  pub run_refused : (s : Script) (f : Fault) → scenario_of input ≡ Ok s → (f ≡ Memory) ⊎ IsOfRun f → (f ≡ Memory) ⊎ Run program input (Err f)
+  pub run_refused : (s : Script) (f : Fault) → scenario_of input ≡ Ok s → (f ≡ Memory) ⊎ IsOfRun workers f → (f ≡ Memory) ⊎ Run program workers input (Err f)
   run_refused s f is (inl m) = inl m
   run_refused s f is (inr of_run) = inr (inr (s, is, of_run))

@@ -12,4 +12,4 @@ Answers program task.Status = Status program
 Answers program task.Merge = Merge
 Answers program (task.Prove node) = Prove program node
 Answers program task.Check = Check program
-Answers program (task.Run workers) = Run program
+Answers program (task.Run workers) = Run program workers

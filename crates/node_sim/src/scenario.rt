@@ -58,7 +58,7 @@ fn played<H: Threads + Wait + Sync, P: Program + Copy + Send + Sync + Drop>(
 ) -> Result<Vec<PlainStore<P>>, Fault>
 where
     P::State: Send,
-    ensures told { MatchResult result (λ v. ArePlayed P.means scenario.now v.items) (λ f. (f ≡ Memory) ⊎ IsOfRun f) }
+    ensures told { MatchResult result (λ v. ArePlayed P.means scenario.now v.items) (λ f. (f ≡ Memory) ⊎ IsOfRun workers f) }
     ensures own { IfErr result IsOwn }
 {
     match scenario_run::run(rt, alloc, *program, scenario, workers as usize) {
@@ -80,7 +80,7 @@ fn answer<H: Threads + Wait + Sync, P: Program + Copy + Send + Sync + Drop>(
 ) -> Result<Vec<u8>, Fault>
 where
     P::State: Send,
-    ensures told { MatchResult result (λ text. Run P.means input.items (Ok text.items)) (λ f. (f ≡ Memory) ⊎ Run P.means input.items (Err f)) }
+    ensures told { MatchResult result (λ text. Run P.means workers input.items (Ok text.items)) (λ f. (f ≡ Memory) ⊎ Run P.means workers input.items (Err f)) }
     ensures own { IfErr result IsOwn }
 {
     let scenario = read(alloc, input)?;
@@ -104,9 +104,9 @@ where
     requires reads { R.reads reader.old + most_reads < 2 ^ 63 }
     requires failures { W.failures writer.old < 2 ^ 63 }
     // What is written is what the witnesses of the scenario that the reader had tell.
-    ensures done { OnOk result (Writes (Run P.means) (R.left reader.old) (W.written writer.old) (W.written writer.new)) }
+    ensures done { OnOk result (Writes (Run P.means workers) (R.left reader.old) (W.written writer.old) (W.written writer.new)) }
     // A refusal is the one that the input has, in the stated order.
-    ensures refused { IfErr result (λ f. Refuses (Run P.means) f (R.left reader.old)) }
+    ensures refused { IfErr result (λ f. Refuses (Run P.means workers) f (R.left reader.old)) }
     // A refused call has written nothing, unless the write itself failed.
     ensures nothing_written { (result ≡ Err Fault.WriteFailed → ⊥) → OnErr result (writer.new ≡ writer.old) }
 

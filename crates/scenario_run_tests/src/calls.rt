@@ -3,7 +3,7 @@
 use authenticators::NodeId;
 use evidence_store::{Evidence, PlainStore};
 use ref_programs::Tally;
-use scenario_run::{Outcome, run};
+use scenario_run::{Outcome, RunFault, run};
 use scenarios::Scenario;
 use std::alloc::Global;
 use std::sync::Wait;
@@ -30,5 +30,23 @@ fn a_scenario_is_run(rt: HostRuntime) -> Result<(), Fail> {
     for witness in &outcome.witnesses {
         assert_eq!(rt; witness.store.count(), 3);
     }
+    Ok(())
+}
+
+#[test]
+fn a_wrong_number_of_workers_is_told(rt: HostRuntime) -> Result<(), Fail> {
+    let scenario = Scenario::read(rt.alloc(), b"witnesses 1\nnode 1 honest\ntimer 1 5\n")?;
+    for workers in [0, 3, usize::MAX] {
+        let told: Result<Outcome<PlainStore<Tally>>, RunFault> = run(
+            &rt,
+            rt.alloc(),
+            Tally,
+            &scenario,
+            workers,
+        );
+        assert!(rt; matches!(told, Err(RunFault::BadWorkers)));
+    }
+    assert_eq!(rt; RunFault::BadWorkers.number(), 90);
+    assert_eq!(rt; RunFault::BadWorkers.name(), "BadWorkers");
     Ok(())
 }
