@@ -24,8 +24,6 @@ mod open_chain;
 mod secret_key;
 mod seed_chains;
 mod signature_text;
-#[cfg(test)]
-mod tests;
 mod text;
 mod tree;
 mod types;

@@ -19,5 +19,3 @@ mod numbers;
 mod scenario;
 mod statement;
 mod statements;
-#[cfg(test)]
-mod tests;

@@ -1,6 +1,6 @@
 //! The words for indications.
 
-use crate::Indication;
+use evidence_set::Indication;
 use std::test::Fail;
 
 #[test]

@@ -1,6 +1,6 @@
 //! Scenarios that are read, and texts that are none.
 
-use crate::{Act, Kind, Member, NodeId, Scenario, ScenarioFault};
+use scenarios::{Act, Kind, Member, NodeId, Scenario, ScenarioFault};
 use std::alloc::Global;
 use std::test::Fail;
 

@@ -2,7 +2,7 @@
 
 ghost use Rattle.std.specs.Prelude.{◌≡◌, IfOk, OnOk};
 
-use crate::exposes;
+use accuracy::exposes;
 use authenticators::{Authenticator, Directory, NodeId, statement_text};
 use commitment::Node;
 use evidence_item::{Item, check_item};

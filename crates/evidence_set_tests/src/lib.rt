@@ -1,0 +1,5 @@
+//! Tests of the public calls of `evidence_set`.
+#![tactic(auto)]
+
+#[cfg(test)]
+mod calls;
