@@ -8,4 +8,4 @@ returns-in_ok-stores-in-Ok-clause-told g c =
     c.in_ok-stores-in-Ok.stores.items c.in_ok-stores-in-Ok.ensures c.in-Ok.ensures.count c.in-Ok.ensures.held
 
 pub returns-in-Err-clause-told : goal.returns-in-Err-clause-told
-returns-in-Err-clause-told g c = inr (c.in-Err.fault, refl, λ bad. c.in-Err.ensures.workers.0 (ap Err bad), λ wrong. cc (c.in-Err.ensures.workers.1 wrong))
+returns-in-Err-clause-told g c = inr (c.in-Err.fault, refl, (λ bad. c.in-Err.ensures.workers.0 (ap Err bad), λ wrong. cc (c.in-Err.ensures.workers.1 wrong)))
