@@ -1,5 +1,5 @@
 -- Stores and what contracts see of them.
-use Rattle.std.proofs.Common.{◌≡◌, ◌<◌, ◌×◌, ℕ, List, length, map, get_or, sym, ap, subst, ◌∙◌, arith}
+use Rattle.std.proofs.Common.{◌≡◌, ◌<◌, ℕ, List, length, map, get_or, sym, ap, subst, ◌∙◌, arith}
 use Rattle.std.proofs.lemmas.List.{get_or-map, length-map}
 use Rattle.evidence_store.specs.Contents.{Contents}
 use Rattle.witness_core.specs.Worlds.{nothing}
