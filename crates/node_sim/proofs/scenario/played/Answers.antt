@@ -1,4 +1,4 @@
-use Rattle.std.proofs.Common.{Err, ap, inr, refl, ◌∙◌}
+use Rattle.std.proofs.Common.{Err, ap, inr, refl}
 use Rattle.node_sim.proofs.Plays.{are_played}
 use Rattle.node_sim.proofs.scenario.played.Goals as goal
 
