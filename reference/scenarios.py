@@ -10,7 +10,7 @@ import sys
 from nodes import Key, Node, sha256, u8, u32, u64
 from stores import demand, spelled_segment, text, turned
 
-TESTS = os.path.join(os.path.dirname(os.path.abspath(__file__)), "..", "crates", "simulation_tests", "src", "calls.rt")
+TESTS = os.path.join(os.path.dirname(os.path.abspath(__file__)), "..", "crates", "command_tests", "src", "playing.rt")
 NODES = [(1, "honest"), (4, "fork"), (2, "wrong"), (3, "mute"), (9, "fork")]
 ACTS = [("timer", 1, 5), ("timer", 2, 7), ("checkpoint", 2), ("timer", 3, 9), ("audit", 3), ("audit", 9), ("timer", 4, 1), ("audit", 2), ("audit", 1)]
 

@@ -1,6 +1,6 @@
 #!/usr/bin/env python3
-"""Makes the lines that the program store_vectors answers, over Python's hashlib alone, and compares them with its standard input;
-`--write` writes them there.
+"""Makes the lines on stores that the program evidence_vectors answers, over Python's hashlib alone, and compares them with those at
+the end of its standard input; `--write` writes them there.
 
 It shares no code with the crates: the items are signed and spelled here again, from the formats (docs/FORMATS.md) and RFC 8554, and
 what a store says of the nodes stands beside each set of items.
@@ -243,14 +243,19 @@ def spell(items):
     return ",".join(item.hex() for item in items) or "-"
 
 
+HEAD = "# What stores say of items, as reference/stores.py writes it.\n"
+
+
 def main():
-    path = os.path.join(os.path.dirname(os.path.abspath(__file__)), "..", "crates", "store_vectors", "stdin")
+    path = os.path.join(os.path.dirname(os.path.abspath(__file__)), "..", "crates", "evidence_vectors", "stdin")
     text = "".join(line + "\n" for line in lines())
-    if "--write" in sys.argv:
-        with open(path, "w", encoding="utf-8") as file:
-            file.write(text)
     with open(path, encoding="utf-8") as file:
-        same = file.read() == text
+        items, head, stores = file.read().partition(HEAD)
+    if "--write" in sys.argv:
+        stores = text
+        with open(path, "w", encoding="utf-8") as file:
+            file.write(items + HEAD + text)
+    same = head == HEAD and stores == text
     print("the lines are those of", path if same else "no file: they differ")
     sys.exit(not same)
 

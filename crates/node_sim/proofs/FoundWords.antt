@@ -6,7 +6,7 @@ use Rattle.clap.specs.Matches.{subcommand_name_of}
 use Rattle.clap.specs.Words.{App, HasMatchesOf, Row, Text, is_simple, one_of, subcommand_of, subcommand_rows_of}
 use Rattle.clap.specs.declared.parser.matches.ArgMatches.{ArgMatches}
 use Rattle.node_sim.specs.CommandLine.{AsksFor, Names, flag_in, found_in, program}
-use Rattle.node_sim.specs.declared.task.Task.{Task}
+use Rattle.commands.specs.declared.task.Task.{Task}
 use Rattle.node_sim.specs.declared.words.Request.{Request}
 use Rattle.node_sim.proofs.PlainLines.{flag_text}
 

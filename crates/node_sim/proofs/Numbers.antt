@@ -3,8 +3,8 @@ use Rattle.std.proofs.Common.{◌≡◌, ◌∙◌, ℕ, ap, arith, codes, refl,
 use Rattle.std.specs.Str.Parse.{ParsesUnsigned}
 use Rattle.clap.specs.Words.{Row, Text, one_of}
 use Rattle.node_sim.specs.CommandLine.{HasNumber, IsNumber, Names}
-use Rattle.node_sim.specs.declared.task.Task.{Task}
-use Rattle.node_sim.specs.declared.task.Task.TheVariants.{Check, Merge, Prove, Run, Status}
+use Rattle.commands.specs.declared.task.Task.{Task}
+use Rattle.commands.specs.declared.task.Task.TheVariants.{Check, Merge, Prove, Run, Status}
 
 -- a number that was read of an argument is that of its text
 has_number : (id : Text) (rows : List Row) (n : ℕ) → (one_of id rows ≡ None → ◌≡◌ {A = Option ℕ} (Some n) None) → ((t : Text) → one_of id rows ≡ Some t → IsNumber t n) → HasNumber id rows n

@@ -4,8 +4,8 @@ use Rattle.std.specs.Prelude.{option_and_then}
 use Rattle.clap.proofs.OnLiterals.{clap_on_literals}
 use Rattle.clap.specs.Words.{Row, Text, one_of}
 use Rattle.node_sim.specs.CommandLine.{AsksFor, IsNumber, IsPlainLine, IsPlainName, Names, flag_in, found_in, word_faults}
-use Rattle.node_sim.specs.declared.task.Task.{Task}
-use Rattle.node_sim.specs.declared.task.Task.TheVariants.{Check, Merge, Prove, Run, Status}
+use Rattle.commands.specs.declared.task.Task.{Task}
+use Rattle.commands.specs.declared.task.Task.TheVariants.{Check, Merge, Prove, Run, Status}
 use Rattle.node_sim.specs.declared.words.Request.{Request}
 
 abbrev pub flag_text : Bool → Text

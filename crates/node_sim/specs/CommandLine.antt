@@ -5,8 +5,8 @@ use Rattle.clap.specs.Simple.{on_top}
 use Rattle.clap.specs.Words.{App, Kinds, Row, Rule, Text, fault_of, new_app, new_rule, one_of, subcommand_of, with_rule, with_subcommand}
 use Rattle.clap.specs.declared.builder.ArgAction.TheVariants.{SetTrue}
 use Rattle.clap.specs.declared.builder.ValueParser.TheVariants.{Signed}
-use Rattle.node_sim.specs.declared.task.Task.{Task}
-use Rattle.node_sim.specs.declared.task.Task.TheVariants.{Check, Merge, Prove, Run, Status}
+use Rattle.commands.specs.declared.task.Task.{Task}
+use Rattle.commands.specs.declared.task.Task.TheVariants.{Check, Merge, Prove, Run, Status}
 use Rattle.node_sim.specs.declared.words.Request.{Request}
 
 -- the flag `--relay`

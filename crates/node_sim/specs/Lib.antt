@@ -1,11 +1,1 @@
-pub mod Answers
 pub mod CommandLine
-pub mod Devices
-pub mod Engines
-pub mod HexLines
-pub mod Inputs
-pub mod Output
-pub mod Refusals
-pub mod Scenarios
-pub mod Witnesses
-pub mod within

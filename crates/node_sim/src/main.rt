@@ -8,36 +8,17 @@
 //! - `check` writes whom a proof convicts: `exposes ID`.
 //! - `run` plays a scenario, and writes what each of its witnesses tells of each node.
 //!
-//! Each of them is an engine, in the module of its name (that of `run` is `scenario`), whose function `run` carries the theorem; `engine` has what they share.
-//! Here words are read, and an answer is told.
+//! Each of them is an engine of the crate `commands`, which carries its theorem. Here words are read, and an answer is told.
 #![tactic(auto)]
 
 ghost use Rattle.std.specs.Prelude.{◌≡◌, OnErr, OnOk};
 ghost use Rattle.std.specs.Process.{exit_status};
 
-pub mod check;
-pub mod device;
-#[cfg(test)]
-mod device_tests;
-pub mod engine;
-pub mod evidence;
-pub mod fault;
-pub mod input;
-pub mod laws;
-pub mod lines;
-pub mod merge;
-pub mod prove;
-pub mod report;
-pub mod scenario;
-pub mod status;
-pub mod task;
-pub mod telling;
-#[cfg(test)]
-mod testing;
 mod words;
 
-use device::{CountedReader, CountedWriter};
-use fault::Fault;
+use commands::device::{CountedReader, CountedWriter};
+use commands::fault::Fault;
+use commands::task::Task;
 use ref_programs::{Relay, Tally};
 use replay_verifier::Program;
 use std::alloc::Global;
@@ -45,7 +26,6 @@ use std::io;
 use std::process::ExitCode;
 use std::sync::Wait;
 use std::thread::Threads;
-use task::Task;
 use words::{Asked, Request};
 
 /// Ends with 0 where the command was done, with 1 after `refused NUMBER NAME`, and with 2 after clap's text.

@@ -4,15 +4,15 @@ ghost use Rattle.std.specs.Prelude.{◌≡◌, codes, false, true, IfOk, IfSome,
 ghost use Rattle.std.specs.String.{string_bytes};
 ghost use Rattle.clap.specs.Words.{FailsBy, app_of, found_of, kind_of, rows_of, rule_of};
 ghost use Rattle.node_sim.specs.CommandLine.{AsksFor, IsPlainLine, Names, alone, flag_in, node, plain, program, prove, relay, run, word_faults, workers};
-ghost use Rattle.node_sim.specs.declared.fault.Fault.{Fault};
-ghost use Rattle.node_sim.specs.declared.fault.Fault.TheVariants.{Memory};
+ghost use Rattle.commands.specs.declared.fault.Fault.{Fault};
+ghost use Rattle.commands.specs.declared.fault.Fault.TheVariants.{Memory};
 ghost use Rattle.node_sim.specs.declared.words.Asked.TheVariants.{Refused};
 
-use crate::fault::Fault;
-use crate::task::Task;
 use authenticators::NodeId;
 use clap::error::ErrorKind;
 use clap::{Arg, ArgAction, ArgMatches, Command, Error, value_parser};
+use commands::fault::Fault;
+use commands::task::Task;
 use std::alloc::{AllocError, Global};
 use std::io;
 

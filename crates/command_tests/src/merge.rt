@@ -1,0 +1,77 @@
+//! Stores of two statements, and their unions.
+
+use crate::testing::{equivocation, halves, no_statements, outcome, statements, unsigned};
+use commands::fault::Fault;
+use commands::task::Task;
+use std::alloc::{AllocError, Global};
+use std::sync::Wait;
+use std::test::Fail;
+use std::thread::Threads;
+
+/// A line of a store of one item.
+fn push_store(input: &mut Vec<u8>, item: &[u8]) -> Result<(), AllocError> {
+    input.extend_from_slice(b"\n505253544f5245310000000000000001")?;
+    input.extend_from_slice(item)
+}
+
+/// The union of three stores of one item each.
+fn union_of_three<H: Threads + Wait + Sync>(
+    rt: &H,
+    alloc: Global,
+    items: [&[u8]; 3],
+) -> Result<Vec<u8>, Fail> {
+    let (directory, _, _) = statements();
+    let mut input = directory.to_vec(alloc)?;
+    for item in items {
+        push_store(&mut input, item)?;
+    }
+    let (answer, written) = outcome(rt, alloc, Task::Merge, input.as_slice());
+    answer?;
+    Ok(written)
+}
+
+/// The union where a second store, behind an empty one, has a statement with no signature.
+fn faulty<H: Threads + Wait + Sync>(
+    rt: &H,
+    alloc: Global,
+) -> Result<(Result<(), Fault>, usize), Fail> {
+    let (_, store) = halves(unsigned(), 264);
+    let mut input = no_statements().to_vec(alloc)?;
+    input.extend_from_slice(store)?;
+    let (answer, written) = outcome(rt, alloc, Task::Merge, input.as_slice());
+    Ok((answer, written.len()))
+}
+
+#[test]
+fn stores_are_joined_in_each_order(rt: HostRuntime) -> Result<(), Fail> {
+    let (_, first, second) = statements();
+    let (_, store) = halves(equivocation(), 145);
+    for items in [
+        [first, second, first],
+        [second, first, second],
+        [second, second, first],
+    ] {
+        let union = union_of_three(&rt, rt.alloc(), items)?;
+        assert!(rt; union.strip_suffix(b"\n") == Some(store));
+    }
+    Ok(())
+}
+
+#[test]
+fn no_stores_are_empty(rt: HostRuntime) {
+    let (directory, _, _) = statements();
+    let (answer, written) = outcome(&rt, rt.alloc(), Task::Merge, directory);
+    assert_eq!(rt; answer, Ok(()));
+    assert_eq!(rt;
+        written.as_slice(),
+        b"505253544f5245310000000000000000\n".as_slice()
+    );
+}
+
+#[test]
+fn each_store_is_checked(rt: HostRuntime) -> Result<(), Fail> {
+    let (answer, written) = faulty(&rt, rt.alloc())?;
+    assert_eq!(rt; answer, Err(Fault::BadSignature));
+    assert_eq!(rt; written, 0);
+    Ok(())
+}

@@ -1,0 +1,58 @@
+//! Outside values.
+
+mod signed;
+
+use crate::testing::{equivocation, no_statements, outcome, unsigned};
+use commands::fault::Fault;
+use commands::task::Task;
+use std::alloc::Global;
+use std::sync::Wait;
+use std::thread::Threads;
+
+/// What is answered and written for an input.
+fn told<H: Threads + Wait + Sync>(
+    rt: &H,
+    alloc: Global,
+    input: &'static [u8],
+) -> (Result<(), Fault>, Vec<u8>) {
+    outcome(rt, alloc, Task::Status, input)
+}
+
+#[test]
+fn nodes_without_statements_are_trusted(rt: HostRuntime) {
+    let (answer, written) = told(&rt, rt.alloc(), no_statements());
+    assert_eq!(rt; answer, Ok(()));
+    assert_eq!(rt; written.as_slice(), b"1 trusted\n2 trusted\n".as_slice());
+}
+
+#[test]
+fn a_node_with_two_hashes_is_exposed(rt: HostRuntime) {
+    let (answer, written) = told(&rt, rt.alloc(), equivocation());
+    assert_eq!(rt; answer, Ok(()));
+    assert_eq!(rt; written.as_slice(), b"7 exposed\n".as_slice());
+}
+
+#[test]
+fn refusals_are_told(rt: HostRuntime) {
+    let inputs: [(&'static [u8], Fault, &str); 4] = [
+        (b"", Fault::LineCount, "refused 104 LineCount"),
+        (
+            b"0g\n505253544f5245310000000000000000",
+            Fault::BadHex,
+            "refused 103 BadHex",
+        ),
+        (
+            b"5052444952454354\n",
+            Fault::LineCount,
+            "refused 104 LineCount",
+        ),
+        (unsigned(), Fault::BadSignature, "refused 49 BadSignature"),
+    ];
+    for (input, fault, text) in inputs {
+        let (answer, written) = told(&rt, rt.alloc(), input);
+        assert_eq!(rt; answer, Err(fault));
+        assert!(rt; written.is_empty());
+        let shown = format!(in rt.alloc(); "{fault}").expect(&rt, "memory");
+        assert_eq!(rt; shown.as_str(), text);
+    }
+}

@@ -1,0 +1,92 @@
+//! Holds items and stores of evidence against what other code makes of the same bytes.
+//!
+//! Standard input has lines `directory HEX`, and behind each of them lines of four kinds, each of which is answered anew.
+//! - `tally ITEM ANSWER` and `relay ITEM ANSWER`: decoding and checking an item under the program of that name. The item is
+//!   hexadecimal, `-` where it has no bytes, and the answer is `refused NUMBER NAME`, `valid` (of an item that is no segment),
+//!   `conforms`, or `deviates PLACE NUMBER NAME`.
+//! - `store ITEMS ITEMS ANSWER`: the items, each in hexadecimal, that two witnesses took, in this order and separated by commas; `-`
+//!   where one took none. The first store merges the second, and the second imports the text of the first: each of them then gives
+//!   the answer, `COUNT` and for each node of the directory `NODE INDICATION OPEN CONVICTED` (how many challenges against it are open,
+//!   and the node that the store's proof convicts, or `-`), and the SHA-256 of its export.
+//! - `cuts ITEMS TEXT PLACE`: the items that a store has, and the text of two items, of which the first ends at this place. Each of the
+//!   text's beginnings, it with a byte more, and it with its items turned is refused, and the store stays as it was.
+#![tactic(auto)]
+
+ghost use Rattle.std.specs.Prelude.{◌≡◌, ◌+◌, ◌-◌, ◌^◌, if◌then◌else◌, min};
+
+mod answers;
+mod cuts;
+mod filling;
+mod items;
+
+use anyhow::{Result, bail};
+use authenticators::Directory;
+use ref_programs::{Relay, Tally};
+use std::alloc::Global;
+use std::io::{self, BufRead, BufReader};
+
+/// Whether the line is answered as it says.
+fn agrees(alloc: Global, directory: &Directory, word: &str, rest: &str) -> Result<bool> {
+    match word {
+        "tally" => items::agrees(alloc, &Tally, directory, rest),
+        "relay" => items::agrees(alloc, &Relay, directory, rest),
+        "store" => answers::agrees(alloc, directory, rest),
+        "cuts" => cuts::agrees(alloc, directory, rest),
+        _ => bail!("no such line"),
+    }
+}
+
+/// The directory of the digits, which takes the place of the one before.
+fn directory_of(alloc: Global, digits: &str) -> Result<Directory> {
+    let bytes = hex::decode(alloc, digits)?;
+    Ok(Directory::from_bytes(alloc, &bytes)?)
+}
+
+/// How many lines are answered as they say, and how many otherwise.
+#[derive(Clone, Copy)]
+struct Counts {
+    agreed: u32,
+    differed: u32,
+}
+
+impl Counts {
+    /// The counts with one answer more.
+    fn with(self, agrees: bool) -> Counts
+        ensures agreed { result.agreed ≡ (if agrees then min (self.agreed + 1) (2 ^ 32 - 1) else self.agreed) }
+        ensures differed { result.differed ≡ (if agrees then self.differed else min (self.differed + 1) (2 ^ 32 - 1)) }
+    {
+        let (agreed, differed) = if agrees { (1, 0) } else { (0, 1) };
+        Counts {
+            agreed: self.agreed.saturating_add(agreed),
+            differed: self.differed.saturating_add(differed),
+        }
+    }
+}
+
+/// Answers the lines in order.
+fn answer_lines(rt: &HostRuntime) -> Result<Counts> {
+    let alloc = rt.alloc();
+    let mut directory = Directory::new(alloc);
+    let mut counts = Counts {
+        agreed: 0,
+        differed: 0,
+    };
+    for line in BufReader::new(alloc, rt.reader())?.lines(alloc) {
+        let line = line?;
+        let Some((word, rest)) = line.as_str().split_once(' ') else {
+            continue;
+        };
+        match word {
+            "#" => {}
+            "directory" => directory = directory_of(alloc, rest)?,
+            word => counts = counts.with(agrees(alloc, &directory, word, rest)?),
+        }
+    }
+    Ok(counts)
+}
+
+fn main(rt: HostRuntime) -> Result<()> {
+    let Counts { agreed, differed } = answer_lines(&rt)?;
+    println!(rt; "{agreed} lines are answered as told, {differed} otherwise")?;
+    Ok(())
+}
