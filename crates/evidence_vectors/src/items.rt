@@ -2,9 +2,21 @@
 
 use anyhow::Result;
 use authenticators::Directory;
-use evidence_item::{Checked, Item, check_item};
+use evidence_item::{Item, check_item};
 use replay_verifier::{Program, Verdict};
 use std::alloc::Global;
+
+/// What replay tells of a valid item.
+fn verdict_told(alloc: Global, verdict: Option<&Verdict>) -> Result<String> {
+    match verdict {
+        None => Ok(String::from_str(alloc, "valid")?),
+        Some(Verdict::Conforms) => Ok(String::from_str(alloc, "conforms")?),
+        Some(Verdict::Deviates { at, reason }) => {
+            let (number, name) = (reason.number(), reason.name());
+            Ok(format!(in alloc; "deviates {at} {number} {name}")?)
+        }
+    }
+}
 
 /// What checking tells of an item under the program.
 fn checked_answer<P: Program + Drop>(
@@ -13,19 +25,11 @@ fn checked_answer<P: Program + Drop>(
     directory: &Directory,
     item: Item,
 ) -> Result<String> {
-    let checked: Checked<P> = match check_item(alloc, program, directory, item) {
-        Ok(checked) => checked,
+    match check_item(alloc, program, directory, item) {
+        Ok(checked) => verdict_told(alloc, checked.verdict()),
         Err(fault) => {
             let (number, name) = (fault.number(), fault.name());
-            return Ok(format!(in alloc; "refused {number} {name}")?);
-        }
-    };
-    match checked.verdict() {
-        None => Ok(String::from_str(alloc, "valid")?),
-        Some(Verdict::Conforms) => Ok(String::from_str(alloc, "conforms")?),
-        Some(Verdict::Deviates { at, reason }) => {
-            let (number, name) = (reason.number(), reason.name());
-            Ok(format!(in alloc; "deviates {at} {number} {name}")?)
+            Ok(format!(in alloc; "refused {number} {name}")?)
         }
     }
 }
