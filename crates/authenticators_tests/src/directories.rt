@@ -39,27 +39,48 @@ fn two_nodes() -> [[u8; 60]; 2] {
     [node_text(1, 5, 4, 0x11), node_text(2, 5, 4, 0x22)]
 }
 
+/// The directory of these two.
+fn read_two(alloc: Global) -> Result<Directory, Fail> {
+    let text = directory_text(alloc, [0, 0, 0, 2], &two_nodes())?;
+    Ok(Directory::from_bytes(alloc, &text)?)
+}
+
+/// The root of a node's key.
+fn root_of(directory: &Directory, node: u32) -> Option<[u8; 32]> {
+    match directory.key_of(NodeId(node)) {
+        Some(key) => Some(key.root),
+        None => None,
+    }
+}
+
 #[test]
 fn a_directory_is_read(rt: HostRuntime) -> Result<(), Fail> {
-    let text = directory_text(rt.alloc(), [0, 0, 0, 2], &two_nodes())?;
-    assert_eq!(rt; text.len(), 132);
-    let directory = Directory::from_bytes(rt.alloc(), &text)
-        .ok()
-        .ok_or("a directory")?;
+    let directory = read_two(rt.alloc())?;
     assert_eq!(rt; directory.nodes(), [NodeId(1), NodeId(2)].as_slice());
-    let key = directory.key_of(NodeId(2)).ok_or("a key")?;
-    assert_eq!(rt; key.root, [0x22; 32]);
+    assert_eq!(rt; root_of(&directory, 2), Some([0x22; 32]));
+    assert_eq!(rt; root_of(&directory, 3), None);
+    Ok(())
+}
+
+#[test]
+fn a_directory_contains_its_nodes(rt: HostRuntime) -> Result<(), Fail> {
+    let directory = read_two(rt.alloc())?;
     assert!(rt; directory.contains(NodeId(1)) && !directory.contains(NodeId(3)));
-    assert!(rt; directory.key_of(NodeId(3)).is_none());
+    Ok(())
+}
+
+#[test]
+fn a_directory_equals_its_copy_alone(rt: HostRuntime) -> Result<(), Fail> {
+    let directory = read_two(rt.alloc())?;
     let copy = directory.try_clone()?;
-    assert!(rt; copy == directory);
-    assert!(rt; copy != Directory::new(rt.alloc()));
+    assert!(rt; copy == directory && copy != Directory::new(rt.alloc()));
     Ok(())
 }
 
 #[test]
 fn a_directory_that_is_cut_off_is_truncated(rt: HostRuntime) -> Result<(), Fail> {
     let mut text = directory_text(rt.alloc(), [0, 0, 0, 2], &two_nodes())?;
+    assert_eq!(rt; text.len(), 132);
     for _ in 0..132 {
         let _ = text.pop();
         let fault = Directory::from_bytes(rt.alloc(), &text).err();
@@ -143,19 +164,24 @@ fn the_first_fault_of_a_directory_is_told(rt: HostRuntime) -> Result<(), Fail> {
     Ok(())
 }
 
-/// Whether the text of two nodes is read, and written as it was.
-fn is_written_again(alloc: Global, text: &[u8]) -> Result<bool, Fail> {
+#[test]
+fn a_directory_has_a_length(rt: HostRuntime) -> Result<(), Fail> {
+    let directory = read_two(rt.alloc())?;
+    assert!(rt; directory.len() == 2 && !directory.is_empty());
+    Ok(())
+}
+
+/// The text of the directory that is read of a text.
+fn written_again(alloc: Global, text: &[u8]) -> Result<Vec<u8>, Fail> {
     let directory = Directory::from_bytes(alloc, text)?;
-    if directory.len() != 2 || directory.is_empty() {
-        return Ok(false);
-    }
-    Ok(directory.to_bytes()?.as_slice() == text)
+    Ok(directory.to_bytes()?)
 }
 
 #[test]
 fn a_directory_is_written_as_it_was_read(rt: HostRuntime) -> Result<(), Fail> {
     let text = directory_text(rt.alloc(), [0, 0, 0, 2], &two_nodes())?;
-    assert!(rt; is_written_again(rt.alloc(), &text)?);
+    let written = written_again(rt.alloc(), &text)?;
+    assert!(rt; written.as_slice() == text.as_slice());
     Ok(())
 }
 
@@ -183,26 +209,29 @@ fn numbered_key(node: u32) -> Result<PublicKey, Fail> {
     text[3] = 5;
     text[7] = 4;
     text[20..24].copy_from_slice(&[a, b, c, d]);
-    let Ok(key) = PublicKey::from_bytes(&text) else {
-        return Err("a key")?;
-    };
-    Ok(key)
+    Ok(PublicKey::from_bytes(&text)?)
+}
+
+/// A directory of 1024 nodes, which are numbered from 0 on.
+fn full_directory(alloc: Global) -> Result<Directory, Fail> {
+    let mut directory = Directory::new(alloc);
+    for node in 0..1024 {
+        directory.add(NodeId(node), numbered_key(node)?)?;
+    }
+    Ok(directory)
 }
 
 #[test]
 fn a_thousand_and_twenty_four_nodes_fit(rt: HostRuntime) -> Result<(), Fail> {
-    let mut directory = Directory::new(rt.alloc());
-    for node in 0..1024 {
-        assert_eq!(rt; directory.add(NodeId(node), numbered_key(node)?), Ok(()));
-    }
-    let full = directory.try_clone()?;
+    let full = full_directory(rt.alloc())?;
+    let mut directory = full.try_clone()?;
     for (node, key, fault) in [
         (1023, 2000, DirectoryFault::DuplicateNode),
         (1024, 1023, DirectoryFault::DuplicateKey),
         (1024, 1024, DirectoryFault::TooManyNodes),
     ] {
-        assert_eq!(rt; directory.add(NodeId(node), numbered_key(key)?), Err(fault));
-        assert!(rt; directory == full);
+        let added = directory.add(NodeId(node), numbered_key(key)?);
+        assert!(rt; added == Err(fault) && directory == full);
     }
     Ok(())
 }
@@ -216,13 +245,36 @@ fn a_statement_is_number_and_hash(rt: HostRuntime) -> Result<(), Fail> {
     Ok(())
 }
 
+/// The directory of that key as node 7's, and of another as node 8's.
+fn signer_and_another(alloc: Global) -> Result<Directory, Fail> {
+    let mut key = [0; 56];
+    hex::decode_to_slice(key_text(), &mut key)?;
+    let mut directory = Directory::new(alloc);
+    directory.add(NodeId(7), PublicKey::from_bytes(&key)?)?;
+    directory.add(NodeId(8), numbered_key(8)?)?;
+    Ok(directory)
+}
+
+/// Whether that signature makes the node's number and a hash of 32 equal bytes a valid statement.
+fn is_valid(
+    alloc: Global,
+    directory: &Directory,
+    node: u32,
+    seq: u64,
+    hash: u8,
+) -> Result<bool, Fail> {
+    let statement = Authenticator {
+        node: NodeId(node),
+        seq,
+        hash: Hash([hash; 32]),
+        sig: ByteString::from_vec(hex::decode(alloc, signature_text())?),
+    };
+    Ok(statement.is_valid(directory))
+}
+
 #[test]
 fn statements_of_another_implementation_are_valid(rt: HostRuntime) -> Result<(), Fail> {
-    let key = hex::decode(rt.alloc(), key_text())?;
-    let key = PublicKey::from_bytes(&key).ok().ok_or("a key")?;
-    let mut directory = Directory::new(rt.alloc());
-    assert_eq!(rt; directory.add(NodeId(7), key), Ok(()));
-    assert_eq!(rt; directory.add(NodeId(8), numbered_key(8)?), Ok(()));
+    let directory = signer_and_another(rt.alloc())?;
     for (node, seq, hash, valid) in [
         (7, 1000, 1, true),
         (7, 1001, 1, false),
@@ -230,17 +282,7 @@ fn statements_of_another_implementation_are_valid(rt: HostRuntime) -> Result<(),
         (8, 1000, 1, false),
         (9, 1000, 1, false),
     ] {
-        let statement = Authenticator {
-            node: NodeId(node),
-            seq,
-            hash: Hash([hash; 32]),
-            sig: ByteString::from_vec(hex::decode(rt.alloc(), signature_text())?),
-        };
-        assert_eq!(rt;
-            statement.is_valid(&directory),
-            valid,
-            "node {node} number {seq}"
-        );
+        assert!(rt; is_valid(rt.alloc(), &directory, node, seq, hash)? == valid);
     }
     Ok(())
 }

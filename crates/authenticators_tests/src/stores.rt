@@ -23,21 +23,45 @@ fn insert(
     Ok(store.insert(statement(alloc, node, seq, hash, sig)?)?)
 }
 
-/// Whether these are the statements of the slice, in this order.
-fn are(
-    alloc: Global,
-    found: &[Authenticator],
-    expected: &[(u32, u64, u8, u8)],
-) -> Result<bool, Fail> {
-    if found.len() != expected.len() {
-        return Ok(false);
-    }
-    for (x, (node, seq, hash, sig)) in found.iter().zip(expected) {
-        if *x != statement(alloc, *node, *seq, *hash, *sig)? {
-            return Ok(false);
+/// A store of these statements, of which each was new.
+fn store_of(alloc: Global, statements: &[(u32, u64, u8, u8)]) -> Result<AuthenticatorStore, Fail> {
+    let mut store = AuthenticatorStore::new(alloc);
+    for one in statements {
+        if !insert(alloc, &mut store, *one)? {
+            return Err("each is new")?;
         }
     }
-    Ok(true)
+    Ok(store)
+}
+
+/// Whether it is the statement of these.
+fn is(found: &Authenticator, (node, seq, hash, sig): (u32, u64, u8, u8)) -> bool {
+    found.node == NodeId(node)
+        && found.seq == seq
+        && found.hash == Hash([hash; 32])
+        && found.sig.as_slice() == [sig].as_slice()
+}
+
+/// Whether these are the statements of the slice, in this order.
+fn are(found: &[Authenticator], expected: &[(u32, u64, u8, u8)]) -> bool {
+    if found.len() != expected.len() {
+        return false;
+    }
+    for (one, of) in found.iter().zip(expected) {
+        if !is(one, *of) {
+            return false;
+        }
+    }
+    true
+}
+
+#[test]
+fn a_statement_equals_its_like_alone(rt: HostRuntime) -> Result<(), Fail> {
+    let one = statement(rt.alloc(), 1, 5, 7, 0)?;
+    let like = statement(rt.alloc(), 1, 5, 7, 0)?;
+    let other = statement(rt.alloc(), 1, 5, 8, 0)?;
+    assert!(rt; one == like && one != other);
+    Ok(())
 }
 
 /// The key of a node: H5 and W8, with the node's number at the end of identifier and seed, which are zero before it.
@@ -100,36 +124,29 @@ fn two_signed_hashes_of_one_number_are_a_conflict(rt: HostRuntime) -> Result<(),
 
 #[test]
 fn two_signatures_of_one_hash_are_no_conflict(rt: HostRuntime) -> Result<(), Fail> {
-    let mut store = AuthenticatorStore::new(rt.alloc());
-    assert!(rt; insert(rt.alloc(), &mut store, (1, 5, 7, 1))?);
-    assert!(rt; insert(rt.alloc(), &mut store, (1, 5, 7, 0))?);
+    let mut store = store_of(rt.alloc(), &[(1, 5, 7, 1), (1, 5, 7, 0)])?;
     assert!(rt; !insert(rt.alloc(), &mut store, (1, 5, 7, 1))?);
     assert!(rt; store.conflict(NodeId(1)).is_none());
     let found = store.at(NodeId(1), 5);
-    assert!(rt; are(rt.alloc(), found, &[(1, 5, 7, 0), (1, 5, 7, 1)])?);
+    assert!(rt; are(found, &[(1, 5, 7, 0), (1, 5, 7, 1)]));
     Ok(())
 }
 
 #[test]
 fn two_hashes_of_one_number_are_a_conflict(rt: HostRuntime) -> Result<(), Fail> {
-    let mut store = AuthenticatorStore::new(rt.alloc());
-    assert!(rt; insert(rt.alloc(), &mut store, (1, 5, 8, 0))?);
-    assert!(rt; insert(rt.alloc(), &mut store, (1, 5, 7, 0))?);
-    assert!(rt; insert(rt.alloc(), &mut store, (2, 5, 9, 0))?);
+    let statements = [(1, 5, 8, 0), (1, 5, 7, 0), (2, 5, 9, 0)];
+    let store = store_of(rt.alloc(), &statements)?;
     let Some((a, b)) = store.conflict(NodeId(1)) else {
         return Err("a conflict")?;
     };
-    assert!(rt; *a == statement(rt.alloc(), 1, 5, 7, 0)?);
-    assert!(rt; *b == statement(rt.alloc(), 1, 5, 8, 0)?);
-    assert!(rt; store.conflict(NodeId(2)).is_none());
-    assert!(rt; store.conflict(NodeId(3)).is_none());
+    assert!(rt; is(a, (1, 5, 7, 0)) && is(b, (1, 5, 8, 0)));
+    assert!(rt; store.conflict(NodeId(2)).is_none() && store.conflict(NodeId(3)).is_none());
     Ok(())
 }
 
-#[test]
-fn statements_are_found_by_number(rt: HostRuntime) -> Result<(), Fail> {
-    let mut store = AuthenticatorStore::new(rt.alloc());
-    for one in [
+/// A store of statements of three nodes, put in out of order.
+fn store_of_three_nodes(alloc: Global) -> Result<AuthenticatorStore, Fail> {
+    let statements = [
         (2, 7, 1, 3),
         (1, u64::MAX, 2, 0),
         (2, 4, 1, 0),
@@ -138,10 +155,24 @@ fn statements_are_found_by_number(rt: HostRuntime) -> Result<(), Fail> {
         (2, 9, 6, 0),
         (2, 7, 0, 9),
         (2, 0, 5, 0),
-    ] {
-        assert!(rt; insert(rt.alloc(), &mut store, one)?);
-    }
+    ];
+    store_of(alloc, &statements)
+}
+
+#[test]
+fn statements_are_found_by_number(rt: HostRuntime) -> Result<(), Fail> {
+    let store = store_of_three_nodes(rt.alloc())?;
     let sevens = [(2, 7, 0, 9), (2, 7, 1, 2), (2, 7, 1, 3)];
+    assert!(rt; are(store.at(NodeId(2), 7), &sevens));
+    let last = [(1, u64::MAX, 2, 0)];
+    assert!(rt; are(store.at(NodeId(1), u64::MAX), &last));
+    assert!(rt; store.at(NodeId(2), 5).is_empty());
+    Ok(())
+}
+
+#[test]
+fn statements_are_found_by_range(rt: HostRuntime) -> Result<(), Fail> {
+    let store = store_of_three_nodes(rt.alloc())?;
     let four_to_nine = [
         (2, 4, 1, 0),
         (2, 7, 0, 9),
@@ -149,20 +180,21 @@ fn statements_are_found_by_number(rt: HostRuntime) -> Result<(), Fail> {
         (2, 7, 1, 3),
         (2, 9, 6, 0),
     ];
-    assert!(rt; are(rt.alloc(), store.at(NodeId(2), 7), &sevens)?);
-    assert!(rt; are(rt.alloc(), store.range(NodeId(2), 5, 8), &sevens)?);
-    assert!(rt; are(rt.alloc(), store.range(NodeId(2), 4, 9), &four_to_nine)?);
-    assert!(rt;
-        are(
-            rt.alloc(),
-            store.at(NodeId(1), u64::MAX),
-            &[(1, u64::MAX, 2, 0)]
-        )?
-    );
-    assert!(rt; store.range(NodeId(2), 0, u64::MAX).len() == 6);
-    assert!(rt; store.range(NodeId(2), 9, 4).is_empty());
-    assert!(rt; store.at(NodeId(2), 5).is_empty());
-    assert!(rt; store.range(NodeId(4), 0, u64::MAX).is_empty());
+    let sevens = [(2, 7, 0, 9), (2, 7, 1, 2), (2, 7, 1, 3)];
+    assert!(rt; are(store.range(NodeId(2), 4, 9), &four_to_nine));
+    assert!(rt; are(store.range(NodeId(2), 5, 8), &sevens));
+    Ok(())
+}
+
+#[test]
+fn a_range_is_as_long_as_it_finds(rt: HostRuntime) -> Result<(), Fail> {
+    let store = store_of_three_nodes(rt.alloc())?;
+    let lengths = [
+        store.range(NodeId(2), 0, u64::MAX).len(),
+        store.range(NodeId(2), 9, 4).len(),
+        store.range(NodeId(4), 0, u64::MAX).len(),
+    ];
+    assert_eq!(rt; lengths, [6, 0, 0]);
     Ok(())
 }
 

@@ -1,7 +1,7 @@
 //! Checking: each fault, and a valid item of each form, under the directory of the nodes 1 and 2.
 
 use crate::samples::{
-    Idle, ZEROS, make_nodes, no_bytes, valid_ack, valid_audit, valid_auth, valid_send,
+    Idle, Nodes, ZEROS, make_nodes, no_bytes, valid_ack, valid_audit, valid_auth, valid_send,
 };
 use authenticators::{Authenticator, Directory, NodeId};
 use commitment::Message;
@@ -84,74 +84,87 @@ fn audit_fault(
     Ok(fault_in(alloc, directory, item))
 }
 
+/// The same of statements of the nodes 1 and 3, and of messages from 1 to 1, from 3 to 3, and from 1 to 2.
+fn first_faults(alloc: Global, directory: &Directory) -> Result<[Option<ItemFault>; 5], Fail> {
+    Ok([
+        auth_fault(alloc, directory, 1)?,
+        auth_fault(alloc, directory, 3)?,
+        message_fault(alloc, directory, 1, 1)?,
+        message_fault(alloc, directory, 3, 3)?,
+        message_fault(alloc, directory, 1, 2)?,
+    ])
+}
+
 #[test]
 fn the_first_fault_is_told(rt: HostRuntime) -> Result<(), Fail> {
-    let alloc = rt.alloc();
-    let nodes = make_nodes(alloc)?;
-    let ds = &nodes.directory;
-    assert_eq!(rt; auth_fault(alloc, ds, 1)?, Some(ItemFault::BadSignature));
-    assert_eq!(rt; auth_fault(alloc, ds, 3)?, Some(ItemFault::UnknownNode));
-    assert_eq!(rt;
-        message_fault(alloc, ds, 1, 1)?,
-        Some(ItemFault::SelfMessage)
-    );
-    assert_eq!(rt;
-        message_fault(alloc, ds, 3, 3)?,
-        Some(ItemFault::UnknownNode)
-    );
-    assert_eq!(rt;
-        message_fault(alloc, ds, 1, 2)?,
-        Some(ItemFault::BadSignature)
-    );
+    let nodes = make_nodes(rt.alloc())?;
+    let expected = [
+        Some(ItemFault::BadSignature),
+        Some(ItemFault::UnknownNode),
+        Some(ItemFault::SelfMessage),
+        Some(ItemFault::UnknownNode),
+        Some(ItemFault::BadSignature),
+    ];
+    assert_eq!(rt; first_faults(rt.alloc(), &nodes.directory)?, expected);
     Ok(())
+}
+
+/// The same of segments with no entry, and of a TIMER and of a CHECKPOINT after zeros, and of a TIMER after the base.
+fn segment_faults(alloc: Global, directory: &Directory) -> Result<[Option<ItemFault>; 4], Fail> {
+    Ok([
+        segment_fault(alloc, directory, ZEROS, &[])?,
+        segment_fault(alloc, directory, ZEROS, &[kind::TIMER])?,
+        segment_fault(alloc, directory, ZEROS, &[kind::CHECKPOINT])?,
+        segment_fault(alloc, directory, base_hash(), &[kind::TIMER])?,
+    ])
 }
 
 #[test]
 fn a_segment_starts_well(rt: HostRuntime) -> Result<(), Fail> {
-    let alloc = rt.alloc();
-    let nodes = make_nodes(alloc)?;
-    let ds = &nodes.directory;
-    for (prev, kinds, fault) in [
-        (ZEROS, [].as_slice(), ItemFault::EmptySegment),
-        (ZEROS, [kind::TIMER].as_slice(), ItemFault::BadStart),
-        (
-            ZEROS,
-            [kind::CHECKPOINT].as_slice(),
-            ItemFault::BadSignature,
-        ),
-        (
-            base_hash(),
-            [kind::TIMER].as_slice(),
-            ItemFault::BadSignature,
-        ),
-    ] {
-        assert_eq!(rt; segment_fault(alloc, ds, prev, kinds)?, Some(fault));
-    }
+    let nodes = make_nodes(rt.alloc())?;
+    let expected = [
+        Some(ItemFault::EmptySegment),
+        Some(ItemFault::BadStart),
+        Some(ItemFault::BadSignature),
+        Some(ItemFault::BadSignature),
+    ];
+    assert_eq!(rt; segment_faults(rt.alloc(), &nodes.directory)?, expected);
     Ok(())
+}
+
+/// The same of audit challenges from 6 and from 5 to 6.
+fn audit_faults(alloc: Global, directory: &Directory) -> Result<[Option<ItemFault>; 2], Fail> {
+    Ok([
+        audit_fault(alloc, directory, 6)?,
+        audit_fault(alloc, directory, 5)?,
+    ])
 }
 
 #[test]
 fn an_audit_challenge_has_a_range(rt: HostRuntime) -> Result<(), Fail> {
-    let alloc = rt.alloc();
-    let nodes = make_nodes(alloc)?;
-    let ds = &nodes.directory;
-    assert_eq!(rt; audit_fault(alloc, ds, 6)?, Some(ItemFault::BadRange));
-    assert_eq!(rt; audit_fault(alloc, ds, 5)?, Some(ItemFault::BadSignature));
+    let nodes = make_nodes(rt.alloc())?;
+    let expected = [Some(ItemFault::BadRange), Some(ItemFault::BadSignature)];
+    assert_eq!(rt; audit_faults(rt.alloc(), &nodes.directory)?, expected);
     Ok(())
+}
+
+/// Why a signed statement, audit challenge, message and acknowledged message are refused, if they are.
+fn faults_of_signed(alloc: Global, nodes: &mut Nodes) -> Result<[Option<ItemFault>; 4], Fail> {
+    let item = valid_auth(alloc, nodes)?;
+    let of_auth = fault_in(alloc, &nodes.directory, item);
+    let item = valid_audit(alloc, nodes)?;
+    let of_audit = fault_in(alloc, &nodes.directory, item);
+    let item = valid_send(alloc, nodes)?;
+    let of_send = fault_in(alloc, &nodes.directory, item);
+    let item = valid_ack(alloc, nodes)?;
+    let of_ack = fault_in(alloc, &nodes.directory, item);
+    Ok([of_auth, of_audit, of_send, of_ack])
 }
 
 #[test]
 fn what_is_signed_is_valid(rt: HostRuntime) -> Result<(), Fail> {
-    let alloc = rt.alloc();
-    let mut nodes = make_nodes(alloc)?;
-    let item = valid_auth(alloc, &mut nodes)?;
-    assert_eq!(rt; fault_in(alloc, &nodes.directory, item), None);
-    let item = valid_audit(alloc, &mut nodes)?;
-    assert_eq!(rt; fault_in(alloc, &nodes.directory, item), None);
-    let item = valid_send(alloc, &mut nodes)?;
-    assert_eq!(rt; fault_in(alloc, &nodes.directory, item), None);
-    let item = valid_ack(alloc, &mut nodes)?;
-    assert_eq!(rt; fault_in(alloc, &nodes.directory, item), None);
+    let mut nodes = make_nodes(rt.alloc())?;
+    assert_eq!(rt; faults_of_signed(rt.alloc(), &mut nodes)?, [None; 4]);
     Ok(())
 }
 

@@ -38,24 +38,40 @@ fn told_of(checked: &Checked<Idle>) -> Option<Told> {
     })
 }
 
-#[test]
-fn a_segment_that_deviates_is_valid(rt: HostRuntime) -> Result<(), Fail> {
-    let alloc = rt.alloc();
-    let mut nodes = make_nodes(alloc)?;
-    let item = segment_of(alloc, &mut nodes)?;
-    let checked = check_item(alloc, &Idle, &nodes.directory, item)?;
+/// What is to be told of node 2's segment.
+fn expected(alloc: Global) -> Result<Told, Fail> {
     let verdict = Verdict::Deviates {
         at: 1,
         reason: Reason::BadReceipt,
     };
-    let expected = Told {
+    Ok(Told {
         verdict: Some(verdict),
         hashes: 3,
         quotes: [None, None, Some(sent_hash(alloc)?)],
-    };
-    assert_eq!(rt; told_of(&checked), Some(expected));
+    })
+}
+
+fn checked_segment(alloc: Global, nodes: &mut Nodes) -> Result<Checked<Idle>, Fail> {
+    let item = segment_of(alloc, nodes)?;
+    Ok(check_item(alloc, &Idle, &nodes.directory, item)?)
+}
+
+fn told_of_copy(alloc: Global, checked: &Checked<Idle>) -> Result<Option<Told>, Fail> {
     let copy = checked.try_clone(alloc)?;
-    assert_eq!(rt; told_of(&copy), Some(expected));
+    Ok(told_of(&copy))
+}
+
+/// What checking tells of node 2's segment, and what a copy tells.
+fn told_twice(alloc: Global, nodes: &mut Nodes) -> Result<[Option<Told>; 2], Fail> {
+    let checked = checked_segment(alloc, nodes)?;
+    Ok([told_of(&checked), told_of_copy(alloc, &checked)?])
+}
+
+#[test]
+fn a_segment_that_deviates_is_valid(rt: HostRuntime) -> Result<(), Fail> {
+    let expected = expected(rt.alloc())?;
+    let mut nodes = make_nodes(rt.alloc())?;
+    assert_eq!(rt; told_twice(rt.alloc(), &mut nodes)?, [Some(expected); 2]);
     Ok(())
 }
 
@@ -71,11 +87,9 @@ fn found_again(alloc: Global, nodes: &mut Nodes) -> Result<Option<Told>, Fail> {
 
 #[test]
 fn what_is_missing_is_found_again(rt: HostRuntime) -> Result<(), Fail> {
-    let alloc = rt.alloc();
-    let mut nodes = make_nodes(alloc)?;
-    let again = found_again(alloc, &mut nodes)?.ok_or("findings")?;
-    assert_eq!(rt; again.hashes, 3);
-    assert_eq!(rt; again.quotes, [None, None, Some(sent_hash(alloc)?)]);
+    let expected = expected(rt.alloc())?;
+    let mut nodes = make_nodes(rt.alloc())?;
+    assert_eq!(rt; found_again(rt.alloc(), &mut nodes)?, Some(expected));
     Ok(())
 }
 
@@ -125,12 +139,12 @@ fn received_hash(item: &Item) -> Option<Hash> {
 #[test]
 fn the_statement_of_a_message_is_found(rt: HostRuntime) -> Result<(), Fail> {
     let alloc = rt.alloc();
-    let mut nodes = make_nodes(alloc)?;
-    let item = valid_send(alloc, &mut nodes)?;
     let hashes = Hashes {
         sent: sent_hash(alloc)?,
         received: None,
     };
+    let mut nodes = make_nodes(alloc)?;
+    let item = valid_send(alloc, &mut nodes)?;
     assert_eq!(rt;
         found_twice(alloc, &nodes.directory, item)?,
         [Some(hashes); 2]
@@ -141,18 +155,13 @@ fn the_statement_of_a_message_is_found(rt: HostRuntime) -> Result<(), Fail> {
 #[test]
 fn both_statements_of_an_acknowledged_message_are_found(rt: HostRuntime) -> Result<(), Fail> {
     let alloc = rt.alloc();
+    let sent = sent_hash(alloc)?;
     let mut nodes = make_nodes(alloc)?;
     let item = valid_ack(alloc, &mut nodes)?;
     let received = received_hash(&item);
-    let hashes = Hashes {
-        sent: sent_hash(alloc)?,
-        received,
-    };
+    let found = found_twice(alloc, &nodes.directory, item)?;
     assert!(rt; received.is_some());
-    assert_eq!(rt;
-        found_twice(alloc, &nodes.directory, item)?,
-        [Some(hashes); 2]
-    );
+    assert_eq!(rt; found, [Some(Hashes { sent, received }); 2]);
     Ok(())
 }
 

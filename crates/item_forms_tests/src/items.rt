@@ -158,18 +158,27 @@ fn an_item_that_is_cut_off_is_truncated(rt: HostRuntime) -> Result<(), Fail> {
     Ok(())
 }
 
+/// Writes the item of the form and the number behind what is written.
+fn write(alloc: Global, writer: &mut FieldWriter, form: u8, seq: u32) -> Result<(), Fail> {
+    Ok(item(alloc, form, seq)?.encode_to(writer)?)
+}
+
 /// The text of the statement of number 1, and behind it that of the item of the form.
 fn two_texts(alloc: Global, form: u8) -> Result<Vec<u8>, Fail> {
     let mut writer = FieldWriter::new(alloc);
-    auth(alloc, 1)?.encode_to(&mut writer)?;
-    item(alloc, form, 5)?.encode_to(&mut writer)?;
+    write(alloc, &mut writer, 1, 1)?;
+    write(alloc, &mut writer, form, 5)?;
     Ok(writer.finish())
+}
+
+fn is_next(alloc: Global, reader: &mut FieldReader, item: &Item) -> Result<bool, Fail> {
+    Ok(Item::read(alloc, reader)? == *item)
 }
 
 /// Whether the item that is read next is that of the form and the number.
 fn reads(alloc: Global, reader: &mut FieldReader, form: u8, seq: u32) -> Result<bool, Fail> {
-    let read = Item::read(alloc, reader)?;
-    Ok(read == item(alloc, form, seq)?)
+    let item = item(alloc, form, seq)?;
+    is_next(alloc, reader, &item)
 }
 
 fn is_read_behind_another(alloc: Global, form: u8) -> Result<bool, Fail> {
@@ -180,9 +189,13 @@ fn is_read_behind_another(alloc: Global, form: u8) -> Result<bool, Fail> {
     Ok(first && second && reader.left() == 0)
 }
 
+fn equals_its_copy(alloc: Global, item: &Item) -> Result<bool, Fail> {
+    Ok(item.try_clone(alloc)? == *item)
+}
+
 fn is_copied(alloc: Global, form: u8) -> Result<bool, Fail> {
     let item = item(alloc, form, 5)?;
-    Ok(item.try_clone(alloc)? == item)
+    equals_its_copy(alloc, &item)
 }
 
 #[test]
@@ -204,15 +217,54 @@ fn tag(form: Form) -> u8 {
     }
 }
 
-/// Whether two items are ordered as their texts are, and equal as they are; and whether the first byte names the form.
+/// Whether the first byte of the text names the form.
+fn has_its_tag(alloc: Global, form: u8) -> Result<bool, Fail> {
+    let item = item(alloc, form, 5)?;
+    let text = item.encode(alloc)?;
+    Ok(text.first() == Some(&tag(item.form())))
+}
+
+#[test]
+fn the_first_byte_names_the_form(rt: HostRuntime) -> Result<(), Fail> {
+    for form in 1..7 {
+        assert!(rt; has_its_tag(rt.alloc(), form)?, "form {form}");
+    }
+    Ok(())
+}
+
+fn text(alloc: Global, form: u8, seq: u32) -> Result<Vec<u8>, Fail> {
+    Ok(item(alloc, form, seq)?.encode(alloc)?)
+}
+
+/// How two texts are ordered, and whether they are equal.
+fn order_of_texts(
+    alloc: Global,
+    one: (u8, u32),
+    other: (u8, u32),
+) -> Result<(Ordering, bool), Fail> {
+    let a = text(alloc, one.0, one.1)?;
+    let b = text(alloc, other.0, other.1)?;
+    Ok((a.as_slice().cmp(b.as_slice()), a.as_slice() == b.as_slice()))
+}
+
+/// How the item stands to the other, and whether they are equal.
+fn order_to(alloc: Global, one: &Item, other: (u8, u32)) -> Result<(Ordering, bool), Fail> {
+    let other = item(alloc, other.0, other.1)?;
+    Ok((one.cmp(&other), *one == other))
+}
+
+fn order_of_items(
+    alloc: Global,
+    one: (u8, u32),
+    other: (u8, u32),
+) -> Result<(Ordering, bool), Fail> {
+    let one = item(alloc, one.0, one.1)?;
+    order_to(alloc, &one, other)
+}
+
+/// Whether two items are ordered as their texts are, and equal as they are.
 fn is_ordered(alloc: Global, one: (u8, u32), other: (u8, u32)) -> Result<bool, Fail> {
-    let a = item(alloc, one.0, one.1)?;
-    let b = item(alloc, other.0, other.1)?;
-    let a_text = a.encode(alloc)?;
-    let b_text = b.encode(alloc)?;
-    let order = a_text.as_slice().cmp(b_text.as_slice());
-    let equal = a_text.as_slice() == b_text.as_slice();
-    Ok(a.cmp(&b) == order && (a == b) == equal && a_text.first() == Some(&tag(a.form())))
+    Ok(order_of_items(alloc, one, other)? == order_of_texts(alloc, one, other)?)
 }
 
 #[test]
@@ -232,9 +284,26 @@ fn items_are_ordered_as_their_texts(rt: HostRuntime) -> Result<(), Fail> {
     Ok(())
 }
 
-/// Where the item of the form stands beside a group, which its tag tells and a node or a message of this number.
-fn place(alloc: Global, form: u8, tag: u8, number: u32) -> Result<Ordering, Fail> {
+/// Where the item of the form stands beside the group.
+fn place(alloc: Global, form: u8, group: &Group) -> Result<Ordering, Fail> {
     let item = item(alloc, form, 5)?;
+    Ok(item.cmp_group(group))
+}
+
+/// The same of each of the six.
+fn places_beside(alloc: Global, group: &Group) -> Result<[Ordering; 6], Fail> {
+    Ok([
+        place(alloc, 1, group)?,
+        place(alloc, 2, group)?,
+        place(alloc, 3, group)?,
+        place(alloc, 4, group)?,
+        place(alloc, 5, group)?,
+        place(alloc, 6, group)?,
+    ])
+}
+
+/// The same beside a group, which its tag tells and a node or a message of this number.
+fn places(alloc: Global, tag: u8, number: u32) -> Result<[Ordering; 6], Fail> {
     let message = message(alloc, number as u64)?;
     let group = match tag {
         2 => Group::Segments(NodeId(number)),
@@ -242,18 +311,7 @@ fn place(alloc: Global, form: u8, tag: u8, number: u32) -> Result<Ordering, Fail
         4 => Group::SendChallenges,
         _ => Group::Acknowledgements(&message),
     };
-    Ok(item.cmp_group(&group))
-}
-
-fn places(alloc: Global, tag: u8, number: u32) -> Result<[Ordering; 6], Fail> {
-    Ok([
-        place(alloc, 1, tag, number)?,
-        place(alloc, 2, tag, number)?,
-        place(alloc, 3, tag, number)?,
-        place(alloc, 4, tag, number)?,
-        place(alloc, 5, tag, number)?,
-        place(alloc, 6, tag, number)?,
-    ])
+    places_beside(alloc, &group)
 }
 
 #[test]
@@ -267,10 +325,19 @@ fn items_stand_before_in_or_behind_a_group(rt: HostRuntime) -> Result<(), Fail> 
     assert_eq!(rt; places(rt.alloc(), 4, 1)?, sends);
     let acknowledgements = [less, less, less, less, equal, less];
     assert_eq!(rt; places(rt.alloc(), 5, 6)?, acknowledgements);
-    assert_eq!(rt; place(rt.alloc(), 2, 2, 0)?, greater);
-    assert_eq!(rt; place(rt.alloc(), 2, 2, 2)?, less);
-    assert_eq!(rt; place(rt.alloc(), 5, 5, 5)?, greater);
-    assert_eq!(rt; place(rt.alloc(), 5, 5, 7)?, less);
+    Ok(())
+}
+
+#[test]
+fn items_stand_before_or_behind_groups_of_other_numbers(rt: HostRuntime) -> Result<(), Fail> {
+    let (less, greater) = (Ordering::Less, Ordering::Greater);
+    let behind = [less, greater, greater, greater, greater, greater];
+    assert_eq!(rt; places(rt.alloc(), 2, 0)?, behind);
+    let before = [less, less, greater, greater, greater, greater];
+    assert_eq!(rt; places(rt.alloc(), 2, 2)?, before);
+    let behind = [less, less, less, less, greater, less];
+    assert_eq!(rt; places(rt.alloc(), 5, 5)?, behind);
+    assert_eq!(rt; places(rt.alloc(), 5, 7)?, [less; 6]);
     Ok(())
 }
 

@@ -31,18 +31,33 @@ fn a_hash_is_shown_in_hexadecimal_digits(rt: HostRuntime) -> Result<(), Fail> {
 }
 
 #[test]
-fn refusals_have_numbers_names_and_lines(rt: HostRuntime) -> Result<(), Fail> {
-    assert_eq!(rt; FieldFault::Truncated.number(), 40);
-    assert_eq!(rt; FieldFault::TooLong.name(), "TooLong");
-    assert_eq!(rt; AppendFault::SeqNotRising.number(), 10);
-    assert_eq!(rt; AppendFault::ContentTooLong.name(), "ContentTooLong");
-    assert_eq!(rt; SegmentFault::SegmentTooLong.number(), 13);
-    assert_eq!(rt; SegmentFault::Memory.name(), "Memory");
+fn refusals_have_numbers_and_names(rt: HostRuntime) {
+    let numbers = [
+        FieldFault::Truncated.number(),
+        AppendFault::SeqNotRising.number(),
+        SegmentFault::SegmentTooLong.number(),
+    ];
+    assert_eq!(rt; numbers, [40, 10, 13]);
+    let names = [
+        FieldFault::TooLong.name(),
+        AppendFault::ContentTooLong.name(),
+        SegmentFault::Memory.name(),
+    ];
+    assert!(rt; names == ["TooLong", "ContentTooLong", "Memory"]);
+}
+
+#[test]
+fn a_refused_append_has_a_line(rt: HostRuntime) -> Result<(), Fail> {
     let fault = AppendFault::ContentTooLong;
     let content = ByteString::from_vec(Vec::new(rt.alloc()));
     let shown = format!(in rt.alloc(); "{}", AppendRefused { fault, content })?;
     assert_eq!(rt; shown.as_str(), "the entry's content is too long");
     Ok(())
+}
+
+/// The byte, and the numbers of four and of eight bytes, that the reader gives next.
+fn read_numbers(reader: &mut FieldReader) -> Result<(u8, u32, u64), FieldFault> {
+    Ok((reader.u8()?, reader.u32()?, reader.u64()?))
 }
 
 #[test]
@@ -52,18 +67,18 @@ fn fields_are_read_in_turn(rt: HostRuntime) {
     ];
     let mut reader = FieldReader::new(&text);
     assert_eq!(rt; reader.left(), 21);
-    assert_eq!(rt; reader.u8(), Ok(7));
-    assert_eq!(rt; reader.u32(), Ok(0x0102));
-    assert_eq!(rt; reader.u64(), Ok(0x0304));
-    assert!(rt; reader.bytes(2) == Ok(b"hi".as_slice()));
-    assert!(rt; reader.take(1) == Ok(b".".as_slice()));
-    assert!(rt; reader.hash().is_err());
-    assert_eq!(rt; reader.left(), 1);
+    assert!(rt; read_numbers(&mut reader) == Ok((7, 0x0102, 0x0304)));
+    let slices = (reader.bytes(2), reader.take(1));
+    assert!(rt; slices == (Ok(b"hi".as_slice()), Ok(b".".as_slice())));
+    assert!(rt; reader.hash().is_err() && reader.left() == 1);
     assert!(rt; reader.as_slice() == [9].as_slice());
-    assert!(rt; reader.rest() == [9].as_slice());
-    assert_eq!(rt; reader.left(), 0);
-    let mut hash = FieldReader::new(&[5; 32]);
-    assert!(rt; hash.hash() == Ok(Hash([5; 32])));
+    assert!(rt; reader.rest() == [9].as_slice() && reader.left() == 0);
+}
+
+#[test]
+fn a_hash_is_read_as_it_stands(rt: HostRuntime) {
+    let mut reader = FieldReader::new(&[5; 32]);
+    assert!(rt; reader.hash() == Ok(Hash([5; 32])));
 }
 
 #[test]
@@ -78,22 +93,33 @@ fn a_refused_field_leaves_the_place(rt: HostRuntime) {
 }
 
 #[test]
-fn byte_strings_are_their_bytes(rt: HostRuntime) -> Result<(), Fail> {
+fn byte_strings_are_compared(rt: HostRuntime) -> Result<(), Fail> {
     let text = ByteString::from_slice(rt.alloc(), b"abc")?;
     let copy = text.try_clone(rt.alloc())?;
     let longer = ByteString::from_slice(rt.alloc(), b"abcd")?;
-    assert!(rt; text == copy);
-    assert!(rt; text < longer);
-    assert_eq!(rt; copy.len(), 3);
-    assert!(rt; !copy.is_empty());
-    // FIPS 180-4, as printed by sha256sum.
-    let digest = Hash(Sha256::digest(&copy));
-    let shown = format!(in rt.alloc(); "{digest}")?;
-    let want = "ba7816bf8f01cfea414140de5dae2223b00361a396177a9cb410ff61f20015ad";
-    assert_eq!(rt; shown.as_str(), want);
+    assert!(rt; text == copy && text < longer);
+    Ok(())
+}
+
+#[test]
+fn byte_strings_are_their_bytes(rt: HostRuntime) -> Result<(), Fail> {
+    let text = ByteString::from_slice(rt.alloc(), b"abc")?;
+    let copy = text.try_clone(rt.alloc())?;
+    assert!(rt; copy.len() == 3 && !copy.is_empty());
     let bytes = copy.into_vec();
     assert!(rt; bytes.as_slice() == b"abc".as_slice());
     assert!(rt; ByteString::from_vec(bytes) == text);
+    Ok(())
+}
+
+#[test]
+fn a_byte_string_is_digested_as_its_bytes(rt: HostRuntime) -> Result<(), Fail> {
+    let text = ByteString::from_slice(rt.alloc(), b"abc")?;
+    // FIPS 180-4, as printed by sha256sum.
+    let digest = Hash(Sha256::digest(&text));
+    let shown = format!(in rt.alloc(); "{digest}")?;
+    let want = "ba7816bf8f01cfea414140de5dae2223b00361a396177a9cb410ff61f20015ad";
+    assert_eq!(rt; shown.as_str(), want);
     Ok(())
 }
 
@@ -172,60 +198,122 @@ fn a_chain_ends_with_its_last_hash(rt: HostRuntime) -> Result<(), Fail> {
     Ok(())
 }
 
-#[test]
-fn fields_are_written_in_turn(rt: HostRuntime) -> Result<(), Fail> {
-    let mut writer = FieldWriter::new(rt.alloc());
+/// Writes a field of each kind but a hash: 20 bytes.
+fn write_fields(writer: &mut FieldWriter) -> Result<(), AllocError> {
     writer.u8(7)?;
     writer.u32(0x0102)?;
     writer.u64(0x0304)?;
     writer.bytes(b"hi")?;
-    writer.rest(b".")?;
+    writer.rest(b".")
+}
+
+#[test]
+fn fields_are_written_in_turn(rt: HostRuntime) -> Result<(), Fail> {
+    let mut writer = FieldWriter::new(rt.alloc());
+    write_fields(&mut writer)?;
     assert_eq!(rt; writer.written(), 20);
     writer.rest(b"and more")?;
     writer.truncate(20);
     let text = [
         7, 0, 0, 1, 2, 0, 0, 0, 0, 0, 0, 3, 4, 0, 0, 0, 2, b'h', b'i', b'.',
     ];
-    let written = writer.finish();
-    assert!(rt; written.as_slice() == text.as_slice());
+    assert!(rt; writer.finish().as_slice() == text.as_slice());
+    Ok(())
+}
+
+#[test]
+fn a_hash_is_written_as_it_stands(rt: HostRuntime) -> Result<(), Fail> {
     let mut writer = FieldWriter::with_capacity(rt.alloc(), 32)?;
     writer.hash(Hash([5; 32]))?;
     assert!(rt; writer.finish().as_slice() == [5; 32].as_slice());
     Ok(())
 }
 
+fn append(
+    alloc: Global,
+    history: &mut SecureHistory,
+    seq: u64,
+    kind: u8,
+    content: &[u8],
+) -> Result<Hash, Fail> {
+    let content = ByteString::from_slice(alloc, content)?;
+    Ok(history.append(seq, kind, content)?)
+}
+
+/// Appends the three entries, and answers what the history answers.
+fn append_three(alloc: Global, history: &mut SecureHistory) -> Result<[Hash; 3], Fail> {
+    Ok([
+        append(alloc, history, 1, 1, &[0, 0, 0, 2])?,
+        append(alloc, history, 7, 2, b"abc")?,
+        append(alloc, history, 9, 5, b"")?,
+    ])
+}
+
+/// The history of the three entries.
+fn history_of_three(alloc: Global) -> Result<SecureHistory, Fail> {
+    let mut history = SecureHistory::new(alloc);
+    append_three(alloc, &mut history)?;
+    Ok(history)
+}
+
+/// The history of one entry, which is numbered 1.
+fn history_of_one(alloc: Global) -> Result<SecureHistory, Fail> {
+    let mut history = SecureHistory::new(alloc);
+    append(alloc, &mut history, 1, 1, b"one")?;
+    Ok(history)
+}
+
+#[test]
+fn appending_tells_the_hash(rt: HostRuntime) -> Result<(), Fail> {
+    let mut history = SecureHistory::new(rt.alloc());
+    assert!(rt; history.last().is_none() && history.is_empty());
+    let hashes = append_three(rt.alloc(), &mut history)?;
+    assert!(rt; hashes == [FIRST, SECOND, THIRD]);
+    Ok(())
+}
+
 #[test]
 fn a_history_keeps_the_chain(rt: HostRuntime) -> Result<(), Fail> {
-    let mut history = SecureHistory::new(rt.alloc());
-    assert!(rt; history.last().is_none());
-    assert!(rt; history.is_empty());
-    for (entry, hash) in three_entries(rt.alloc())?
-        .into_iter()
-        .zip([FIRST, SECOND, THIRD])
-    {
-        let appended = history.append(entry.seq, entry.kind, entry.content);
-        assert!(rt; appended.ok() == Some(hash));
-    }
-    assert!(rt; history.last() == Some((9, THIRD)));
-    assert_eq!(rt; history.len(), 3);
-    let shown = format!(in rt.alloc(); "{history:?}")?;
-    assert!(rt;
-        shown
-            .as_str()
-            .starts_with("SecureHistory { len: 3, spare: ")
-    );
-    assert!(rt; history.hash_at(1) == Some(FIRST));
-    assert!(rt; history.hash_at(7) == Some(SECOND));
-    assert!(rt; history.hash_at(8).is_none());
+    let history = history_of_three(rt.alloc())?;
+    assert!(rt; history.len() == 3 && history.last() == Some((9, THIRD)));
+    let hashes = [history.hash_at(1), history.hash_at(7), history.hash_at(8)];
+    assert!(rt; hashes == [Some(FIRST), Some(SECOND), None]);
     assert!(rt; history.entries() == three_entries(rt.alloc())?.as_slice());
-    let (prev, entries) = history.segment(7, 9).ok().ok_or("there are such entries")?;
-    assert!(rt; prev == FIRST);
-    assert_eq!(rt; entries.len(), 2);
-    assert!(rt; chain_end(prev, entries.as_slice()) == THIRD);
-    let (prev, entries) = history.segment(1, 1).ok().ok_or("there is such an entry")?;
-    assert!(rt; prev == base_hash());
-    assert_eq!(rt; entries.len(), 1);
-    assert_eq!(rt; history.segment(9, 7).err(), Some(SegmentFault::NoEntry));
+    Ok(())
+}
+
+#[test]
+fn a_history_is_shown_by_its_length(rt: HostRuntime) -> Result<(), Fail> {
+    let history = history_of_three(rt.alloc())?;
+    let shown = format!(in rt.alloc(); "{history:?}")?;
+    let start = "SecureHistory { len: 3, spare: ";
+    assert!(rt; shown.as_str().starts_with(start));
+    Ok(())
+}
+
+/// The hash before the segment, its number of entries, and the hash at its end.
+fn ends_of(
+    history: &SecureHistory,
+    from: u64,
+    to: u64,
+) -> Result<(Hash, usize, Hash), SegmentFault> {
+    let (prev, entries) = history.segment(from, to)?;
+    Ok((prev, entries.len(), chain_end(prev, entries.as_slice())))
+}
+
+#[test]
+fn a_segment_is_a_part_of_the_chain(rt: HostRuntime) -> Result<(), Fail> {
+    let history = history_of_three(rt.alloc())?;
+    assert!(rt; ends_of(&history, 7, 9) == Ok((FIRST, 2, THIRD)));
+    assert!(rt; ends_of(&history, 1, 1) == Ok((base_hash(), 1, FIRST)));
+    assert!(rt; ends_of(&history, 9, 7) == Err(SegmentFault::NoEntry));
+    Ok(())
+}
+
+#[test]
+fn a_segment_ends_with_an_entry(rt: HostRuntime) -> Result<(), Fail> {
+    let history = history_of_one(rt.alloc())?;
+    assert!(rt; ends_of(&history, 1, 9) == Err(SegmentFault::NoEntry));
     Ok(())
 }
 
@@ -233,10 +321,7 @@ fn a_history_keeps_the_chain(rt: HostRuntime) -> Result<(), Fail> {
 fn an_entry_is_found_by_its_number(rt: HostRuntime) -> Result<(), Fail> {
     let mut history = SecureHistory::new(rt.alloc());
     assert!(rt; place_of(history.entries(), 1).is_none());
-    for entry in three_entries(rt.alloc())? {
-        let appended = history.append(entry.seq, entry.kind, entry.content);
-        assert!(rt; appended.is_ok());
-    }
+    append_three(rt.alloc(), &mut history)?;
     let entries = history.entries();
     assert_eq!(rt; place_of(entries, 1), Some(0));
     assert_eq!(rt; place_of(entries, 7), Some(1));
@@ -247,24 +332,42 @@ fn an_entry_is_found_by_its_number(rt: HostRuntime) -> Result<(), Fail> {
 }
 
 #[test]
-fn a_history_refuses_by_number_and_length(rt: HostRuntime) -> Result<(), Fail> {
+fn an_append_takes_of_the_room(rt: HostRuntime) -> Result<(), Fail> {
     let mut history = SecureHistory::new(rt.alloc());
     history.reserve(2)?;
     assert!(rt; history.spare() >= 2);
-    let first = history.append(1, 1, ByteString::from_slice(rt.alloc(), b"one")?);
-    assert!(rt; first.is_ok());
+    append(rt.alloc(), &mut history, 1, 1, b"one")?;
     assert!(rt; history.spare() >= 1);
-    let again = history.append(1, 1, ByteString::from_slice(rt.alloc(), b"two")?);
-    let refused = again.err().ok_or("its number does not rise")?;
+    Ok(())
+}
+
+/// The refusal of an entry.
+fn refusal(
+    history: &mut SecureHistory,
+    seq: u64,
+    content: ByteString,
+) -> Result<AppendRefused, Fail> {
+    Ok(history.append(seq, 1, content).err().ok_or("a refusal")?)
+}
+
+#[test]
+fn a_history_refuses_a_number_that_does_not_rise(rt: HostRuntime) -> Result<(), Fail> {
+    let mut history = history_of_one(rt.alloc())?;
+    let two = ByteString::from_slice(rt.alloc(), b"two")?;
+    let refused = refusal(&mut history, 1, two)?;
     assert_eq!(rt; refused.fault, AppendFault::SeqNotRising);
     assert!(rt; refused.content.as_slice() == b"two".as_slice());
-    let mut long = Vec::new(rt.alloc());
-    long.resize(131_073, 0)?;
-    let long = history.append(2, 1, ByteString::from_vec(long));
-    let refused = long.err().ok_or("its content is too long")?;
+    assert_eq!(rt; history.entries().len(), 1);
+    Ok(())
+}
+
+#[test]
+fn a_history_refuses_a_content_that_is_too_long(rt: HostRuntime) -> Result<(), Fail> {
+    let mut history = history_of_one(rt.alloc())?;
+    let long = ByteString::from_vec(vec![in rt.alloc(); 0; 131_073]?);
+    let refused = refusal(&mut history, 2, long)?;
     assert_eq!(rt; refused.fault, AppendFault::ContentTooLong);
     assert_eq!(rt; refused.content.len(), 131_073);
-    assert_eq!(rt; history.segment(1, 9).err(), Some(SegmentFault::NoEntry));
     assert_eq!(rt; history.entries().len(), 1);
     Ok(())
 }

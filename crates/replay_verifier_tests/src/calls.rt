@@ -29,7 +29,7 @@ fn numbered_key(node: u8) -> Result<PublicKey, Fail> {
     text[3] = 5;
     text[7] = 4;
     text[23] = node;
-    Ok(PublicKey::from_bytes(&text).ok().ok_or("a key")?)
+    Ok(PublicKey::from_bytes(&text)?)
 }
 
 fn directory_of(alloc: Global, nodes: &[u8]) -> Result<Directory, Fail> {
@@ -47,33 +47,54 @@ fn output_to(alloc: Global, to: u32, len: usize) -> Result<Output, Fail> {
     })
 }
 
+/// Outputs to these nodes, of these lengths.
+fn outputs_to(alloc: Global, nodes: &[(u32, usize)]) -> Result<Vec<Output>, Fail> {
+    let mut outputs = Vec::new(alloc);
+    for (to, len) in nodes {
+        outputs.push(output_to(alloc, *to, *len)?)?;
+    }
+    Ok(outputs)
+}
+
+/// Whether the outputs go to these nodes and have these lengths, in this order.
+fn go_to(outputs: &[Output], nodes: &[(u32, usize)]) -> bool {
+    if outputs.len() != nodes.len() {
+        return false;
+    }
+    for (output, (to, len)) in outputs.iter().zip(nodes) {
+        if output.to != NodeId(*to) || output.payload.len() != *len {
+            return false;
+        }
+    }
+    true
+}
+
 #[test]
 fn outputs_to_other_listed_nodes_that_fit_are_sent(rt: HostRuntime) -> Result<(), Fail> {
     let directory = directory_of(rt.alloc(), &[1, 2, 3])?;
-    let mut outputs = Vec::new(rt.alloc());
-    for (to, len) in [(1, 1), (3, 65536), (9, 2), (2, 0), (3, 65537), (2, 3)] {
-        outputs.push(output_to(rt.alloc(), to, len)?)?;
-    }
+    let nodes = [(1, 1), (3, 65536), (9, 2), (2, 0), (3, 65537), (2, 3)];
+    let mut outputs = outputs_to(rt.alloc(), &nodes)?;
     outs(&directory, NodeId(1), &mut outputs);
-    let mut sent = Vec::new(rt.alloc());
-    for output in &outputs {
-        sent.push((output.to.0, output.payload.len()))?;
-    }
-    assert_eq!(rt; sent.as_slice(), [(3, 65536), (2, 0), (2, 3)].as_slice());
+    assert!(rt; go_to(&outputs, &[(3, 65536), (2, 0), (2, 3)]));
     Ok(())
+}
+
+/// Outputs to nodes 1 and 2 by turns, where those to node 2 have the lengths from 0 to 16.
+fn seventeen_to_each(alloc: Global) -> Result<Vec<Output>, Fail> {
+    let mut outputs = Vec::new(alloc);
+    for len in 0..17 {
+        outputs.push(output_to(alloc, 1, 0)?)?;
+        outputs.push(output_to(alloc, 2, len)?)?;
+    }
+    Ok(outputs)
 }
 
 #[test]
 fn the_first_sixteen_are_sent(rt: HostRuntime) -> Result<(), Fail> {
     let directory = directory_of(rt.alloc(), &[1, 2])?;
-    let mut outputs = Vec::new(rt.alloc());
-    for len in 0..17 {
-        outputs.push(output_to(rt.alloc(), 1, 0)?)?;
-        outputs.push(output_to(rt.alloc(), 2, len)?)?;
-    }
+    let mut outputs = seventeen_to_each(rt.alloc())?;
     outs(&directory, NodeId(1), &mut outputs);
-    assert_eq!(rt; outputs.len(), 16);
-    assert_eq!(rt; outputs[15].payload.len(), 15);
+    assert!(rt; outputs.len() == 16 && outputs[15].payload.len() == 15);
     Ok(())
 }
 
@@ -157,17 +178,28 @@ fn a_receipt_is_read_whole_or_not_at_all(rt: HostRuntime) -> Result<(), Fail> {
 /// The directory of node 1 with the key above and node 2 with another.
 fn signer_and_receiver(alloc: Global) -> Result<Directory, Fail> {
     let key = hex::decode(alloc, key_text())?;
-    let key = PublicKey::from_bytes(&key).ok().ok_or("a key")?;
     let mut directory = directory_of(alloc, &[2])?;
-    let _ = directory.add(NodeId(1), key);
+    let _ = directory.add(NodeId(1), PublicKey::from_bytes(&key)?);
     Ok(directory)
+}
+
+/// The content with the signature above.
+fn signed_content(alloc: Global) -> Result<Vec<u8>, Fail> {
+    let sig = hex::decode(alloc, signature_text())?;
+    content_of(alloc, &sig)
+}
+
+fn entry_hash() -> Result<Hash, Fail> {
+    let mut hash = [0; 32];
+    hex::decode_to_slice(entry_hash_text(), &mut hash)?;
+    Ok(Hash(hash))
 }
 
 #[test]
 fn the_signed_hash_is_that_of_the_send_entry(rt: HostRuntime) -> Result<(), Fail> {
     let content = content_of(rt.alloc(), b"sig")?;
-    let hash = hex::decode(rt.alloc(), entry_hash_text())?;
-    assert!(rt; hash_for_two(&content).as_slice() == hash.as_slice());
+    let hash = entry_hash()?;
+    assert!(rt; hash_for_two(&content) == hash.0);
     Ok(())
 }
 
@@ -181,30 +213,40 @@ fn genuine_hash_at(directory: &Directory, content: &[u8], me: u32) -> Option<Has
 
 #[test]
 fn a_genuine_receipt_is_told_by_the_hash_of_its_entry(rt: HostRuntime) -> Result<(), Fail> {
-    let alloc = rt.alloc();
-    let directory = signer_and_receiver(alloc)?;
-    let sig = hex::decode(alloc, signature_text())?;
-    let content = content_of(alloc, &sig)?;
-    let text = hex::decode(alloc, entry_hash_text())?;
-    let hash = Hash(*text.as_slice().as_array::<32>().ok_or("a hash")?);
-    assert_eq!(rt; genuine_hash_at(&directory, &content, 2), Some(hash));
-    assert_eq!(rt; genuine_hash_at(&directory, &content, 1), None);
+    let directory = signer_and_receiver(rt.alloc())?;
+    let content = signed_content(rt.alloc())?;
+    let at_two = genuine_hash_at(&directory, &content, 2);
+    let at_one = genuine_hash_at(&directory, &content, 1);
+    let hash = entry_hash()?;
+    assert_eq!(rt; [at_two, at_one], [Some(hash), None]);
     Ok(())
 }
 
 #[test]
 fn a_receipt_is_valid_at_its_receiver(rt: HostRuntime) -> Result<(), Fail> {
-    let alloc = rt.alloc();
-    let directory = signer_and_receiver(alloc)?;
-    let sig = hex::decode(alloc, signature_text())?;
-    let mut content = content_of(alloc, &sig)?;
-    assert!(rt; is_valid_at(&directory, &content, 2));
-    assert!(rt; !is_valid_at(&directory, &content, 1));
-    assert!(rt; !is_valid_at(&directory, &content, 3));
-    let others = directory_of(alloc, &[1, 2])?;
-    assert!(rt; !is_valid_at(&others, &content, 2));
-    let unlisted = directory_of(alloc, &[2])?;
-    assert!(rt; !is_valid_at(&unlisted, &content, 2));
+    let directory = signer_and_receiver(rt.alloc())?;
+    let content = signed_content(rt.alloc())?;
+    for (me, valid) in [(2, true), (1, false), (3, false)] {
+        assert!(rt; is_valid_at(&directory, &content, me) == valid);
+    }
+    Ok(())
+}
+
+/// The sender has another key in the first, and none in the second.
+#[test]
+fn a_receipt_is_not_valid_in_another_directory(rt: HostRuntime) -> Result<(), Fail> {
+    let content = signed_content(rt.alloc())?;
+    for nodes in [[1, 2].as_slice(), [2].as_slice()] {
+        let others = directory_of(rt.alloc(), nodes)?;
+        assert!(rt; !is_valid_at(&others, &content, 2));
+    }
+    Ok(())
+}
+
+#[test]
+fn a_receipt_is_not_valid_where_its_payload_is_cut_off(rt: HostRuntime) -> Result<(), Fail> {
+    let directory = signer_and_receiver(rt.alloc())?;
+    let mut content = signed_content(rt.alloc())?;
     let _ = content.pop();
     assert!(rt; !is_valid_at(&directory, &content, 2));
     Ok(())
