@@ -30,25 +30,65 @@ fn received_digest_text() -> &'static str {
 }
 
 /// The key whose identifier and seed end in the number.
-fn key_of(alloc: Global, node: u8) -> Result<SecretKey, Fail> {
+fn key_of(alloc: Global, node: u8) -> Result<Box<SecretKey>, Fail> {
     let mut id = [0u8; 16];
     id[15] = node;
     let mut seed = [0u8; 32];
     seed[31] = node;
-    Ok(
-        SecretKey::make(alloc, LmsType::H5, OtsType::W8, id, seed)
-            .ok()
-            .ok_or("a key")?,
-    )
+    let key = SecretKey::make(alloc, LmsType::H5, OtsType::W8, id, seed)?;
+    Ok(Box::new(alloc, key)?)
 }
 
-fn hash_of(alloc: Global, text: &str) -> Result<Hash, Fail> {
-    let bytes = hex::decode(alloc, text)?;
+fn hash_of(text: &str) -> Result<Hash, Fail> {
     let mut hash = [0u8; 32];
-    for (byte, given) in hash.iter_mut().zip(&bytes) {
-        *byte = *given;
-    }
+    hex::decode_to_slice(text, &mut hash)?;
     Ok(Hash(hash))
+}
+
+/// The key's signature of the number and the hash, whose C is 32 bytes `c`.
+fn signed(
+    alloc: Global,
+    key: &mut SecretKey,
+    seq: u64,
+    hash: &str,
+    c: u8,
+) -> Result<ByteString, Fail> {
+    let statement = statement_text(seq, hash_of(hash)?);
+    let sig = key.sign(alloc, &statement, [c; 32])?;
+    Ok(ByteString::from_vec(sig))
+}
+
+/// The message of node 1.
+fn make_message(alloc: Global, key: &mut SecretKey) -> Result<Message, Fail> {
+    let sig = signed(alloc, key, 7, sent_hash_text(), 9)?;
+    Ok(Message {
+        from: NodeId(1),
+        to: NodeId(2),
+        seq: 7,
+        prev: Hash([0x55; 32]),
+        sig,
+        payload: ByteString::from_slice(alloc, b"hello")?,
+    })
+}
+
+/// The acknowledgement of node 2.
+fn make_ack(alloc: Global, key: &mut SecretKey) -> Result<Ack, Fail> {
+    let sig = signed(alloc, key, 11, received_hash_text(), 8)?;
+    Ok(Ack {
+        from: NodeId(2),
+        send_seq: 7,
+        seq: 11,
+        prev: Hash([0x66; 32]),
+        sig,
+    })
+}
+
+/// The directory of both nodes.
+fn lists_both(alloc: Global, one: &SecretKey, two: &SecretKey) -> Directory {
+    let mut directory = Directory::new(alloc);
+    let _ = directory.add(NodeId(1), one.public_key());
+    let _ = directory.add(NodeId(2), two.public_key());
+    directory
 }
 
 /// A message of node 1 to node 2 and its acknowledgement, signed over the hashes of that program.
@@ -59,36 +99,15 @@ struct Exchange {
     ack: Ack,
 }
 
-fn make_exchange(alloc: Global) -> Result<Exchange, Fail> {
-    let mut directory = Directory::new(alloc);
-    let mut key = key_of(alloc, 1)?;
-    let _ = directory.add(NodeId(1), key.public_key());
-    let statement = statement_text(7, hash_of(alloc, sent_hash_text())?);
-    let sig = key.sign(alloc, &statement, [9; 32]).ok().ok_or("a leaf")?;
-    let message = Message {
-        from: NodeId(1),
-        to: NodeId(2),
-        seq: 7,
-        prev: Hash([0x55; 32]),
-        sig: ByteString::from_vec(sig),
-        payload: ByteString::from_slice(alloc, b"hello")?,
+fn make_exchange(alloc: Global) -> Result<Box<Exchange>, Fail> {
+    let mut one = key_of(alloc, 1)?;
+    let mut two = key_of(alloc, 2)?;
+    let exchange = Exchange {
+        directory: lists_both(alloc, &one, &two),
+        message: make_message(alloc, &mut one)?,
+        ack: make_ack(alloc, &mut two)?,
     };
-    let mut key = key_of(alloc, 2)?;
-    let _ = directory.add(NodeId(2), key.public_key());
-    let statement = statement_text(11, hash_of(alloc, received_hash_text())?);
-    let sig = key.sign(alloc, &statement, [8; 32]).ok().ok_or("a leaf")?;
-    let ack = Ack {
-        from: NodeId(2),
-        send_seq: 7,
-        seq: 11,
-        prev: Hash([0x66; 32]),
-        sig: ByteString::from_vec(sig),
-    };
-    Ok(Exchange {
-        directory,
-        message,
-        ack,
-    })
+    Ok(Box::new(alloc, exchange)?)
 }
 
 /// The field of a message or of an acknowledgement that is changed.
@@ -139,19 +158,50 @@ fn other_ack(alloc: Global, ack: &Ack, field: Field) -> Result<Ack, Fail> {
     Ok(other)
 }
 
+/// The hash and the digest of the signature, of the message and of its acknowledgement.
+fn hashes_in(made: &Exchange) -> [Hash; 4] {
+    [
+        made.message.signed_hash(),
+        Hash(Sha256::digest(made.message.sig.as_slice())),
+        made.ack.signed_hash(&made.message),
+        Hash(Sha256::digest(made.ack.sig.as_slice())),
+    ]
+}
+
+/// The same, by that program.
+fn hashes_of_the_other_program() -> Result<[Hash; 4], Fail> {
+    Ok([
+        hash_of(sent_hash_text())?,
+        hash_of(sent_digest_text())?,
+        hash_of(received_hash_text())?,
+        hash_of(received_digest_text())?,
+    ])
+}
+
 #[test]
 fn hashes_and_signatures_are_those_of_the_other_program(rt: HostRuntime) -> Result<(), Fail> {
+    let made = make_exchange(rt.alloc())?;
+    assert_eq!(rt; hashes_in(&made), hashes_of_the_other_program()?);
+    Ok(())
+}
+
+#[test]
+fn copies_are_equal(rt: HostRuntime) -> Result<(), Fail> {
     let alloc = rt.alloc();
     let made = make_exchange(alloc)?;
-    let hash = made.message.signed_hash();
-    assert_eq!(rt; hash, hash_of(alloc, sent_hash_text())?);
-    let digest = Sha256::digest(made.message.sig.as_slice());
-    assert_eq!(rt; Hash(digest), hash_of(alloc, sent_digest_text())?);
-    let hash = made.ack.signed_hash(&made.message);
-    assert_eq!(rt; hash, hash_of(alloc, received_hash_text())?);
-    let digest = Sha256::digest(made.ack.sig.as_slice());
-    assert_eq!(rt; Hash(digest), hash_of(alloc, received_digest_text())?);
+    assert!(rt; made.message.try_clone(alloc)? == made.message);
+    assert!(rt; made.ack.try_clone(alloc)? == made.ack);
     Ok(())
+}
+
+/// Of a message with the field changed: whether it is valid, whether it is the same, and whether it is acknowledged.
+fn accepts_message(alloc: Global, made: &Exchange, field: Field) -> Result<[bool; 3], Fail> {
+    let other = other_message(alloc, &made.message, field)?;
+    Ok([
+        other.is_valid(&made.directory),
+        other == made.message,
+        made.ack.is_valid(&made.directory, &other),
+    ])
 }
 
 #[test]
@@ -159,7 +209,6 @@ fn a_message_is_valid_only_as_it_was_signed(rt: HostRuntime) -> Result<(), Fail>
     let alloc = rt.alloc();
     let made = make_exchange(alloc)?;
     assert!(rt; made.message.is_valid(&made.directory));
-    assert!(rt; made.message.try_clone(alloc)? == made.message);
     for field in [
         Field::From,
         Field::To,
@@ -168,12 +217,22 @@ fn a_message_is_valid_only_as_it_was_signed(rt: HostRuntime) -> Result<(), Fail>
         Field::Sig,
         Field::Payload,
     ] {
-        let other = other_message(alloc, &made.message, field)?;
-        assert!(rt; !other.is_valid(&made.directory), "{field:?}");
-        assert!(rt; other != made.message, "{field:?}");
-        assert!(rt; !made.ack.is_valid(&made.directory, &other), "{field:?}");
+        assert_eq!(rt;
+            accepts_message(alloc, &made, field)?,
+            [false; 3],
+            "{field:?}"
+        );
     }
     Ok(())
+}
+
+/// Of an acknowledgement with the field changed: whether it is valid, and whether it is the same.
+fn accepts_ack(alloc: Global, made: &Exchange, field: Field) -> Result<[bool; 2], Fail> {
+    let other = other_ack(alloc, &made.ack, field)?;
+    Ok([
+        other.is_valid(&made.directory, &made.message),
+        other == made.ack,
+    ])
 }
 
 #[test]
@@ -181,7 +240,6 @@ fn an_acknowledgement_is_valid_only_as_it_was_signed(rt: HostRuntime) -> Result<
     let alloc = rt.alloc();
     let made = make_exchange(alloc)?;
     assert!(rt; made.ack.is_valid(&made.directory, &made.message));
-    assert!(rt; made.ack.try_clone(alloc)? == made.ack);
     for field in [
         Field::From,
         Field::SendSeq,
@@ -189,12 +247,7 @@ fn an_acknowledgement_is_valid_only_as_it_was_signed(rt: HostRuntime) -> Result<
         Field::Prev,
         Field::Sig,
     ] {
-        let other = other_ack(alloc, &made.ack, field)?;
-        assert!(rt;
-            !other.is_valid(&made.directory, &made.message),
-            "{field:?}"
-        );
-        assert!(rt; other != made.ack, "{field:?}");
+        assert_eq!(rt; accepts_ack(alloc, &made, field)?, [false; 2], "{field:?}");
     }
     Ok(())
 }
@@ -207,30 +260,36 @@ fn lists(alloc: Global, node: u8) -> Result<Directory, Fail> {
     Ok(directory)
 }
 
+/// Whether the message and the acknowledgement are valid where this node alone is listed.
+fn accepted_where_listed(alloc: Global, made: &Exchange, node: u8) -> Result<[bool; 2], Fail> {
+    let directory = lists(alloc, node)?;
+    Ok([
+        made.message.is_valid(&directory),
+        made.ack.is_valid(&directory, &made.message),
+    ])
+}
+
 #[test]
 fn both_nodes_have_to_be_listed(rt: HostRuntime) -> Result<(), Fail> {
     let alloc = rt.alloc();
     let made = make_exchange(alloc)?;
-    let sender = lists(alloc, 1)?;
-    assert!(rt; !made.message.is_valid(&sender));
-    assert!(rt; !made.ack.is_valid(&sender, &made.message));
-    let receiver = lists(alloc, 2)?;
-    assert!(rt; !made.message.is_valid(&receiver));
-    assert!(rt; made.ack.is_valid(&receiver, &made.message));
+    assert_eq!(rt; accepted_where_listed(alloc, &made, 1)?, [false, false]);
+    assert_eq!(rt; accepted_where_listed(alloc, &made, 2)?, [false, true]);
     Ok(())
 }
 
 #[test]
 fn faults_have_lines_names_and_numbers(rt: HostRuntime) -> Result<(), Fail> {
     let alloc = rt.alloc();
-    for (fault, name, number) in [
-        (NewFault::UnknownNode, "UnknownNode", 30),
-        (NewFault::WrongKey, "WrongKey", 31),
-        (NewFault::Memory, "Memory", 99),
-    ] {
-        assert_eq!(rt; fault.name(), name);
-        assert_eq!(rt; fault.number(), number);
-    }
+    let [node, key, memory] = [NewFault::UnknownNode, NewFault::WrongKey, NewFault::Memory];
+    assert_eq!(rt;
+        [node.name(), key.name(), memory.name()],
+        ["UnknownNode", "WrongKey", "Memory"]
+    );
+    assert_eq!(rt;
+        [node.number(), key.number(), memory.number()],
+        [30, 31, 99]
+    );
     let text = format!(in alloc; "{}", NodeFault::LogFull)?;
     assert_eq!(rt; text.as_str(), "the log is full");
     assert_eq!(rt; NodeFault::LogFull.number(), 37);

@@ -5,8 +5,10 @@ mod fixtures;
 
 use commitment::{Ack, Message, Node, NodeFault};
 use fixtures::{
-    Seen, begin, feed_ack, feed_message, feed_messages, feed_signed, is_hash, key_of, message_to_2,
+    Seen, Two, begin, feed_ack, feed_message, feed_messages, feed_signed, hash_of, key_of,
+    message_to_2,
 };
+use lms_sign::SecretKey;
 use log_chain::Hash;
 use ref_programs::Tally;
 use sha2::{Digest, Sha256};
@@ -72,6 +74,20 @@ struct End {
     seen: Seen,
 }
 
+/// The node receives node 1's message of this number, which adds 1, twice.
+fn receive_twice(
+    alloc: Global,
+    node: &mut Node<Tally>,
+    key: &mut SecretKey,
+    number: u8,
+    digest: &mut Sha256,
+) -> Result<(), Fail> {
+    let message = message_to_2(alloc, key, u64::from(number), 1)?;
+    receive(node, &message, number, digest)?;
+    receive(node, &message, number | 64, digest)?;
+    Ok(())
+}
+
 /// Node 2 receives node 1's messages that add 1, with the numbers 2 to 16, each twice. Then comes one with the number 17.
 fn receive_all(
     alloc: Global,
@@ -80,9 +96,7 @@ fn receive_all(
 ) -> Result<Result<(), NodeFault>, Fail> {
     let mut key = key_of(alloc, 1)?;
     for number in 2..17 {
-        let message = message_to_2(alloc, &mut key, u64::from(number), 1)?;
-        receive(node, &message, number, digest)?;
-        receive(node, &message, number | 64, digest)?;
+        receive_twice(alloc, node, &mut key, number, digest)?;
     }
     let message = message_to_2(alloc, &mut key, 17, 1)?;
     Ok(receive(node, &message, 17, digest))
@@ -107,8 +121,8 @@ fn a_node_signs_until_its_key_is_spent(rt: HostRuntime) -> Result<(), Fail> {
     let end = answer_all(alloc, &mut digest)?;
     assert_eq!(rt; end.told, Err(NodeFault::KeySpent));
     assert_eq!(rt; end.seen.counts(), (33, 31, 16, 1));
-    assert!(rt; end.seen.ends_with(alloc, 33, spent_end())?);
-    assert!(rt; is_hash(alloc, Hash(digest.finalize()), spent_digest())?);
+    assert!(rt; end.seen.ends_with(33, spent_end())?);
+    assert_eq!(rt; Hash(digest.finalize()), hash_of(spent_digest())?);
     Ok(())
 }
 
@@ -170,36 +184,41 @@ fn exchange(
     Ok(())
 }
 
-/// The two nodes begin, exchange messages, and both timers tick once more.
-fn exchange_all(alloc: Global, digest: &mut Sha256) -> Result<(End, End), Fail> {
-    let mut asking = begin(alloc, 1, 1)?;
-    let mut answering = begin(alloc, 2, 1)?;
-    exchange(&mut asking, &mut answering, digest)?;
-    let asking_told = tick(&mut asking, 17, 200, digest);
-    let answering_told = tick(&mut answering, 17, 200, digest);
-    let asking_end = End {
-        told: asking_told,
-        seen: Seen::of(&asking),
-    };
-    let answering_end = End {
-        told: answering_told,
-        seen: Seen::of(&answering),
-    };
-    Ok((asking_end, answering_end))
+/// The node's timer ticks once more.
+fn end_of(node: &mut Node<Tally>, digest: &mut Sha256) -> End {
+    let told = tick(node, 17, 200, digest);
+    End {
+        told,
+        seen: Seen::of(node),
+    }
+}
+
+/// The two nodes exchange messages, and both timers tick once more.
+fn exchange_all(nodes: &mut Two, digest: &mut Sha256) -> Result<[End; 2], NodeFault> {
+    exchange(&mut nodes.asking, &mut nodes.answering, digest)?;
+    let asking = end_of(&mut nodes.asking, digest);
+    let answering = end_of(&mut nodes.answering, digest);
+    Ok([asking, answering])
+}
+
+/// The two nodes begin, and do so.
+fn run_two(alloc: Global, digest: &mut Sha256) -> Result<[End; 2], Fail> {
+    let mut nodes = Two::begin(alloc)?;
+    Ok(exchange_all(&mut nodes, digest)?)
 }
 
 #[test]
 fn two_nodes_exchange_messages_until_their_keys_are_spent(rt: HostRuntime) -> Result<(), Fail> {
     let alloc = rt.alloc();
     let mut digest = Sha256::new();
-    let (asking, answering) = exchange_all(alloc, &mut digest)?;
-    assert_eq!(rt; asking.told, Err(NodeFault::KeySpent));
-    assert_eq!(rt; answering.told, Err(NodeFault::KeySpent));
+    let [asking, answering] = run_two(alloc, &mut digest)?;
+    let spent = Err(NodeFault::KeySpent);
+    assert_eq!(rt; [asking.told, answering.told], [spent, spent]);
     assert_eq!(rt; asking.seen.counts(), (49, 32, 0, 0));
     assert_eq!(rt; answering.seen.counts(), (33, 32, 0, 0));
-    assert!(rt; asking.seen.ends_with(alloc, 49, asking_end())?);
-    assert!(rt; answering.seen.ends_with(alloc, 33, answering_end())?);
-    assert!(rt; is_hash(alloc, Hash(digest.finalize()), exchange_digest())?);
+    assert!(rt; asking.seen.ends_with(49, asking_end())?);
+    assert!(rt; answering.seen.ends_with(33, answering_end())?);
+    assert_eq!(rt; Hash(digest.finalize()), hash_of(exchange_digest())?);
     Ok(())
 }
 
@@ -272,8 +291,8 @@ fn a_checkpoint_stands_between_blocks(rt: HostRuntime) -> Result<(), Fail> {
     let kept = keep_checkpoint(alloc, &mut digest)?;
     assert_eq!(rt; kept.seq, 8);
     assert_eq!(rt; kept.seen.counts(), (6, 3, 2, 29));
-    assert!(rt; kept.seen.ends_with(alloc, 10, checkpoint_end())?);
-    assert!(rt; is_hash(alloc, Hash(digest.finalize()), checkpoint_digest())?);
+    assert!(rt; kept.seen.ends_with(10, checkpoint_end())?);
+    assert_eq!(rt; Hash(digest.finalize()), hash_of(checkpoint_digest())?);
     Ok(())
 }
 

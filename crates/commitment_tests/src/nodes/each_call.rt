@@ -1,8 +1,8 @@
 //! Two nodes: each call of a node once, where memory is ample, and what it gives.
 
-use super::fixtures::{Seen, begin, feed_ack, feed_message, feed_messages, is_hash};
+use super::fixtures::{Seen, Two, feed_ack, feed_message, feed_messages, hash_of};
 use authenticators::NodeId;
-use commitment::{Node, NodeFault};
+use commitment::{Ack, Message, Node, NodeFault};
 use log_chain::Hash;
 use ref_programs::Tally;
 use sha2::{Digest, Sha256};
@@ -22,6 +22,41 @@ struct Round {
     digest: Hash,
 }
 
+/// Node 2 receives the message. Feeds what it gives.
+fn answer(
+    answering: &mut Node<Tally>,
+    ask: &Message,
+    digest: &mut Sha256,
+) -> Result<Ack, NodeFault> {
+    let (ack, answers) = answering.receive(ask, [2; 32])?;
+    feed_ack(digest, &ack);
+    feed_messages(digest, &answers);
+    Ok(ack)
+}
+
+/// Whether node 2 acknowledges the message once more as it did, and sends nothing for it.
+fn answers_the_same(
+    answering: &mut Node<Tally>,
+    ask: &Message,
+    ack: &Ack,
+) -> Result<bool, NodeFault> {
+    let (same, none) = answering.receive(ask, [3; 32])?;
+    Ok(same == *ack && none.is_empty())
+}
+
+/// Node 2 receives the message twice, and node 1 accepts the acknowledgement. Whether the second was as the first.
+fn deliver_twice(
+    asking: &mut Node<Tally>,
+    answering: &mut Node<Tally>,
+    ask: &Message,
+    digest: &mut Sha256,
+) -> Result<bool, NodeFault> {
+    let ack = answer(answering, ask, digest)?;
+    let again = answers_the_same(answering, ask, &ack)?;
+    asking.accept_ack(&ack)?;
+    Ok(again)
+}
+
 /// The timer of node 1 ticks, node 2 receives its message twice, node 1 accepts the acknowledgement, and node 2 makes a
 /// checkpoint.
 fn run_round(asking: &mut Node<Tally>, answering: &mut Node<Tally>) -> Result<Round, NodeFault> {
@@ -31,13 +66,9 @@ fn run_round(asking: &mut Node<Tally>, answering: &mut Node<Tally>) -> Result<Ro
         return Err(NodeFault::NotMine);
     };
     feed_message(&mut digest, ask);
-    let (ack, answers) = answering.receive(ask, [2; 32])?;
-    feed_ack(&mut digest, &ack);
-    feed_messages(&mut digest, &answers);
-    let (same, none) = answering.receive(ask, [3; 32])?;
-    asking.accept_ack(&ack)?;
+    let again = deliver_twice(asking, answering, ask, &mut digest)?;
     Ok(Round {
-        again: same == ack && none.is_empty(),
+        again,
         checkpoint: answering.checkpoint()?,
         awaited: (
             asking.unacknowledged().len(),
@@ -59,31 +90,29 @@ struct Ended {
 }
 
 fn run_nodes(alloc: Global) -> Result<Ended, Fail> {
-    let mut asking = begin(alloc, 1, 1)?;
-    let mut answering = begin(alloc, 2, 1)?;
-    let round = run_round(&mut asking, &mut answering);
+    let mut nodes = Two::begin(alloc)?;
+    let round = run_round(&mut nodes.asking, &mut nodes.answering);
     Ok(Ended {
         round,
-        asking: Seen::of(&asking),
-        answering: Seen::of(&answering),
-        id: asking.id(),
-        lists: asking.directory().contains(NodeId(2)),
+        asking: Seen::of(&nodes.asking),
+        answering: Seen::of(&nodes.answering),
+        id: nodes.asking.id(),
+        lists: nodes.asking.directory().contains(NodeId(2)),
     })
 }
 
 #[test]
 fn each_call_of_a_node_succeeds(rt: HostRuntime) -> Result<(), Fail> {
-    let alloc = rt.alloc();
-    let ended = run_nodes(alloc)?;
+    let ended = run_nodes(rt.alloc())?;
     assert_eq!(rt; ended.id, NodeId(1));
     assert!(rt; ended.lists);
     let round = ended.round?;
     assert!(rt; round.again);
     assert_eq!(rt; round.checkpoint, 4);
     assert_eq!(rt; round.awaited, (0, 1));
-    assert!(rt; is_hash(alloc, round.digest, given_digest())?);
-    assert!(rt; ended.asking.ends_with(alloc, 3, asking_end())?);
-    assert!(rt; ended.answering.ends_with(alloc, 4, answering_end())?);
+    assert_eq!(rt; round.digest, hash_of(given_digest())?);
+    assert!(rt; ended.asking.ends_with(3, asking_end())?);
+    assert!(rt; ended.answering.ends_with(4, answering_end())?);
     Ok(())
 }
 

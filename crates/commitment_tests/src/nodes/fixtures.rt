@@ -25,13 +25,29 @@ pub fn key_of(alloc: Global, node: u8) -> Result<SecretKey, Fail> {
 }
 
 /// A node under Tally, whose log begins at the number.
-pub fn begin(alloc: Global, node: u8, first_seq: u64) -> Result<Node<Tally>, Fail> {
+pub fn begin(alloc: Global, node: u8, first_seq: u64) -> Result<Box<Node<Tally>>, Fail> {
     let directory = Directory::from_bytes(alloc, &hex::decode(alloc, directory_text())?)?;
     let key = key_of(alloc, node)?;
     let id = NodeId(u32::from(node));
     match Node::new(alloc, Tally, directory, id, key, first_seq) {
-        Ok(node) => Ok(node),
+        Ok(node) => Ok(Box::new(alloc, node)?),
         Err(refused) => Err(refused.fault)?,
+    }
+}
+
+/// The nodes 1 and 2, whose logs begin at 1.
+#[derive(Drop)]
+pub struct Two {
+    pub asking: Box<Node<Tally>>,
+    pub answering: Box<Node<Tally>>,
+}
+
+impl Two {
+    pub fn begin(alloc: Global) -> Result<Two, Fail> {
+        Ok(Two {
+            asking: begin(alloc, 1, 1)?,
+            answering: begin(alloc, 2, 1)?,
+        })
     }
 }
 
@@ -67,22 +83,22 @@ impl Seen {
     }
 
     /// Whether the log ends with this number and the hash in hexadecimal.
-    pub fn ends_with(&self, alloc: Global, seq: u64, text: &str) -> Result<bool, Fail> {
-        match self.last {
-            Some((last, hash)) => Ok(last == seq && is_hash(alloc, hash, text)?),
-            None => Ok(false),
-        }
+    pub fn ends_with(&self, seq: u64, text: &str) -> Result<bool, Fail> {
+        Ok(self.last == Some((seq, hash_of(text)?)))
     }
 }
 
-/// Whether the hash is the one in hexadecimal.
-pub fn is_hash(alloc: Global, hash: Hash, text: &str) -> Result<bool, Fail> {
-    Ok(hex::decode(alloc, text)?.as_slice() == hash.0.as_slice())
+/// The hash in hexadecimal.
+pub fn hash_of(text: &str) -> Result<Hash, Fail> {
+    let mut hash = [0; 32];
+    hex::decode_to_slice(text, &mut hash)?;
+    Ok(Hash(hash))
 }
 
 /// The payload at which Tally adds the number.
 fn add_text(alloc: Global, number: u64) -> Result<ByteString, Fail> {
-    let mut payload = vec![in alloc; b'A']?;
+    let mut payload = Vec::new(alloc);
+    payload.push(b'A')?;
     payload.extend_from_slice(&number.to_be_bytes())?;
     Ok(ByteString::from_vec(payload))
 }
