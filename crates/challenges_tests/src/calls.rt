@@ -370,10 +370,16 @@ fn an_audit_challenge_has_a_range(rt: HostRuntime) -> Result<(), Fail> {
 
 #[test]
 fn refusals_have_numbers_names_and_lines(rt: HostRuntime) -> Result<(), Fail> {
-    assert_eq!(rt; ChallengeFault::TooLong.number(), 42);
-    assert_eq!(rt; ChallengeFault::BadRange.name(), "BadRange");
-    assert_eq!(rt; AnswerFault::KeySpent.number(), 36);
-    assert_eq!(rt; AnswerFault::NotInLog.name(), "NotInLog");
+    let numbers = [
+        ChallengeFault::TooLong.number(),
+        AnswerFault::KeySpent.number(),
+    ];
+    assert_eq!(rt; numbers, [42, 36]);
+    let names = [
+        ChallengeFault::BadRange.name(),
+        AnswerFault::NotInLog.name(),
+    ];
+    assert_eq!(rt; names, ["BadRange", "NotInLog"]);
     let text = format!(in rt.alloc(); "{}", AnswerFault::NotForMe)?;
     assert_eq!(rt; text.as_str(), "the challenge is against another node");
     Ok(())

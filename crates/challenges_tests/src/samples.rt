@@ -41,32 +41,32 @@ fn make_signer(alloc: Global, node: u8) -> Result<Signer, Fail> {
     })
 }
 
-pub(crate) fn make_nodes(alloc: Global) -> Result<Nodes, Fail> {
+pub(crate) fn make_nodes(alloc: Global) -> Result<Box<Nodes>, Fail> {
     let one = make_signer(alloc, 1)?;
     let two = make_signer(alloc, 2)?;
     let mut directory = Directory::new(alloc);
     directory.add(one.node, one.key.public_key())?;
     directory.add(two.node, two.key.public_key())?;
-    Ok(Nodes {
+    let nodes = Nodes {
         directory,
         one,
         two,
-    })
+    };
+    Ok(Box::new(alloc, nodes)?)
 }
 
 /// Node 2 under Tally, whose log begins with the number 1.
-fn new_node(alloc: Global, nodes: &Nodes) -> Result<Node<Tally>, Fail> {
+fn new_node(alloc: Global, nodes: &Nodes) -> Result<Box<Node<Tally>>, Fail> {
     let directory = nodes.directory.try_clone()?;
     let key = key_of(alloc, 2)?;
-    Ok(
-        Node::new(alloc, Tally, directory, NodeId(2), key, 1)
-            .ok()
-            .ok_or("a node")?,
-    )
+    match Node::new(alloc, Tally, directory, NodeId(2), key, 1) {
+        Ok(node) => Ok(Box::new(alloc, node)?),
+        Err(refused) => Err(refused.fault)?,
+    }
 }
 
 /// The same with the log 1 INIT, 2 TIMER, 3 CHECKPOINT, 4 TIMER, 5 TIMER, 6 CHECKPOINT.
-pub(crate) fn node_with_log(alloc: Global, nodes: &Nodes) -> Result<Node<Tally>, Fail> {
+pub(crate) fn node_with_log(alloc: Global, nodes: &Nodes) -> Result<Box<Node<Tally>>, Fail> {
     let mut node = new_node(alloc, nodes)?;
     node.timer(10, [0; 32])?;
     node.checkpoint()?;

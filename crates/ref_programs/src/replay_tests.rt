@@ -43,7 +43,7 @@ struct Nodes {
     key: SecretKey,
 }
 
-fn nodes_of(alloc: Global, me: u8, other: u8) -> Result<Nodes, Fail> {
+fn nodes_of(alloc: Global, me: u8, other: u8) -> Result<Box<Nodes>, Fail> {
     let key = key_of(alloc, other)?;
     let mut directory = Directory::new(alloc);
     directory.add(NodeId(u32::from(other)), key.public_key())?;
@@ -51,17 +51,18 @@ fn nodes_of(alloc: Global, me: u8, other: u8) -> Result<Nodes, Fail> {
     text[3] = 5;
     text[7] = 3;
     directory.add(NodeId(u32::from(me)), PublicKey::from_bytes(&text)?)?;
-    Ok(Nodes {
+    let nodes = Nodes {
         directory,
         me,
         other,
         key,
-    })
+    };
+    Ok(Box::new(alloc, nodes)?)
 }
 
 /// Node 2, whose log is replayed, and node 1.
-fn make_nodes(alloc: Global) -> Result<Nodes, Fail> {
-    Ok(nodes_of(alloc, 2, 1)?)
+fn make_nodes(alloc: Global) -> Result<Box<Nodes>, Fail> {
+    nodes_of(alloc, 2, 1)
 }
 
 /// A number in four bytes, and the payload.
