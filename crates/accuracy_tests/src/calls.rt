@@ -13,46 +13,48 @@ use ref_programs::Tally;
 use std::alloc::Global;
 use std::test::Fail;
 
-fn make_key(alloc: Global) -> Result<SecretKey, Fail> {
-    Ok(SecretKey::make(alloc, LmsType::H5, OtsType::W4, [1; 16], [2; 32])?)
+fn make_key(alloc: Global) -> Result<Box<SecretKey>, Fail> {
+    let key = SecretKey::make(alloc, LmsType::H5, OtsType::W4, [1; 16], [2; 32])?;
+    Ok(Box::new(alloc, key)?)
 }
 
-fn new_node(alloc: Global) -> Result<Node<Tally>, Fail> {
+fn new_node(alloc: Global) -> Result<Box<Node<Tally>>, Fail> {
     let key = make_key(alloc)?;
-    let mut directory = Directory::new(alloc);
+    let mut directory = Box::new(alloc, Directory::new(alloc))?;
     directory.add(NodeId(1), key.public_key())?;
-    Ok(
-        Node::new(alloc, Tally, directory, NodeId(1), key, 1)
-            .ok()
-            .ok_or("a node")?,
-    )
+    let (directory, key) = (Box::into_inner(directory), Box::into_inner(key));
+    match Node::new(alloc, Tally, directory, NodeId(1), key, 1) {
+        Ok(node) => Ok(Box::new(alloc, node)?),
+        Err(refused) => Err(refused.fault)?,
+    }
 }
 
 /// A store without items, under the node's directory.
-fn new_store(alloc: Global, node: &Node<Tally>) -> Result<PlainStore<Tally>, Fail>
-    ensures { IfOk result (λ s. s.directory ≡ node.now.directory) }
+fn new_store(alloc: Global, node: &Node<Tally>) -> Result<Box<PlainStore<Tally>>, Fail>
+    ensures { IfOk result (λ s. s.value.directory ≡ node.now.directory) }
 {
     let directory = node.directory().try_clone()?;
     let store = PlainStore::new(alloc, directory)?;
-    Ok(store)
+    Ok(Box::new(alloc, store)?)
 }
 
 /// The statement that entry 1 of node 1 has this hash, which the key signs.
-fn statement(alloc: Global, key: &mut SecretKey, hash: Hash) -> Result<Item, Fail> {
+fn statement(alloc: Global, key: &mut SecretKey, hash: Hash) -> Result<Box<Item>, Fail> {
     let sig = key.sign(alloc, &statement_text(1, hash), [9; 32])?;
-    Ok(Item::auth(Authenticator {
+    let item = Item::auth(Authenticator {
         node: NodeId(1),
         seq: 1,
         hash,
         sig: ByteString::from_vec(sig),
-    })?)
+    })?;
+    Ok(Box::new(alloc, item)?)
 }
 
 /// Takes the item, if it is valid.
-fn take(alloc: Global, store: &mut PlainStore<Tally>, item: Item) -> Result<(), Fail>
+fn take(alloc: Global, store: &mut PlainStore<Tally>, item: Box<Item>) -> Result<(), Fail>
     ensures { OnOk result (store.new.directory ≡ store.old.directory) }
 {
-    let checked = check_item(alloc, &Tally, store.directory(), item)?;
+    let checked = check_item(alloc, &Tally, store.directory(), Box::into_inner(item))?;
     store.take(checked)?;
     Ok(())
 }
@@ -73,9 +75,9 @@ fn take_forgeries(alloc: Global, store: &mut PlainStore<Tally>) -> Result<(), Fa
 fn exposures(alloc: Global) -> Result<[bool; 2], Fail> {
     let node = new_node(alloc)?;
     let mut store = new_store(alloc, &node)?;
-    let without = exposes(&store, &node);
+    let without = exposes(&*store, &node);
     take_forgeries(alloc, &mut store)?;
-    Ok([without, exposes(&store, &node)])
+    Ok([without, exposes(&*store, &node)])
 }
 
 #[test]

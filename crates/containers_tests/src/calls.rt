@@ -16,33 +16,35 @@ const MAGIC: [u8; 8] = *b"PRSTORE1";
 /// Node 1 with its key, which makes short work of signing.
 #[derive(Drop)]
 struct Signer {
-    directory: Directory,
-    key: SecretKey,
+    directory: Box<Directory>,
+    key: Box<SecretKey>,
 }
 
 fn make_signer(alloc: Global) -> Result<Signer, Fail> {
     let key = SecretKey::make(alloc, LmsType::H5, OtsType::W4, [1; 16], [2; 32])?;
-    let mut directory = Directory::new(alloc);
+    let key = Box::new(alloc, key)?;
+    let mut directory = Box::new(alloc, Directory::new(alloc))?;
     directory.add(NodeId(1), key.public_key())?;
     Ok(Signer { directory, key })
 }
 
-fn statement(alloc: Global, signer: &mut Signer, seq: u64) -> Result<Item, Fail> {
+fn statement(alloc: Global, signer: &mut Signer, seq: u64) -> Result<Box<Item>, Fail> {
     let hash = Hash([0; 32]);
     let sig = signer.key.sign(alloc, &statement_text(seq, hash), [9; 32])?;
-    Ok(Item::auth(Authenticator {
+    let item = Item::auth(Authenticator {
         node: NodeId(1),
         seq,
         hash,
         sig: ByteString::from_vec(sig),
-    })?)
+    })?;
+    Ok(Box::new(alloc, item)?)
 }
 
 /// The container of the statements of these two numbers.
 fn container(alloc: Global, signer: &mut Signer, seqs: [u64; 2]) -> Result<Vec<u8>, Fail> {
     let mut items = Vec::new(alloc);
     for seq in seqs {
-        items.push(statement(alloc, signer, seq)?)?;
+        items.push(Box::into_inner(statement(alloc, signer, seq)?))?;
     }
     Ok(write_all(alloc, MAGIC, &items)?)
 }
@@ -70,16 +72,22 @@ fn refusal_of(alloc: Global, seqs: [u64; 2]) -> Result<Option<ImportFault>, Fail
 fn refusal_of_twice(alloc: Global) -> Result<Option<ImportFault>, Fail> {
     let mut signer = make_signer(alloc)?;
     let item = statement(alloc, &mut signer, 5)?;
-    let copy = item.try_clone(alloc)?;
-    let text = write_all(alloc, MAGIC, &[item, copy])?;
+    let mut items = Vec::new(alloc);
+    items.push(item.try_clone(alloc)?)?;
+    items.push(Box::into_inner(item))?;
+    let text = write_all(alloc, MAGIC, &items)?;
     Ok(refusal(alloc, &signer.directory, &text))
 }
 
 #[test]
 fn items_ascend(rt: HostRuntime) -> Result<(), Fail> {
-    assert_eq!(rt; refusal_of(rt.alloc(), [5, 6])?, None);
-    assert_eq!(rt; refusal_of(rt.alloc(), [6, 5])?, at(1, Cause::NotAscending));
-    assert_eq!(rt; refusal_of_twice(rt.alloc())?, at(1, Cause::NotAscending));
+    let told = [
+        refusal_of(rt.alloc(), [5, 6])?,
+        refusal_of(rt.alloc(), [6, 5])?,
+        refusal_of_twice(rt.alloc())?,
+    ];
+    let bad = at(1, Cause::NotAscending);
+    assert_eq!(rt; told, [None, bad, bad]);
     Ok(())
 }
 
@@ -167,13 +175,18 @@ fn faults(alloc: Global) -> Result<[Option<ImportFault>; 7], Fail> {
 #[test]
 fn each_fault_is_told_at_its_item(rt: HostRuntime) -> Result<(), Fail> {
     let told = faults(rt.alloc())?;
-    assert_eq!(rt; told[0], at(0, Cause::Truncated));
-    assert_eq!(rt; told[1], at(0, Cause::Truncated));
-    assert_eq!(rt; told[2], at(0, Cause::BadMagic));
-    assert_eq!(rt; told[3], at(1, Cause::Truncated));
-    assert_eq!(rt; told[4], at(0, Cause::TooLong));
-    assert_eq!(rt; told[5], at(1, Cause::BadTag));
-    assert_eq!(rt; told[6], at(2, Cause::Trailing));
+    assert_eq!(rt;
+        told,
+        [
+            at(0, Cause::Truncated),
+            at(0, Cause::Truncated),
+            at(0, Cause::BadMagic),
+            at(1, Cause::Truncated),
+            at(0, Cause::TooLong),
+            at(1, Cause::BadTag),
+            at(2, Cause::Trailing),
+        ]
+    );
     Ok(())
 }
 

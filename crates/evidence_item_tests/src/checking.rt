@@ -151,13 +151,13 @@ fn an_audit_challenge_has_a_range(rt: HostRuntime) -> Result<(), Fail> {
 /// Why a signed statement, audit challenge, message and acknowledged message are refused, if they are.
 fn faults_of_signed(alloc: Global, nodes: &mut Nodes) -> Result<[Option<ItemFault>; 4], Fail> {
     let item = valid_auth(alloc, nodes)?;
-    let of_auth = fault_in(alloc, &nodes.directory, item);
+    let of_auth = fault_in(alloc, &nodes.directory, Box::into_inner(item));
     let item = valid_audit(alloc, nodes)?;
-    let of_audit = fault_in(alloc, &nodes.directory, item);
+    let of_audit = fault_in(alloc, &nodes.directory, Box::into_inner(item));
     let item = valid_send(alloc, nodes)?;
-    let of_send = fault_in(alloc, &nodes.directory, item);
+    let of_send = fault_in(alloc, &nodes.directory, Box::into_inner(item));
     let item = valid_ack(alloc, nodes)?;
-    let of_ack = fault_in(alloc, &nodes.directory, item);
+    let of_ack = fault_in(alloc, &nodes.directory, Box::into_inner(item));
     Ok([of_auth, of_audit, of_send, of_ack])
 }
 

@@ -1,5 +1,9 @@
 //! What checking finds of a valid item, and what is found again where only item and verdict are left.
 
+ghost use Rattle.std.specs.Prelude.{IfOk};
+ghost use Rattle.evidence_item.specs.Checking.{IsChecked};
+ghost use Rattle.evidence_item_tests.specs.Idling.{idling};
+
 use crate::samples::{
     Idle, Nodes, make_nodes, segment_of, unsigned_message, valid_ack, valid_auth, valid_send,
 };
@@ -51,9 +55,31 @@ fn expected(alloc: Global) -> Result<Told, Fail> {
     })
 }
 
-fn checked_segment(alloc: Global, nodes: &mut Nodes) -> Result<Checked<Idle>, Fail> {
-    let item = segment_of(alloc, nodes)?;
-    Ok(check_item(alloc, &Idle, &nodes.directory, item)?)
+/// The item, which is valid.
+fn checked(
+    alloc: Global,
+    directory: &Directory,
+    item: Box<Item>,
+) -> Result<Box<Checked<Idle>>, Fail>
+    ensures { IfOk result (λ c. IsChecked directory.now idling c.value) }
+{
+    let checked = check_item(alloc, &Idle, directory, Box::into_inner(item))?;
+    Ok(Box::new(alloc, checked)?)
+}
+
+/// The same, of which only item and verdict are left, after what is missing was found again.
+fn bared(
+    alloc: Global,
+    directory: &Directory,
+    checked: Box<Checked<Idle>>,
+) -> Result<Box<Checked<Idle>>, Fail>
+    requires { IsChecked directory.now idling checked.value }
+{
+    let verdict = checked.verdict().copied();
+    let item = Box::into_inner(checked).into_item();
+    let mut bare = Box::new(alloc, Checked::from_parts(item, verdict))?;
+    bare.find(alloc, directory)?;
+    Ok(bare)
 }
 
 fn told_of_copy(alloc: Global, checked: &Checked<Idle>) -> Result<Option<Told>, Fail> {
@@ -63,7 +89,8 @@ fn told_of_copy(alloc: Global, checked: &Checked<Idle>) -> Result<Option<Told>, 
 
 /// What checking tells of node 2's segment, and what a copy tells.
 fn told_twice(alloc: Global, nodes: &mut Nodes) -> Result<[Option<Told>; 2], Fail> {
-    let checked = checked_segment(alloc, nodes)?;
+    let item = segment_of(alloc, nodes)?;
+    let checked = checked(alloc, &nodes.directory, item)?;
     Ok([told_of(&checked), told_of_copy(alloc, &checked)?])
 }
 
@@ -78,11 +105,9 @@ fn a_segment_that_deviates_is_valid(rt: HostRuntime) -> Result<(), Fail> {
 /// What is found again, where only item and verdict are left.
 fn found_again(alloc: Global, nodes: &mut Nodes) -> Result<Option<Told>, Fail> {
     let item = segment_of(alloc, nodes)?;
-    let checked = check_item(alloc, &Idle, &nodes.directory, item)?;
-    let verdict = checked.verdict().copied();
-    let mut bare = Checked::from_parts(checked.into_item(), verdict);
-    bare.find(alloc, &nodes.directory)?;
-    Ok(told_of(&bare))
+    let checked = checked(alloc, &nodes.directory, item)?;
+    let found = bared(alloc, &nodes.directory, checked)?;
+    Ok(told_of(&found))
 }
 
 #[test]
@@ -118,14 +143,12 @@ fn hashes_of(checked: &Checked<Idle>) -> Option<Hashes> {
 fn found_twice(
     alloc: Global,
     directory: &Directory,
-    item: Item,
+    item: Box<Item>,
 ) -> Result<[Option<Hashes>; 2], Fail> {
-    let checked = check_item(alloc, &Idle, directory, item)?;
+    let checked = checked(alloc, directory, item)?;
     let first = hashes_of(&checked);
-    let verdict = checked.verdict().copied();
-    let mut bare = Checked::from_parts(checked.into_item(), verdict);
-    bare.find(alloc, directory)?;
-    Ok([first, hashes_of(&bare)])
+    let found = bared(alloc, directory, checked)?;
+    Ok([first, hashes_of(&found)])
 }
 
 /// The hash of the RECV entry of an acknowledged message.

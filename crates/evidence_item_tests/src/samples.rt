@@ -57,24 +57,25 @@ impl Program for Idle {
 /// The nodes 1 and 2 with their keys.
 #[derive(Drop)]
 pub(crate) struct Nodes {
-    pub(crate) directory: Directory,
-    one: SecretKey,
-    two: SecretKey,
+    pub(crate) directory: Box<Directory>,
+    one: Box<SecretKey>,
+    two: Box<SecretKey>,
 }
 
 /// The key (H5, W4) whose identifier and seed end in the number.
-fn key_of(alloc: Global, node: u8) -> Result<SecretKey, Fail> {
+fn key_of(alloc: Global, node: u8) -> Result<Box<SecretKey>, Fail> {
     let mut id = [0; 16];
     id[15] = node;
     let mut seed = [0; 32];
     seed[31] = node;
-    Ok(SecretKey::make(alloc, LmsType::H5, OtsType::W4, id, seed)?)
+    let key = SecretKey::make(alloc, LmsType::H5, OtsType::W4, id, seed)?;
+    Ok(Box::new(alloc, key)?)
 }
 
 pub(crate) fn make_nodes(alloc: Global) -> Result<Nodes, Fail> {
     let one = key_of(alloc, 1)?;
     let two = key_of(alloc, 2)?;
-    let mut directory = Directory::new(alloc);
+    let mut directory = Box::new(alloc, Directory::new(alloc))?;
     directory.add(NodeId(1), one.public_key())?;
     directory.add(NodeId(2), two.public_key())?;
     Ok(Nodes {
@@ -106,50 +107,57 @@ fn statement_of(alloc: Global, key: &mut SecretKey, seq: u64) -> Result<Statemen
 }
 
 /// Node 1's message of `hello` to node 2, without its signature.
-pub(crate) fn unsigned_message(alloc: Global) -> Result<Message, Fail> {
-    Ok(Message {
+pub(crate) fn unsigned_message(alloc: Global) -> Result<Box<Message>, Fail> {
+    let payload = ByteString::from_slice(alloc, b"hello")?;
+    let message = Message {
         from: NodeId(1),
         to: NodeId(2),
         seq: 7,
         prev: ZEROS,
         sig: no_bytes(alloc),
-        payload: ByteString::from_slice(alloc, b"hello")?,
-    })
+        payload,
+    };
+    Ok(Box::new(alloc, message)?)
 }
 
 /// The same with its signature.
-fn message_of(alloc: Global, key: &mut SecretKey) -> Result<Message, Fail> {
+fn message_of(alloc: Global, key: &mut SecretKey) -> Result<Box<Message>, Fail> {
     let mut message = unsigned_message(alloc)?;
     let hash = message.signed_hash();
     message.sig = signed(alloc, key, 7, hash)?;
     Ok(message)
 }
 
-pub(crate) fn valid_auth(alloc: Global, nodes: &mut Nodes) -> Result<Item, Fail> {
+pub(crate) fn valid_auth(alloc: Global, nodes: &mut Nodes) -> Result<Box<Item>, Fail> {
     let sig = signed(alloc, &mut nodes.one, 5, ZEROS)?;
-    Ok(Item::auth(Authenticator {
+    let item = Item::auth(Authenticator {
         node: NodeId(1),
         seq: 5,
         hash: ZEROS,
         sig,
-    })?)
+    })?;
+    Ok(Box::new(alloc, item)?)
 }
 
-pub(crate) fn valid_audit(alloc: Global, nodes: &mut Nodes) -> Result<Item, Fail> {
+pub(crate) fn valid_audit(alloc: Global, nodes: &mut Nodes) -> Result<Box<Item>, Fail> {
     let first = statement_of(alloc, &mut nodes.one, 5)?;
     let last = statement_of(alloc, &mut nodes.one, 6)?;
-    Ok(Item::audit(NodeId(1), Some(first), last)?)
+    let item = Item::audit(NodeId(1), Some(first), last)?;
+    Ok(Box::new(alloc, item)?)
 }
 
-pub(crate) fn valid_send(alloc: Global, nodes: &mut Nodes) -> Result<Item, Fail> {
-    Ok(Item::send(message_of(alloc, &mut nodes.one)?)?)
+pub(crate) fn valid_send(alloc: Global, nodes: &mut Nodes) -> Result<Box<Item>, Fail> {
+    let message = message_of(alloc, &mut nodes.one)?;
+    let item = Item::send(Box::into_inner(message))?;
+    Ok(Box::new(alloc, item)?)
 }
 
-pub(crate) fn valid_ack(alloc: Global, nodes: &mut Nodes) -> Result<Item, Fail> {
+pub(crate) fn valid_ack(alloc: Global, nodes: &mut Nodes) -> Result<Box<Item>, Fail> {
     let message = message_of(alloc, &mut nodes.one)?;
     let hash = message.received_hash(11, ZEROS);
     let sig = signed(alloc, &mut nodes.two, 11, hash)?;
-    Ok(Item::ack(message, 11, ZEROS, sig)?)
+    let item = Item::ack(Box::into_inner(message), 11, ZEROS, sig)?;
+    Ok(Box::new(alloc, item)?)
 }
 
 /// What a RECV entry quotes of the message, with the last byte changed by `change`.
@@ -185,9 +193,10 @@ fn log_of(alloc: Global, nodes: &mut Nodes) -> Result<Vec<Entry>, Fail> {
 }
 
 /// Node 2's segment of that log.
-pub(crate) fn segment_of(alloc: Global, nodes: &mut Nodes) -> Result<Item, Fail> {
+pub(crate) fn segment_of(alloc: Global, nodes: &mut Nodes) -> Result<Box<Item>, Fail> {
     let entries = log_of(alloc, nodes)?;
     let hash = chain_end(base_hash(), &entries);
     let sig = signed(alloc, &mut nodes.two, 4, hash)?;
-    Ok(Item::segment(NodeId(2), base_hash(), entries, sig)?)
+    let item = Item::segment(NodeId(2), base_hash(), entries, sig)?;
+    Ok(Box::new(alloc, item)?)
 }

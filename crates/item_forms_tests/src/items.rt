@@ -80,17 +80,18 @@ fn statement(alloc: Global, seq: u64) -> Result<Statement, Fail> {
     })
 }
 
-fn message(alloc: Global, seq: u64) -> Result<Message, Fail> {
+fn message(alloc: Global, seq: u64) -> Result<Box<Message>, Fail> {
     let sig = signature(alloc)?;
     let payload = ByteString::from_slice(alloc, b"hello")?;
-    Ok(Message {
+    let message = Message {
         from: NodeId(1),
         to: NodeId(2),
         seq,
         prev: Hash([4; 32]),
         sig,
         payload,
-    })
+    };
+    Ok(Box::new(alloc, message)?)
 }
 
 /// Two entries, of this number and the next.
@@ -118,7 +119,7 @@ fn auth(alloc: Global, seq: u32) -> Result<Item, Fail> {
 }
 
 /// An item of the form, with this number in it; under 6 an audit challenge from the beginning of the log.
-fn item(alloc: Global, form: u8, seq: u32) -> Result<Item, Fail> {
+fn item_of(alloc: Global, form: u8, seq: u32) -> Result<Item, Fail> {
     let number = seq as u64;
     match form {
         1 => auth(alloc, seq),
@@ -130,13 +131,20 @@ fn item(alloc: Global, form: u8, seq: u32) -> Result<Item, Fail> {
             let first = statement(alloc, number)?;
             Ok(Item::audit(NodeId(1), Some(first), statement(alloc, 400)?)?)
         }
-        4 => Ok(Item::send(message(alloc, number)?)?),
+        4 => Ok(Item::send(Box::into_inner(message(alloc, number)?))?),
         5 => {
             let message = message(alloc, 6)?;
-            Ok(Item::ack(message, number, Hash([5; 32]), signature(alloc)?)?)
+            let sig = signature(alloc)?;
+            Ok(Item::ack(Box::into_inner(message), number, Hash([5; 32]), sig)?)
         }
         _ => Ok(Item::audit(NodeId(1), None, statement(alloc, number)?)?),
     }
+}
+
+/// The same item in a box.
+fn item(alloc: Global, form: u8, seq: u32) -> Result<Box<Item>, Fail> {
+    let item = item_of(alloc, form, seq)?;
+    Ok(Box::new(alloc, item)?)
 }
 
 /// Whether each proper prefix of the item's text is told as cut off.
@@ -250,7 +258,7 @@ fn order_of_texts(
 /// How the item stands to the other, and whether they are equal.
 fn order_to(alloc: Global, one: &Item, other: (u8, u32)) -> Result<(Ordering, bool), Fail> {
     let other = item(alloc, other.0, other.1)?;
-    Ok((one.cmp(&other), *one == other))
+    Ok((one.cmp(&*other), *one == *other))
 }
 
 fn order_of_items(

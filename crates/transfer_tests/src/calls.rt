@@ -59,12 +59,15 @@ fn number_of(alloc: Global, text: &[u8]) -> u8 {
 #[test]
 fn summaries_that_are_refused(rt: HostRuntime) -> Result<(), Fail> {
     let alloc = rt.alloc();
-    assert_eq!(rt; number_of(alloc, b"PRSUMM0"), 40);
-    assert_eq!(rt; number_of(alloc, b"PRSUMM02"), 60);
-    assert_eq!(rt; number_of(alloc, b"PRSUMM01\0\0\0\0\0\0\0"), 40);
-    assert_eq!(rt; number_of(alloc, b"PRSUMM01\0\0\0\0\0\0\0\0"), 0);
-    assert_eq!(rt; number_of(alloc, b"PRSUMM01\0\0\0\0\0\0\0\0\0"), 43);
-    assert_eq!(rt; number_of(alloc, b"PRSUMM01\0\0\0\0\0\0\0\x01\0"), 40);
+    let told = [
+        number_of(alloc, b"PRSUMM0"),
+        number_of(alloc, b"PRSUMM02"),
+        number_of(alloc, b"PRSUMM01\0\0\0\0\0\0\0"),
+        number_of(alloc, b"PRSUMM01\0\0\0\0\0\0\0\0"),
+        number_of(alloc, b"PRSUMM01\0\0\0\0\0\0\0\0\0"),
+        number_of(alloc, b"PRSUMM01\0\0\0\0\0\0\0\x01\0"),
+    ];
+    assert_eq!(rt; told, [40, 60, 40, 0, 43, 40]);
     Ok(())
 }
 
@@ -79,9 +82,12 @@ fn of_two(alloc: Global, first: u8, second: u8) -> Result<Vec<u8>, Fail> {
 #[test]
 fn digests_ascend(rt: HostRuntime) -> Result<(), Fail> {
     let alloc = rt.alloc();
-    assert_eq!(rt; number_of(alloc, of_two(alloc, 1, 2)?.as_slice()), 0);
-    assert_eq!(rt; number_of(alloc, of_two(alloc, 2, 2)?.as_slice()), 61);
-    assert_eq!(rt; number_of(alloc, of_two(alloc, 2, 1)?.as_slice()), 61);
+    let told = [
+        number_of(alloc, of_two(alloc, 1, 2)?.as_slice()),
+        number_of(alloc, of_two(alloc, 2, 2)?.as_slice()),
+        number_of(alloc, of_two(alloc, 2, 1)?.as_slice()),
+    ];
+    assert_eq!(rt; told, [0, 61, 61]);
     Ok(())
 }
 
@@ -104,37 +110,39 @@ fn a_summary_that_is_cut_off_is_truncated(rt: HostRuntime) -> Result<(), Fail> {
 }
 
 /// The key of node 1, which makes short work of signing.
-fn make_key(alloc: Global, height: LmsType) -> Result<SecretKey, Fail> {
+fn make_key(alloc: Global, height: LmsType) -> Result<Box<SecretKey>, Fail> {
     let mut id = [0; 16];
     let mut seed = [0; 32];
     id[15] = 1;
     seed[31] = 1;
-    Ok(SecretKey::make(alloc, height, OtsType::W4, id, seed)?)
+    let key = SecretKey::make(alloc, height, OtsType::W4, id, seed)?;
+    Ok(Box::new(alloc, key)?)
 }
 
-/// A directory of node 1 alone.
-fn make_directory(alloc: Global, key: &SecretKey) -> Result<Directory, Fail> {
-    let mut directory = Directory::new(alloc);
-    directory.add(NodeId(1), key.public_key())?;
-    Ok(directory)
+/// A store under the directory, without items.
+fn empty_store(alloc: Global, directory: Directory) -> Result<Box<PlainStore<Tally>>, Fail> {
+    let store = PlainStore::new(alloc, directory)?;
+    Ok(Box::new(alloc, store)?)
 }
 
 /// A store under a directory of node 1 alone, without items.
-fn new_store(alloc: Global, key: &SecretKey) -> Result<PlainStore<Tally>, Fail> {
-    let directory = make_directory(alloc, key)?;
-    Ok(PlainStore::new(alloc, directory)?)
+fn new_store(alloc: Global, key: &SecretKey) -> Result<Box<PlainStore<Tally>>, Fail> {
+    let mut directory = Box::new(alloc, Directory::new(alloc))?;
+    directory.add(NodeId(1), key.public_key())?;
+    empty_store(alloc, Box::into_inner(directory))
 }
 
 /// A statement of node 1 on the entry with this number, which the key signs.
-fn statement(alloc: Global, key: &mut SecretKey, seq: u64) -> Result<Item, Fail> {
+fn statement(alloc: Global, key: &mut SecretKey, seq: u64) -> Result<Box<Item>, Fail> {
     let hash = Hash([7; 32]);
     let sig = key.sign(alloc, &statement_text(seq, hash), [9; 32])?;
-    Ok(Item::auth(Authenticator {
+    let item = Item::auth(Authenticator {
         node: NodeId(1),
         seq,
         hash,
         sig: ByteString::from_vec(sig),
-    })?)
+    })?;
+    Ok(Box::new(alloc, item)?)
 }
 
 /// Takes a statement on the entry with this number.
@@ -145,7 +153,7 @@ fn take(
     store: &mut PlainStore<Tally>,
 ) -> Result<(), Fail> {
     let item = statement(alloc, key, seq)?;
-    let checked = check_item(alloc, &Tally, store.directory(), item)?;
+    let checked = check_item(alloc, &Tally, store.directory(), Box::into_inner(item))?;
     store.take(checked)?;
     Ok(())
 }
@@ -230,25 +238,21 @@ fn transfer_by_texts(alloc: Global) -> Result<Transfer, Fail> {
 #[test]
 fn a_transfer(rt: HostRuntime) -> Result<(), Fail> {
     let done = transfer_by_texts(rt.alloc())?;
-    assert_eq!(rt; done.first, 1);
-    assert_eq!(rt; done.again, 0);
-    assert_eq!(rt; done.before, false);
-    assert_eq!(rt; done.after, true);
-    let told = format!(in rt.alloc(); "{}", done.summary)?;
+    assert_eq!(rt;
+        (done.first, done.again, done.before, done.after),
+        (1, 0, false, true)
+    );
+    let told = format!(in rt.alloc(); "{} {}", done.summary, done.pack)?;
     assert_eq!(rt;
         told.as_str(),
-        "dadc896845e514454c36f6539adf697d638a19bd7d98530096517e0a6d4e572a"
-    );
-    let given = format!(in rt.alloc(); "{}", done.pack)?;
-    assert_eq!(rt;
-        given.as_str(),
-        "6acdefe93ecf46f6b8f1ec4559ae485c95d14c9e85cdf46e2f8b0459ad8d3fcd"
+        "dadc896845e514454c36f6539adf697d638a19bd7d98530096517e0a6d4e572a \
+        6acdefe93ecf46f6b8f1ec4559ae485c95d14c9e85cdf46e2f8b0459ad8d3fcd"
     );
     Ok(())
 }
 
 /// A store with statements on so many entries.
-fn filled(alloc: Global, count: u64) -> Result<PlainStore<Tally>, Fail> {
+fn filled(alloc: Global, count: u64) -> Result<Box<PlainStore<Tally>>, Fail> {
     let mut key = make_key(alloc, LmsType::H10)?;
     let mut store = new_store(alloc, &key)?;
     for seq in 0..count {
@@ -299,17 +303,16 @@ fn refusal_of_export(
 #[test]
 fn texts_of_nothing(rt: HostRuntime) -> Result<(), Fail> {
     let alloc = rt.alloc();
-    let store: PlainStore<Tally> = PlainStore::new(alloc, Directory::new(alloc))?;
-    let told = summary(alloc, &store)?;
-    let given = pack(alloc, &store, &told)?;
-    let text = told.to_bytes(alloc)?;
-    assert_eq!(rt; text.as_slice(), b"PRSUMM01\0\0\0\0\0\0\0\0".as_slice());
-    let text = given.to_bytes(alloc)?;
-    assert_eq!(rt; text.as_slice(), b"PRPACK01\0\0\0\0\0\0\0\0".as_slice());
+    let store = empty_store(alloc, Directory::new(alloc))?;
+    let told = text_of_summary(alloc, &store)?;
+    let given = text_of_pack(alloc, &store, &told)?;
+    let refusal = refusal_of_export(alloc, &store)?;
+    assert_eq!(rt; told.as_slice(), b"PRSUMM01\0\0\0\0\0\0\0\0".as_slice());
+    assert_eq!(rt; given.as_slice(), b"PRPACK01\0\0\0\0\0\0\0\0".as_slice());
     let bad = ImportFault {
         item: 0,
         cause: Cause::BadMagic,
     };
-    assert_eq!(rt; refusal_of_export(alloc, &store)?, Some(bad));
+    assert_eq!(rt; refusal, Some(bad));
     Ok(())
 }

@@ -1,6 +1,6 @@
 //! What events answer, and events that are refused.
 
-use crate::testing::{Signer, make_signer, make_world, statement, take, tell};
+use crate::testing::{Signer, copy_of, make_signer, make_world, statement, take, tell};
 use authenticators::{Directory, NodeId};
 use evidence_store::PlainStore;
 use ref_programs::Tally;
@@ -42,7 +42,7 @@ fn refusals_have_numbers_names_and_lines(rt: HostRuntime) -> Result<(), Fail> {
 }
 
 /// A world of so many witnesses without items.
-fn world_of(alloc: Global, signer: &Signer, count: u64) -> Result<TallyWorld, Fail> {
+fn world_of(alloc: Global, signer: &Signer, count: u64) -> Result<Box<TallyWorld>, Fail> {
     make_world(alloc, &signer.directory, count)
 }
 
@@ -52,7 +52,7 @@ fn replies_to_one_statement(alloc: Global) -> Result<[(u8, u64); 8], Fail> {
     let mut signer = make_signer(alloc)?;
     let mut world = world_of(alloc, &signer, 2)?;
     let item = statement(alloc, &mut signer, 5, 7)?;
-    let again = item.try_clone(alloc)?;
+    let again = copy_of(alloc, &item)?;
     let world = &mut world;
     let node = NodeId(1);
     Ok([
@@ -246,7 +246,7 @@ fn a_refusal_comes_with_the_replies_before_it(rt: HostRuntime) -> Result<(), Fai
 
 /// What is answered where nobody is a witness.
 fn replies_without_witnesses(alloc: Global) -> Result<[(u8, u64); 2], Fail> {
-    let mut world: TallyWorld = make_world(alloc, &Directory::new(alloc), 0)?;
+    let mut world: Box<TallyWorld> = make_world(alloc, &Directory::new(alloc), 0)?;
     let world = &mut world;
     Ok([
         tell(alloc, world, Event::Summarise { witness: 0 }),

@@ -1,6 +1,6 @@
 //! Evidence spreads through three witnesses by packs that are lost, doubled and crossed, in three orders.
 
-use crate::testing::{make_signer, make_world, statement, take, tell};
+use crate::testing::{copy_of, make_signer, make_world, statement, take, tell};
 use authenticators::Directory;
 use evidence_item::Item;
 use evidence_store::{Evidence, PlainStore};
@@ -15,7 +15,7 @@ use witness_core::{Event, World};
 type TallyWorld = World<Tally, PlainStore<Tally>>;
 
 /// Four statements of node 1: two on entry 5 and two on entry 6, each with a hash of its own.
-fn four_statements(alloc: Global) -> Result<(Directory, [Item; 4]), Fail> {
+fn four_statements(alloc: Global) -> Result<(Box<Directory>, [Box<Item>; 4]), Fail> {
     let mut signer = make_signer(alloc)?;
     let items = [
         statement(alloc, &mut signer, 5, 7)?,
@@ -30,12 +30,12 @@ fn four_statements(alloc: Global) -> Result<(Directory, [Item; 4]), Fail> {
 fn give(
     alloc: Global,
     world: &mut TallyWorld,
-    items: &[Item; 4],
+    items: &[Box<Item>; 4],
     pairs: &[(u64, usize)],
 ) -> Result<(), Fail> {
     for (witness, place) in pairs {
         if let Some(item) = items.get(*place) {
-            take(alloc, &Tally, world, *witness, item.try_clone(alloc)?)?;
+            take(alloc, &Tally, world, *witness, copy_of(alloc, item)?)?;
         }
     }
     Ok(())
@@ -99,7 +99,7 @@ fn spread(
     deliveries: &[(u64, u64)],
 ) -> Result<Exports, Fail> {
     let (directory, items) = four_statements(alloc)?;
-    let mut world: TallyWorld = make_world(alloc, &directory, 3)?;
+    let mut world: Box<TallyWorld> = make_world(alloc, &directory, 3)?;
     give(alloc, &mut world, &items, pairs)?;
     let together = Hash(Sha256::digest(&merged(alloc, &world)?));
     make_packs(alloc, &mut world);

@@ -19,8 +19,8 @@ use witness_core::{Event, Reply, World, run};
 /// The key of node 1 and the directory that lists it.
 #[derive(Drop)]
 pub(crate) struct Signer {
-    pub(crate) directory: Directory,
-    pub(crate) key: SecretKey,
+    pub(crate) directory: Box<Directory>,
+    pub(crate) key: Box<SecretKey>,
 }
 
 /// A node whose key makes short work of signing.
@@ -30,7 +30,8 @@ pub(crate) fn make_signer(alloc: Global) -> Result<Signer, Fail> {
     id[15] = 1;
     seed[31] = 1;
     let key = SecretKey::make(alloc, LmsType::H5, OtsType::W4, id, seed)?;
-    let mut directory = Directory::new(alloc);
+    let key = Box::new(alloc, key)?;
+    let mut directory = Box::new(alloc, Directory::new(alloc))?;
     directory.add(NodeId(1), key.public_key())?;
     Ok(Signer { directory, key })
 }
@@ -41,15 +42,21 @@ pub(crate) fn statement(
     signer: &mut Signer,
     seq: u64,
     byte: u8,
-) -> Result<Item, Fail> {
+) -> Result<Box<Item>, Fail> {
     let hash = Hash([byte; 32]);
     let sig = signer.key.sign(alloc, &statement_text(seq, hash), [9; 32])?;
-    Ok(Item::auth(Authenticator {
+    let item = Item::auth(Authenticator {
         node: NodeId(1),
         seq,
         hash,
         sig: ByteString::from_vec(sig),
-    })?)
+    })?;
+    Ok(Box::new(alloc, item)?)
+}
+
+/// A copy of the item.
+pub(crate) fn copy_of(alloc: Global, item: &Item) -> Result<Box<Item>, Fail> {
+    Ok(Box::new(alloc, item.try_clone(alloc)?)?)
 }
 
 /// So many stores without items, under copies of the directory.
@@ -73,9 +80,9 @@ pub(crate) fn make_world<P: Program, S: Evidence<P>>(
     alloc: Global,
     directory: &Directory,
     count: u64,
-) -> Result<World<P, S>, Fail> {
+) -> Result<Box<World<P, S>>, Fail> {
     let stores: Vec<S> = make_stores(alloc, directory, count)?;
-    Ok(World::new(alloc, stores))
+    Ok(Box::new(alloc, World::new(alloc, stores))?)
 }
 
 /// What the event answers, as a pair: which of the six replies it is, and what it tells. Of a text that is how many bytes it has.
@@ -115,11 +122,11 @@ pub(crate) fn take<P: Program, S: Evidence<P>>(
     program: &P,
     world: &mut World<P, S>,
     witness: u64,
-    item: Item,
+    item: Box<Item>,
 ) -> Result<(u8, u64), Fail> {
     let Some(store) = world.stores().get(witness as usize) else {
         return Ok((0, 80));
     };
-    let item = check_item(alloc, program, store.directory(), item)?;
+    let item = check_item(alloc, program, store.directory(), Box::into_inner(item))?;
     Ok(tell(alloc, world, Event::Take { witness, item }))
 }
