@@ -1,10 +1,14 @@
 //! Challenges to node 2 and its answers, with the hashes of its log as a program in Python over its `hashlib` has them.
 
+ghost use Rattle.std.specs.Prelude.{IfOk};
+ghost use Rattle.evidence_item.specs.Checking.{IsChecked};
+ghost use Rattle.ref_programs.specs.TallyMeaning.{tally};
+
 use crate::samples::{Nodes, Signer, ZEROS, make_nodes, node_with_log, spend_key};
 use authenticators::{Authenticator, NodeId};
 use challenges::{Answer, AnswerFault, ChallengeFault, answer, audit_challenge, send_challenge};
 use commitment::Node;
-use evidence_item::check_item;
+use evidence_item::{Checked, check_item};
 use item_forms::{Form, Item};
 use log_chain::{ByteString, Hash, chain_end};
 use ref_programs::Tally;
@@ -35,15 +39,24 @@ const SIXTH: Hash = Hash([
     0xbf, 0x3b, 0xa9, 0xe4, 0x1e, 0xa7, 0x21, 0x7e, 0x94, 0xb2, 0xd8, 0x44, 0x59, 0x61, 0x72, 0xf7,
 ]);
 
+/// The item, which is valid under the node's directory.
+fn checked(alloc: Global, node: &Node<Tally>, item: Item) -> Result<Box<Checked<Tally>>, Fail>
+    ensures { IfOk result (λ c. IsChecked node.now.directory tally c.value) }
+{
+    let checked = check_item(alloc, &Tally, node.directory(), item)?;
+    Ok(Box::new(alloc, checked)?)
+}
+
 /// The node's answer to the item.
-fn answered(alloc: Global, node: &mut Node<Tally>, item: Item) -> Result<Answer, Fail> {
-    let challenge = check_item(alloc, &Tally, node.directory(), item)?;
-    Ok(answer(alloc, node, &challenge, [7; 32])?)
+fn answered(alloc: Global, node: &mut Node<Tally>, item: Item) -> Result<Box<Answer>, Fail> {
+    let challenge = checked(alloc, node, item)?;
+    let given = answer(alloc, node, &challenge, [7; 32])?;
+    Ok(Box::new(alloc, given)?)
 }
 
 /// The number of the fault with which the node refuses to answer the item; 0 where it answers.
 fn refusal(alloc: Global, node: &mut Node<Tally>, item: Item) -> Result<u8, Fail> {
-    let challenge = check_item(alloc, &Tally, node.directory(), item)?;
+    let challenge = checked(alloc, node, item)?;
     match answer(alloc, node, &challenge, [7; 32]) {
         Ok(_) => Ok(0),
         Err(fault) => Ok(fault.number()),
@@ -61,7 +74,7 @@ struct Part {
 
 /// What the item has, which is valid, where it is a segment.
 fn part_of(alloc: Global, node: &Node<Tally>, item: Item) -> Result<Option<Part>, Fail> {
-    let checked = check_item(alloc, &Tally, node.directory(), item)?;
+    let checked = checked(alloc, node, item)?;
     let Form::Segment(segment) = checked.item().form() else {
         return Ok(None);
     };
@@ -95,7 +108,7 @@ fn shown(
     if !given.messages.is_empty() {
         return Ok(None);
     }
-    part_of(alloc, node, given.item)
+    part_of(alloc, node, Box::into_inner(given).item)
 }
 
 /// The refusal of an audit from the beginning to the entry with this hash, which the signer states.
@@ -118,7 +131,7 @@ fn message_refusal(
     to: u32,
 ) -> Result<u8, Fail> {
     let message = signer.message(alloc, to, 21, b"X")?;
-    refusal(alloc, node, send_challenge(message)?)
+    refusal(alloc, node, send_challenge(Box::into_inner(message))?)
 }
 
 /// The refusal of a statement, which is no challenge.
@@ -140,7 +153,7 @@ struct Place {
 
 /// The place that the item has, which is valid, where it is an acknowledged message.
 fn place_of(alloc: Global, node: &Node<Tally>, item: Item) -> Result<Option<Place>, Fail> {
-    let checked = check_item(alloc, &Tally, node.directory(), item)?;
+    let checked = checked(alloc, node, item)?;
     let Form::Ack(ack) = checked.item().form() else {
         return Ok(None);
     };
@@ -160,14 +173,13 @@ struct Told {
     is_same: bool,
 }
 
-fn told_twice(alloc: Global, node: &mut Node<Tally>, item: Item) -> Result<Told, Fail> {
-    let copy = item.try_clone(alloc)?;
-    let first = answered(alloc, node, item)?;
-    let again = answered(alloc, node, copy)?;
+fn told_twice(alloc: Global, node: &mut Node<Tally>, item: Box<Item>) -> Result<Told, Fail> {
+    let first = answered(alloc, node, item.try_clone(alloc)?)?;
+    let again = answered(alloc, node, Box::into_inner(item))?;
     let is_same = first.item == again.item;
     let messages = [first.messages.len(), again.messages.len()];
     Ok(Told {
-        place: place_of(alloc, node, first.item)?,
+        place: place_of(alloc, node, Box::into_inner(first).item)?,
         messages,
         entries: node.history().len(),
         is_same,
@@ -177,7 +189,8 @@ fn told_twice(alloc: Global, node: &mut Node<Tally>, item: Item) -> Result<Told,
 /// What answers a message that adds one.
 fn acknowledged(alloc: Global, node: &mut Node<Tally>, one: &mut Signer) -> Result<Told, Fail> {
     let message = one.message(alloc, 2, 4, &[b'A', 0, 0, 0, 0, 0, 0, 0, 1])?;
-    told_twice(alloc, node, send_challenge(message)?)
+    let item = send_challenge(Box::into_inner(message))?;
+    told_twice(alloc, node, Box::new(alloc, item)?)
 }
 
 /// An audit of node 2, whose log has six entries.

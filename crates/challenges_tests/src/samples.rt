@@ -14,24 +14,25 @@ pub(crate) const ZEROS: Hash = Hash([0; 32]);
 #[derive(Drop)]
 pub(crate) struct Signer {
     node: NodeId,
-    key: SecretKey,
+    key: Box<SecretKey>,
 }
 
 /// The nodes that sign, under their directory.
 #[derive(Drop)]
 pub(crate) struct Nodes {
-    directory: Directory,
+    directory: Box<Directory>,
     pub(crate) one: Signer,
     pub(crate) two: Signer,
 }
 
 /// The key (H5, W1) whose identifier and seed end in the number.
-fn key_of(alloc: Global, node: u8) -> Result<SecretKey, Fail> {
+fn key_of(alloc: Global, node: u8) -> Result<Box<SecretKey>, Fail> {
     let mut id = [0; 16];
     id[15] = node;
     let mut seed = [0; 32];
     seed[31] = node;
-    Ok(SecretKey::make(alloc, LmsType::H5, OtsType::W1, id, seed)?)
+    let key = SecretKey::make(alloc, LmsType::H5, OtsType::W1, id, seed)?;
+    Ok(Box::new(alloc, key)?)
 }
 
 fn make_signer(alloc: Global, node: u8) -> Result<Signer, Fail> {
@@ -41,25 +42,24 @@ fn make_signer(alloc: Global, node: u8) -> Result<Signer, Fail> {
     })
 }
 
-pub(crate) fn make_nodes(alloc: Global) -> Result<Box<Nodes>, Fail> {
+pub(crate) fn make_nodes(alloc: Global) -> Result<Nodes, Fail> {
     let one = make_signer(alloc, 1)?;
     let two = make_signer(alloc, 2)?;
-    let mut directory = Directory::new(alloc);
+    let mut directory = Box::new(alloc, Directory::new(alloc))?;
     directory.add(one.node, one.key.public_key())?;
     directory.add(two.node, two.key.public_key())?;
-    let nodes = Nodes {
+    Ok(Nodes {
         directory,
         one,
         two,
-    };
-    Ok(Box::new(alloc, nodes)?)
+    })
 }
 
 /// Node 2 under Tally, whose log begins with the number 1.
 fn new_node(alloc: Global, nodes: &Nodes) -> Result<Box<Node<Tally>>, Fail> {
     let directory = nodes.directory.try_clone()?;
     let key = key_of(alloc, 2)?;
-    match Node::new(alloc, Tally, directory, NodeId(2), key, 1) {
+    match Node::new(alloc, Tally, directory, NodeId(2), Box::into_inner(key), 1) {
         Ok(node) => Ok(Box::new(alloc, node)?),
         Err(refused) => Err(refused.fault)?,
     }
@@ -117,15 +117,17 @@ impl Signer {
         to: u32,
         seq: u64,
         payload: &[u8],
-    ) -> Result<Message, Fail> {
-        let mut message = Message {
+    ) -> Result<Box<Message>, Fail> {
+        let payload = ByteString::from_slice(alloc, payload)?;
+        let message = Message {
             from: self.node,
             to: NodeId(to),
             seq,
             prev: ZEROS,
             sig: ByteString::from_vec(Vec::new(alloc)),
-            payload: ByteString::from_slice(alloc, payload)?,
+            payload,
         };
+        let mut message = Box::new(alloc, message)?;
         let hash = message.signed_hash();
         message.sig = self.sign(alloc, seq, hash)?;
         Ok(message)

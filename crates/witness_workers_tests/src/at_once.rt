@@ -22,7 +22,7 @@ fn every_call<R: Wait>(
     alloc: Global,
     shared: &SharedStore<Tally, Store>,
     mut pass: Pass,
-    items: Vec<Item>,
+    items: Vec<Box<Item>>,
 ) -> Pass {
     for item in items {
         let _ = take_item(rt, alloc, shared, &mut pass, item);
@@ -46,7 +46,7 @@ struct Left {
 }
 
 /// The statements of these hashes on entry 5.
-fn statements(alloc: Global, key: &mut SecretKey, hashes: &[u8]) -> Result<Vec<Item>, Fail> {
+fn statements(alloc: Global, key: &mut SecretKey, hashes: &[u8]) -> Result<Vec<Box<Item>>, Fail> {
     let mut items = Vec::new(alloc);
     for hash in hashes {
         items.push(statement(alloc, key, 5, *hash, 0)?)?;
@@ -55,9 +55,9 @@ fn statements(alloc: Global, key: &mut SecretKey, hashes: &[u8]) -> Result<Vec<I
 }
 
 /// Takes the items, which are checked under the store's directory.
-fn take_all(alloc: Global, store: &mut Store, items: Vec<Item>) -> Result<(), Fail> {
+fn take_all(alloc: Global, store: &mut Store, items: Vec<Box<Item>>) -> Result<(), Fail> {
     for item in items {
-        let checked = check_item(alloc, &Tally, store.directory(), item)?;
+        let checked = check_item(alloc, &Tally, store.directory(), Box::into_inner(item))?;
         store.take(checked)?;
     }
     Ok(())
@@ -69,7 +69,7 @@ fn call_both<R: Threads + Wait + Sync>(
     alloc: Global,
     shared: &SharedStore<Tally, Store>,
     callers: (Pass, Pass),
-    items: (Vec<Item>, Vec<Item>),
+    items: (Vec<Box<Item>>, Vec<Box<Item>>),
 ) -> (Pass, Pass) {
     let (first, second) = callers;
     let (ours, theirs) = items;
@@ -97,7 +97,10 @@ fn left_of(closed: &Closed<Store>, alone: &Store) -> Result<Left, Fail> {
 }
 
 /// Two callers take, merge, ask and export, each in a thread of its own.
-fn two_at_once<R: Threads + Wait + Sync>(rt: &R, alloc: Global) -> Result<Closed<Store>, Fail> {
+fn two_at_once<R: Threads + Wait + Sync>(
+    rt: &R,
+    alloc: Global,
+) -> Result<Box<Closed<Store>>, Fail> {
     let Sharing {
         mut key,
         shared,
@@ -111,7 +114,7 @@ fn two_at_once<R: Threads + Wait + Sync>(rt: &R, alloc: Global) -> Result<Closed
 }
 
 /// A store that took the same items alone.
-fn one_alone(alloc: Global) -> Result<Store, Fail> {
+fn one_alone(alloc: Global) -> Result<Box<Store>, Fail> {
     let mut key = make_key(alloc)?;
     let mut store = new_store(alloc, &key)?;
     let items = statements(alloc, &mut key, &[1, 2, 3, 4])?;
@@ -121,7 +124,8 @@ fn one_alone(alloc: Global) -> Result<Store, Fail> {
 
 fn two_callers<R: Threads + Wait + Sync>(rt: &R, alloc: Global) -> Result<Left, Fail> {
     let closed = two_at_once(rt, alloc)?;
-    left_of(&closed, &one_alone(alloc)?)
+    let alone = one_alone(alloc)?;
+    left_of(&closed, &alone)
 }
 
 #[test]
@@ -140,7 +144,7 @@ fn take_and_ask<R: Wait>(
     alloc: Global,
     shared: &SharedStore<Tally, Store>,
     mut pass: Pass,
-    items: (Item, Item),
+    items: (Box<Item>, Box<Item>),
 ) -> Option<Indication> {
     let _ = take_item(rt, alloc, shared, &mut pass, items.0);
     let _ = take_item(rt, alloc, shared, &mut pass, items.1);
@@ -153,7 +157,7 @@ fn ask_and_merge<R: Threads + Wait + Sync>(
     alloc: Global,
     shared: &SharedStore<Tally, Store>,
     passes: (Pass, Pass),
-    items: (Item, Item),
+    items: (Box<Item>, Box<Item>),
 ) -> (Option<Indication>, Option<u64>) {
     let (first, mut second) = passes;
     thread::join(

@@ -1,7 +1,7 @@
 //! Stores that two callers share, one after the other, and how they are closed.
 
 use crate::samples::{
-    Sharing, Store, close_both, make_key, merge_nothing, new_store, share, statement, take_item,
+    Sharing, Store, close_both, merge_nothing, new_store, share, statement, take_item,
 };
 use authenticators::NodeId;
 use evidence_set::Indication;
@@ -129,8 +129,8 @@ fn two_callers_one_after_the_other(rt: HostRuntime) -> Result<(), Fail> {
 }
 
 /// Why the store is not closed with these passes, as its number; 0 where it is.
-fn refusal_of(shared: SharedStore<Tally, Store>, passes: Vec<Pass>) -> u8 {
-    match shared.close(passes) {
+fn refusal_of(shared: Box<SharedStore<Tally, Store>>, passes: Vec<Pass>) -> u8 {
+    match Box::into_inner(shared).close(passes) {
         Ok(_) => 0,
         Err(refused) => refused.fault.number(),
     }
@@ -170,7 +170,8 @@ fn an_unused_pass<R: Wait>(rt: &R, alloc: Global) -> Result<u8, Fail> {
 fn a_foreign_call<R: Wait>(rt: &R, alloc: Global) -> Result<u8, Fail> {
     let mut other = share(alloc)?;
     let store = new_store(alloc, &other.key)?;
-    let (shared, passes) = SharedStore::open(alloc, store, 1)?;
+    let (shared, passes) = SharedStore::open(alloc, Box::into_inner(store), 1)?;
+    let shared = Box::new(alloc, shared)?;
     shared.ask(rt, &mut other.second, NodeId(1))?;
     Ok(refusal_of(shared, passes))
 }

@@ -11,13 +11,13 @@ use std::thread::Threads;
 use witness_workers::{CheckAllFault, Gate, MOST_WORKERS, OpenGate, check_all};
 
 /// Two valid statements of one hash, one of another hash, and one without a signature; and their directory.
-fn items_and_directory(alloc: Global) -> Result<(Vec<Item>, Directory), Fail> {
+fn items_and_directory(alloc: Global) -> Result<(Vec<Item>, Box<Directory>), Fail> {
     let mut key = make_key(alloc)?;
     let mut items = Vec::new(alloc);
-    items.push(statement(alloc, &mut key, 5, 1, 0)?)?;
-    items.push(statement(alloc, &mut key, 5, 1, 1)?)?;
-    items.push(statement(alloc, &mut key, 5, 2, 0)?)?;
-    items.push(unsigned(alloc)?)?;
+    for (hash, c) in [(1, 0), (1, 1), (2, 0)] {
+        items.push(Box::into_inner(statement(alloc, &mut key, 5, hash, c)?))?;
+    }
+    items.push(Box::into_inner(unsigned(alloc)?))?;
     let directory = make_directory(alloc, &key)?;
     Ok((items, directory))
 }
@@ -57,7 +57,7 @@ fn the_same_answers_with_any_number_of_workers(rt: HostRuntime) -> Result<(), Fa
 
 #[test]
 fn no_worker_and_too_many_are_refused(rt: HostRuntime) -> Result<(), Fail> {
-    let directory = Directory::new(rt.alloc());
+    let directory = Box::new(rt.alloc(), Directory::new(rt.alloc()))?;
     for workers in [0, MOST_WORKERS + 1] {
         let told = numbers(&rt, rt.alloc(), &[], &directory, workers);
         assert!(rt; matches!(told, Err(CheckAllFault::BadWorkers)));

@@ -15,34 +15,37 @@ use witness_workers::{Closed, Pass, SharedStore};
 pub(crate) type Store = PlainStore<Tally>;
 
 /// The key (H5, W4) of node 1, whose identifier and seed end in the number.
-pub(crate) fn make_key(alloc: Global) -> Result<SecretKey, Fail> {
+pub(crate) fn make_key(alloc: Global) -> Result<Box<SecretKey>, Fail> {
     let mut id = [0; 16];
     let mut seed = [0; 32];
     id[15] = 1;
     seed[31] = 1;
-    Ok(SecretKey::make(alloc, LmsType::H5, OtsType::W4, id, seed)?)
+    let key = SecretKey::make(alloc, LmsType::H5, OtsType::W4, id, seed)?;
+    Ok(Box::new(alloc, key)?)
 }
 
 /// A directory of node 1 alone.
-pub(crate) fn make_directory(alloc: Global, key: &SecretKey) -> Result<Directory, Fail> {
-    let mut directory = Directory::new(alloc);
+pub(crate) fn make_directory(alloc: Global, key: &SecretKey) -> Result<Box<Directory>, Fail> {
+    let mut directory = Box::new(alloc, Directory::new(alloc))?;
     directory.add(NodeId(1), key.public_key())?;
     Ok(directory)
 }
 
 /// A store under that directory, without items.
-pub(crate) fn new_store(alloc: Global, key: &SecretKey) -> Result<Store, Fail> {
+pub(crate) fn new_store(alloc: Global, key: &SecretKey) -> Result<Box<Store>, Fail> {
     let directory = make_directory(alloc, key)?;
-    Ok(PlainStore::new(alloc, directory)?)
+    let store = PlainStore::new(alloc, Box::into_inner(directory))?;
+    Ok(Box::new(alloc, store)?)
 }
 
-fn auth_of(seq: u64, hash: Hash, sig: Vec<u8>) -> Result<Item, Fail> {
-    Ok(Item::auth(Authenticator {
+fn auth_of(alloc: Global, seq: u64, hash: Hash, sig: Vec<u8>) -> Result<Box<Item>, Fail> {
+    let item = Item::auth(Authenticator {
         node: NodeId(1),
         seq,
         hash,
         sig: ByteString::from_vec(sig),
-    })?)
+    })?;
+    Ok(Box::new(alloc, item)?)
 }
 
 /// A statement of node 1 on the entry with this number and a hash of one byte 32 times over. The key signs it with a C of one byte
@@ -53,22 +56,22 @@ pub(crate) fn statement(
     seq: u64,
     hash: u8,
     c: u8,
-) -> Result<Item, Fail> {
+) -> Result<Box<Item>, Fail> {
     let hash = Hash([hash; 32]);
     let sig = key.sign(alloc, &statement_text(seq, hash), [c; 32])?;
-    auth_of(seq, hash, sig)
+    auth_of(alloc, seq, hash, sig)
 }
 
 /// A statement of node 1 with an empty signature.
-pub(crate) fn unsigned(alloc: Global) -> Result<Item, Fail> {
-    auth_of(5, Hash([0; 32]), Vec::new(alloc))
+pub(crate) fn unsigned(alloc: Global) -> Result<Box<Item>, Fail> {
+    auth_of(alloc, 5, Hash([0; 32]), Vec::new(alloc))
 }
 
 /// A store that is shared by two callers, with their passes, and the key of node 1.
 #[derive(Drop)]
 pub(crate) struct Sharing {
-    pub(crate) key: SecretKey,
-    pub(crate) shared: SharedStore<Tally, Store>,
+    pub(crate) key: Box<SecretKey>,
+    pub(crate) shared: Box<SharedStore<Tally, Store>>,
     pub(crate) first: Pass,
     pub(crate) second: Pass,
 }
@@ -76,10 +79,11 @@ pub(crate) struct Sharing {
 pub(crate) fn share(alloc: Global) -> Result<Sharing, Fail> {
     let key = make_key(alloc)?;
     let store = new_store(alloc, &key)?;
-    let (shared, mut passes) = SharedStore::open(alloc, store, 2)?;
+    let (shared, mut passes) = SharedStore::open(alloc, Box::into_inner(store), 2)?;
     let (Some(second), Some(first)) = (passes.pop(), passes.pop()) else {
         unreachable!();
     };
+    let shared = Box::new(alloc, shared)?;
     Ok(Sharing {
         key,
         shared,
@@ -94,8 +98,9 @@ pub(crate) fn take_item<R: Wait>(
     alloc: Global,
     shared: &SharedStore<Tally, Store>,
     pass: &mut Pass,
-    item: Item,
+    item: Box<Item>,
 ) -> Option<bool> {
+    let item = Box::into_inner(item);
     let checked = check_item(alloc, &Tally, shared.directory(), item).ok()?;
     shared.take(rt, pass, checked).ok()
 }
@@ -115,11 +120,12 @@ pub(crate) fn merge_nothing<R: Wait>(
 /// Closes the store with these passes.
 pub(crate) fn close_both(
     alloc: Global,
-    shared: SharedStore<Tally, Store>,
+    shared: Box<SharedStore<Tally, Store>>,
     passes: (Pass, Pass),
-) -> Result<Closed<Store>, Fail> {
+) -> Result<Box<Closed<Store>>, Fail> {
     let mut all = Vec::new(alloc);
     all.push(passes.0)?;
     all.push(passes.1)?;
-    Ok(shared.close(all)?)
+    let closed = Box::into_inner(shared).close(all)?;
+    Ok(Box::new(alloc, closed)?)
 }
