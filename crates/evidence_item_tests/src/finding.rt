@@ -67,8 +67,8 @@ fn checked(
     Ok(Box::new(alloc, checked)?)
 }
 
-/// The same, of which only item and verdict are left, after what is missing was found again.
-fn bared(
+/// Leaves item and verdict alone, and finds again what is then missing.
+fn completed(
     alloc: Global,
     directory: &Directory,
     checked: Box<Checked<Idle>>,
@@ -106,7 +106,7 @@ fn a_segment_that_deviates_is_valid(rt: HostRuntime) -> Result<(), Fail> {
 fn found_again(alloc: Global, nodes: &mut Nodes) -> Result<Option<Told>, Fail> {
     let item = segment_of(alloc, nodes)?;
     let checked = checked(alloc, &nodes.directory, item)?;
-    let found = bared(alloc, &nodes.directory, checked)?;
+    let found = completed(alloc, &nodes.directory, checked)?;
     Ok(told_of(&found))
 }
 
@@ -147,7 +147,7 @@ fn found_twice(
 ) -> Result<[Option<Hashes>; 2], Fail> {
     let checked = checked(alloc, directory, item)?;
     let first = hashes_of(&checked);
-    let found = bared(alloc, directory, checked)?;
+    let found = completed(alloc, directory, checked)?;
     Ok([first, hashes_of(&found)])
 }
 
