@@ -23,6 +23,7 @@ python3 lines.py < status_512.txt > "$work/lms_512.txt"
 for cpu in $cpus; do
   clang -O2 -march="$cpu" -DN=4 -o "$work/lanes_4-$cpu" lanes.c
   clang -O2 -march="$cpu" -DN=8 -o "$work/lanes_8-$cpu" lanes.c
+  clang -O2 -march="$cpu" -DN=8 -DTURNS -o "$work/turns_8-$cpu" lanes.c
   (cd ../crates/node_sim && rt run --cpu="$cpu" -- status < ../../examples/status_equivocation.txt > /dev/null)
   cp ../crates/node_sim/out/node_sim "$work/node_sim-$cpu"
 done
@@ -45,6 +46,7 @@ ours() {
   cpu=$1
   "$work/lanes_4-$cpu"
   "$work/lanes_8-$cpu"
+  echo "the same, four rounds a turn: $("$work/turns_8-$cpu")"
   echo "eight_chains, a lane-step: $("$work/lane_steps-$cpu" | least_and_middle 2040 ns)"
   python3 time_status.py "$work/node_sim-$cpu" status_512.txt
   echo "make H5 W8: $("$work/make_keys-$cpu" | least_and_middle 1000 us)"
