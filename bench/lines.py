@@ -1,9 +1,18 @@
 #!/usr/bin/env python3
-"""Turns an input of `node_sim status` into lines 'key message signature' in hexadecimal, for lms_verify.
+"""Turns an input of `node_sim status` into lines 'key message signature' in hexadecimal, for lms_verify, or with a word into the
+same as bytes, one after the other, for verifications.
 
     lines.py < status_512.txt > lms_512.txt
+    lines.py bytes < status_512.txt > lms_512.bin
 """
 import sys
+
+
+def write(parts):
+    if sys.argv[1:] == ["bytes"]:
+        sys.stdout.buffer.write(b"".join(parts))
+    else:
+        print(*(part.hex() for part in parts))
 
 
 def number(text):
@@ -19,7 +28,7 @@ def main():
         end = place + 4 + number(store[place : place + 4])
         item = store[place + 4 : end]
         # An item is a tag, the node's number, 40 bytes that are signed, and the signature behind its length.
-        print(keys[item[1:5]].hex(), item[5:45].hex(), item[49:].hex())
+        write((keys[item[1:5]], item[5:45], item[49:]))
         place = end
 
 

@@ -20,6 +20,7 @@ if grep -qw sha_ni /proc/cpuinfo; then with=(env -u OPENSSL_ia32cap); fi
 gcc -O3 -march=native -o "$work/lms_verify" lms_verify.c -lcrypto
 gcc -O3 -march=native -o "$work/lms_make" lms_make.c -lcrypto
 python3 lines.py < status_512.txt > "$work/lms_512.txt"
+python3 lines.py bytes < status_512.txt > "$work/lms_512.bin"
 for cpu in $cpus; do
   clang -O2 -march="$cpu" -DN=4 -o "$work/lanes_4-$cpu" lanes.c
   clang -O2 -march="$cpu" -DN=8 -o "$work/lanes_8-$cpu" lanes.c
@@ -30,6 +31,7 @@ done
 CPUS=$cpus ./build.sh "$work" lane_steps outcome sha256_lanes lms_sign
 CPUS=$cpus ./build.sh "$work" make_keys outcome sha256_lanes lms_sign
 CPUS=$cpus ./build.sh "$work" signatures outcome sha256_lanes lms_sign
+CPUS=$cpus ./build.sh "$work" verifications outcome sha256_lanes lms_sign
 "$work/lms_make" 1 "$work/signed.txt" > /dev/null
 
 # Lines of nanoseconds: the least and the middle, divided by a number, in the unit that it gives.
@@ -49,6 +51,7 @@ ours() {
   echo "the same, four rounds a turn: $("$work/turns_8-$cpu")"
   echo "eight_chains, a lane-step: $("$work/lane_steps-$cpu" | least_and_middle 2040 ns)"
   python3 time_status.py "$work/node_sim-$cpu" status_512.txt
+  echo "the 512 verifications alone: $("$work/verifications-$cpu" < "$work/lms_512.bin" | least_and_middle 1000000 ms)"
   echo "make H5 W8: $("$work/make_keys-$cpu" | least_and_middle 1000 us)"
   echo "make H10 W4: $("$work/make_keys-$cpu" high | least_and_middle 1000 us)"
   "$work/signatures-$cpu" > "$work/times"

@@ -8,7 +8,7 @@ use crate::open_chain::{NO_CHAIN, OpenChain};
 use sha256_lanes::eight_chains;
 
 /// The number of lanes.
-const LANES: usize = 8;
+pub(crate) const LANES: usize = 8;
 
 /// The chains in the lanes.
 fn in_lanes(chains: &[OpenChain], lanes: &[u16; LANES]) -> [OpenChain; LANES]
@@ -78,7 +78,7 @@ fn moved(runs: &[OpenChain; LANES], count: u8) -> [OpenChain; LANES]
 }
 
 /// Runs the chains in the lanes `count` steps on. A chain may stand in more than one lane.
-fn run_lanes(chains: &mut [OpenChain], lanes: &[u16; LANES], count: u8)
+pub(crate) fn run_lanes(chains: &mut [OpenChain], lanes: &[u16; LANES], count: u8)
     requires some { 0 < count }
     requires lanes { (l : ℕ) → l < 8 → slice_index lanes.now l < length chains.old }
     requires room { All HasRoom chains.old }

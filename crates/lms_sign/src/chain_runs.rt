@@ -1,12 +1,13 @@
 //! Chains, run to their ends.
 
-ghost use Rattle.std.specs.Prelude.{◌≡◌, ℕ, [], ◌-◌, ◌<◌, ◌≤◌, length, slice_index, slice_index_or, All, Contains};
+ghost use Rattle.std.specs.Prelude.{◌≡◌, ℕ, [], ◌-◌, ◌<◌, ◌≤◌, ◌↔◌, length, slice_index, slice_index_or, true, All, Contains};
 ghost use Rattle.lms_sign.specs.declared.open_chain.OpenChain.{OpenChain};
 ghost use Rattle.lms_sign.specs.within.OpenChains.{HasRoom, IsAhead, leads_to};
 
 use crate::chain_lanes::run_to_first_end;
 use crate::chain_order::{MOST_CHAINS, sort_chains};
 use crate::open_chain::OpenChain;
+use crate::stretches::run_long_chains;
 
 /// The numbers of the chains that run next: the last eight of the first `alive` of `order`. Where these are fewer, the
 /// first of them stands in for those that are missing.
@@ -39,10 +40,31 @@ fn run_in_order(chains: &mut [OpenChain], order: &mut [(u8, u16)])
     }
 }
 
+/// Whether each chain is at its end.
+fn all_ended(chains: &[OpenChain]) -> bool
+    ensures { result ≡ true ↔ All (λ chain. chain.left ≡ 0) chains.now }
+{
+    chains.iter().all(|chain| chain.left == 0)
+}
+
 /// Runs each chain to its end, eight at a time: those with the most steps left first, and where one ends, the next takes
 /// its lane.
 // The array takes a frame of its own, and none of a caller's (docs/DECISIONS.md, "Large frames").
 #[inline(never)]
+fn run_longest_first(chains: &mut [OpenChain])
+    requires count { length chains.old ≤ MOST_CHAINS }
+    requires room { All HasRoom chains.old }
+    ensures len { length chains.new ≡ length chains.old }
+    ensures ahead { (i : ℕ) (d : OpenChain) → i < length chains.old → IsAhead (slice_index_or chains.old i d) (slice_index_or chains.new i d) }
+    ensures ended { (i : ℕ) (d : OpenChain) → i < length chains.old → (slice_index_or chains.new i d).left ≡ 0 }
+{
+    let mut numbers = [(0u8, 0u16); MOST_CHAINS];
+    let order = &mut numbers[..chains.len()];
+    sort_chains(chains, order);
+    run_in_order(chains, order);
+}
+
+/// Runs each chain to its end, eight at a time.
 pub(crate) fn run_all(chains: &mut [OpenChain])
     requires count { length chains.old ≤ MOST_CHAINS }
     requires room { All HasRoom chains.old }
@@ -50,8 +72,8 @@ pub(crate) fn run_all(chains: &mut [OpenChain])
     ensures places { (i : ℕ) (d : OpenChain) → i < length chains.old → (slice_index_or chains.new i d).place ≡ (slice_index_or chains.old i d).place }
     ensures values { (i : ℕ) (d : OpenChain) → i < length chains.old → (slice_index_or chains.new i d).value ≡ leads_to (slice_index_or chains.old i d) }
 {
-    let mut numbers = [(0u8, 0u16); MOST_CHAINS];
-    let order = &mut numbers[..chains.len()];
-    sort_chains(chains, order);
-    run_in_order(chains, order);
+    run_long_chains(chains);
+    if !all_ended(chains) {
+        run_longest_first(chains);
+    }
 }

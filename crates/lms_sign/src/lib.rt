@@ -24,6 +24,7 @@ mod open_chain;
 mod secret_key;
 mod seed_chains;
 mod signature_text;
+mod stretches;
 mod text;
 mod tree;
 mod types;
