@@ -2,6 +2,7 @@ use authenticators::{Authenticator, Directory, DirectoryFault, NodeId, statement
 use lms_sign::PublicKey;
 use log_chain::{ByteString, Hash};
 use std::alloc::Global;
+use std::fmt::Display;
 use std::test::Fail;
 
 /// A public key of BouncyCastle 1.72 (H5, W8), an implementation of RFC 8554 that is not ours.
@@ -40,9 +41,14 @@ fn two_nodes() -> [[u8; 60]; 2] {
 }
 
 /// The directory of these two.
-fn read_two(alloc: Global) -> Result<Directory, Fail> {
+fn read_two(alloc: Global) -> Result<Box<Directory>, Fail> {
     let text = directory_text(alloc, [0, 0, 0, 2], &two_nodes())?;
-    Ok(Directory::from_bytes(alloc, &text)?)
+    Ok(Box::new(alloc, Directory::from_bytes(alloc, &text)?)?)
+}
+
+/// Why the text is no directory.
+fn fault_of(alloc: Global, text: &[u8]) -> Option<DirectoryFault> {
+    Directory::from_bytes(alloc, text).err()
 }
 
 /// The root of a node's key.
@@ -56,9 +62,9 @@ fn root_of(directory: &Directory, node: u32) -> Option<[u8; 32]> {
 #[test]
 fn a_directory_is_read(rt: HostRuntime) -> Result<(), Fail> {
     let directory = read_two(rt.alloc())?;
-    assert_eq!(rt; directory.nodes(), [NodeId(1), NodeId(2)].as_slice());
-    assert_eq!(rt; root_of(&directory, 2), Some([0x22; 32]));
-    assert_eq!(rt; root_of(&directory, 3), None);
+    assert!(rt; directory.nodes() == [NodeId(1), NodeId(2)].as_slice());
+    let roots = [root_of(&directory, 2), root_of(&directory, 3)];
+    assert!(rt; roots == [Some([0x22; 32]), None]);
     Ok(())
 }
 
@@ -72,95 +78,71 @@ fn a_directory_contains_its_nodes(rt: HostRuntime) -> Result<(), Fail> {
 #[test]
 fn a_directory_equals_its_copy_alone(rt: HostRuntime) -> Result<(), Fail> {
     let directory = read_two(rt.alloc())?;
-    let copy = directory.try_clone()?;
-    assert!(rt; copy == directory && copy != Directory::new(rt.alloc()));
+    let copy = Box::new(rt.alloc(), directory.try_clone()?)?;
+    let empty = Box::new(rt.alloc(), Directory::new(rt.alloc()))?;
+    assert!(rt; *copy == *directory && *copy != *empty);
     Ok(())
 }
 
 #[test]
 fn a_directory_that_is_cut_off_is_truncated(rt: HostRuntime) -> Result<(), Fail> {
     let mut text = directory_text(rt.alloc(), [0, 0, 0, 2], &two_nodes())?;
-    assert_eq!(rt; text.len(), 132);
+    assert!(rt; text.len() == 132);
     for _ in 0..132 {
         let _ = text.pop();
-        let fault = Directory::from_bytes(rt.alloc(), &text).err();
-        assert_eq!(rt;
-            fault,
-            Some(DirectoryFault::Truncated),
-            "{} bytes",
-            text.len()
-        );
+        assert!(rt; fault_of(rt.alloc(), &text) == Some(DirectoryFault::Truncated));
     }
     Ok(())
 }
 
+#[test]
+fn a_count_that_does_not_fit_is_told(rt: HostRuntime) -> Result<(), Fail> {
+    for (count, fault) in [
+        ([0, 0, 4, 1], DirectoryFault::TooManyNodes),
+        ([0, 0, 0, 3], DirectoryFault::Truncated),
+        ([0, 0, 0, 1], DirectoryFault::Trailing),
+    ] {
+        let text = directory_text(rt.alloc(), count, &two_nodes())?;
+        assert!(rt; fault_of(rt.alloc(), &text) == Some(fault));
+    }
+    assert!(rt; fault_of(rt.alloc(), b"PRDIRECS") == Some(DirectoryFault::BadMagic));
+    Ok(())
+}
+
+/// The node's text with the number of node 2.
+fn renumbered(mut node: [u8; 60]) -> [u8; 60] {
+    node[3] = 2;
+    node
+}
+
 /// Each fault alone, and of two faults the one that is met first.
 #[test]
-fn the_first_fault_of_a_directory_is_told(rt: HostRuntime) -> Result<(), Fail> {
-    let [one, two] = two_nodes();
-    let twice_two = [one, two, node_text(2, 5, 4, 0x33)];
-    let same_key = [
-        one,
-        {
-            let mut other = one;
-            other[3] = 2;
-            other
-        },
-    ];
-    let bad_types = [one, node_text(2, 4, 5, 0x22)];
-    for (count, nodes, fault) in [
-        (
-            [0, 0, 4, 1],
-            [one, two].as_slice(),
-            DirectoryFault::TooManyNodes,
-        ),
-        (
-            [0, 0, 0, 3],
-            [one, two].as_slice(),
-            DirectoryFault::Truncated,
-        ),
-        (
-            [0, 0, 0, 1],
-            [one, two].as_slice(),
-            DirectoryFault::Trailing,
-        ),
-        (
-            [0, 0, 0, 2],
-            [one, node_text(2, 10, 4, 0x22)].as_slice(),
-            DirectoryFault::UnknownLmsType,
-        ),
-        (
-            [0, 0, 0, 2],
-            [one, node_text(2, 5, 5, 0x22)].as_slice(),
-            DirectoryFault::UnknownOtsType,
-        ),
-        (
-            [0, 0, 0, 2],
-            bad_types.as_slice(),
-            DirectoryFault::UnknownLmsType,
-        ),
-        (
-            [0, 0, 0, 2],
-            [one, one].as_slice(),
-            DirectoryFault::DuplicateNode,
-        ),
-        (
-            [0, 0, 0, 2],
-            same_key.as_slice(),
-            DirectoryFault::DuplicateKey,
-        ),
-        ([0, 0, 0, 2], twice_two.as_slice(), DirectoryFault::Trailing),
-        (
-            [0, 0, 0, 4],
-            twice_two.as_slice(),
-            DirectoryFault::DuplicateNode,
-        ),
+fn the_first_fault_of_a_second_node_is_told(rt: HostRuntime) -> Result<(), Fail> {
+    let one = node_text(1, 5, 4, 0x11);
+    for (other, fault) in [
+        (node_text(2, 10, 4, 0x22), DirectoryFault::UnknownLmsType),
+        (node_text(2, 5, 5, 0x22), DirectoryFault::UnknownOtsType),
+        (node_text(2, 4, 5, 0x22), DirectoryFault::UnknownLmsType),
+        (one, DirectoryFault::DuplicateNode),
+        (renumbered(one), DirectoryFault::DuplicateKey),
     ] {
-        let text = directory_text(rt.alloc(), count, nodes)?;
-        assert_eq!(rt; Directory::from_bytes(rt.alloc(), &text).err(), Some(fault));
+        let text = directory_text(rt.alloc(), [0, 0, 0, 2], &[one, other])?;
+        assert!(rt; fault_of(rt.alloc(), &text) == Some(fault));
     }
-    let fault = Directory::from_bytes(rt.alloc(), b"PRDIRECS").err();
-    assert_eq!(rt; fault, Some(DirectoryFault::BadMagic));
+    Ok(())
+}
+
+#[test]
+fn the_first_fault_of_a_third_node_is_told(rt: HostRuntime) -> Result<(), Fail> {
+    let [one, two] = two_nodes();
+    for (count, fault) in [
+        (2, DirectoryFault::Trailing),
+        (4, DirectoryFault::DuplicateNode),
+    ] {
+        let nodes = [one, two, node_text(2, 5, 4, 0x33)];
+        let text = directory_text(rt.alloc(), [0, 0, 0, count], &nodes)?;
+        assert!(rt; fault_of(rt.alloc(), &text) == Some(fault));
+    }
     Ok(())
 }
 
@@ -173,7 +155,7 @@ fn a_directory_has_a_length(rt: HostRuntime) -> Result<(), Fail> {
 
 /// The text of the directory that is read of a text.
 fn written_again(alloc: Global, text: &[u8]) -> Result<Vec<u8>, Fail> {
-    let directory = Directory::from_bytes(alloc, text)?;
+    let directory = Box::new(alloc, Directory::from_bytes(alloc, text)?)?;
     Ok(directory.to_bytes()?)
 }
 
@@ -185,21 +167,23 @@ fn a_directory_is_written_as_it_was_read(rt: HostRuntime) -> Result<(), Fail> {
     Ok(())
 }
 
+/// Whether the value is shown as this text.
+fn is_shown_as<T: Display + Drop>(alloc: Global, value: T, want: &str) -> Result<bool, Fail> {
+    let shown = format!(in alloc; "{value}")?;
+    Ok(shown.as_str() == want)
+}
+
 #[test]
 fn a_refusal_has_number_name_and_line(rt: HostRuntime) -> Result<(), Fail> {
     let fault = DirectoryFault::DuplicateKey;
-    assert_eq!(rt; fault.number(), 21);
-    assert_eq!(rt; fault.name(), "DuplicateKey");
-    let told = format!(in rt.alloc(); "{fault}")?;
-    assert_eq!(rt; told.as_str(), "the directory lists the key already");
+    assert!(rt; fault.number() == 21 && fault.name() == "DuplicateKey");
+    assert!(rt; is_shown_as(rt.alloc(), fault, "the directory lists the key already")?);
     Ok(())
 }
 
 #[test]
 fn a_node_is_told_as_its_number(rt: HostRuntime) -> Result<(), Fail> {
-    let node = NodeId(4_000_000_000);
-    let told = format!(in rt.alloc(); "{node}")?;
-    assert_eq!(rt; told.as_str(), "4000000000");
+    assert!(rt; is_shown_as(rt.alloc(), NodeId(4_000_000_000), "4000000000")?);
     Ok(())
 }
 
@@ -213,8 +197,8 @@ fn numbered_key(node: u32) -> Result<PublicKey, Fail> {
 }
 
 /// A directory of 1024 nodes, which are numbered from 0 on.
-fn full_directory(alloc: Global) -> Result<Directory, Fail> {
-    let mut directory = Directory::new(alloc);
+fn full_directory(alloc: Global) -> Result<Box<Directory>, Fail> {
+    let mut directory = Box::new(alloc, Directory::new(alloc))?;
     for node in 0..1024 {
         directory.add(NodeId(node), numbered_key(node)?)?;
     }
@@ -224,14 +208,14 @@ fn full_directory(alloc: Global) -> Result<Directory, Fail> {
 #[test]
 fn a_thousand_and_twenty_four_nodes_fit(rt: HostRuntime) -> Result<(), Fail> {
     let full = full_directory(rt.alloc())?;
-    let mut directory = full.try_clone()?;
+    let mut directory = Box::new(rt.alloc(), full.try_clone()?)?;
     for (node, key, fault) in [
         (1023, 2000, DirectoryFault::DuplicateNode),
         (1024, 1023, DirectoryFault::DuplicateKey),
         (1024, 1024, DirectoryFault::TooManyNodes),
     ] {
         let added = directory.add(NodeId(node), numbered_key(key)?);
-        assert!(rt; added == Err(fault) && directory == full);
+        assert!(rt; added == Err(fault) && *directory == *full);
     }
     Ok(())
 }
@@ -240,16 +224,16 @@ fn a_thousand_and_twenty_four_nodes_fit(rt: HostRuntime) -> Result<(), Fail> {
 fn a_statement_is_number_and_hash(rt: HostRuntime) -> Result<(), Fail> {
     let text = statement_text(1000, Hash([1; 32]));
     let (number, hash) = text.split_at(8);
-    assert_eq!(rt; number, [0, 0, 0, 0, 0, 0, 0x03, 0xe8].as_slice());
-    assert_eq!(rt; hash, [1; 32].as_slice());
+    assert!(rt; number == [0, 0, 0, 0, 0, 0, 0x03, 0xe8].as_slice());
+    assert!(rt; hash == [1; 32].as_slice());
     Ok(())
 }
 
 /// The directory of that key as node 7's, and of another as node 8's.
-fn signer_and_another(alloc: Global) -> Result<Directory, Fail> {
+fn signer_and_another(alloc: Global) -> Result<Box<Directory>, Fail> {
     let mut key = [0; 56];
     hex::decode_to_slice(key_text(), &mut key)?;
-    let mut directory = Directory::new(alloc);
+    let mut directory = Box::new(alloc, Directory::new(alloc))?;
     directory.add(NodeId(7), PublicKey::from_bytes(&key)?)?;
     directory.add(NodeId(8), numbered_key(8)?)?;
     Ok(directory)

@@ -24,8 +24,11 @@ fn insert(
 }
 
 /// A store of these statements, of which each was new.
-fn store_of(alloc: Global, statements: &[(u32, u64, u8, u8)]) -> Result<AuthenticatorStore, Fail> {
-    let mut store = AuthenticatorStore::new(alloc);
+fn store_of(
+    alloc: Global,
+    statements: &[(u32, u64, u8, u8)],
+) -> Result<Box<AuthenticatorStore>, Fail> {
+    let mut store = Box::new(alloc, AuthenticatorStore::new(alloc))?;
     for one in statements {
         if !insert(alloc, &mut store, *one)? {
             return Err("each is new")?;
@@ -55,17 +58,21 @@ fn are(found: &[Authenticator], expected: &[(u32, u64, u8, u8)]) -> bool {
     true
 }
 
+/// Whether the statement equals one of node 1, its number 5 and this hash.
+fn equals(alloc: Global, one: &Authenticator, hash: u8) -> Result<bool, Fail> {
+    let other = Box::new(alloc, statement(alloc, 1, 5, hash, 0)?)?;
+    Ok(*one == *other)
+}
+
 #[test]
 fn a_statement_equals_its_like_alone(rt: HostRuntime) -> Result<(), Fail> {
-    let one = statement(rt.alloc(), 1, 5, 7, 0)?;
-    let like = statement(rt.alloc(), 1, 5, 7, 0)?;
-    let other = statement(rt.alloc(), 1, 5, 8, 0)?;
-    assert!(rt; one == like && one != other);
+    let one = Box::new(rt.alloc(), statement(rt.alloc(), 1, 5, 7, 0)?)?;
+    assert!(rt; equals(rt.alloc(), &one, 7)? && !equals(rt.alloc(), &one, 8)?);
     Ok(())
 }
 
 /// The key of a node: H5 and W8, with the node's number at the end of identifier and seed, which are zero before it.
-fn node_key(alloc: Global, node: u32) -> Result<SecretKey, Fail> {
+fn node_key(alloc: Global, node: u32) -> Result<Box<SecretKey>, Fail> {
     let mut id = [0; 16];
     id[12..].copy_from_slice(&node.to_be_bytes());
     let mut seed = [0; 32];
@@ -73,7 +80,7 @@ fn node_key(alloc: Global, node: u32) -> Result<SecretKey, Fail> {
     let Ok(key) = SecretKey::make(alloc, LmsType::H5, OtsType::W8, id, seed) else {
         return Err("a key")?;
     };
-    Ok(key)
+    Ok(Box::new(alloc, key)?)
 }
 
 /// The node's statement of the number 5 and a hash of 32 equal bytes, signed with C of 32 zero bytes.
@@ -91,15 +98,24 @@ fn signed(alloc: Global, node: u32, key: &mut SecretKey, hash: u8) -> Result<Aut
 }
 
 /// A store of two statements that node 1 signed: its number 5 with a hash of bytes 8, and with one of bytes 7.
-fn store_of_two(alloc: Global) -> Result<AuthenticatorStore, Fail> {
+fn store_of_two(alloc: Global) -> Result<Box<AuthenticatorStore>, Fail> {
     let mut key = node_key(alloc, 1)?;
-    let first = signed(alloc, 1, &mut key, 8)?;
-    let second = signed(alloc, 1, &mut key, 7)?;
-    let mut store = AuthenticatorStore::new(alloc);
-    if store.is_empty() && store.insert(first)? && store.insert(second)? && store.len() == 2 {
+    let mut store = Box::new(alloc, AuthenticatorStore::new(alloc))?;
+    let was_empty = store.is_empty();
+    let first = store.insert(signed(alloc, 1, &mut key, 8)?)?;
+    let second = store.insert(signed(alloc, 1, &mut key, 7)?)?;
+    if was_empty && first && second && store.len() == 2 {
         return Ok(store);
     }
     Err("both are new")?
+}
+
+/// The directory of node 1 alone.
+fn directory_of_one(alloc: Global) -> Result<Box<Directory>, Fail> {
+    let key = node_key(alloc, 1)?;
+    let mut directory = Box::new(alloc, Directory::new(alloc))?;
+    directory.add(NodeId(1), key.public_key())?;
+    Ok(directory)
 }
 
 /// The hashes of two conflicting statements of node 1, where both are valid.
@@ -114,38 +130,48 @@ fn valid_conflict(directory: &Directory, store: &AuthenticatorStore) -> Result<(
 
 #[test]
 fn two_signed_hashes_of_one_number_are_a_conflict(rt: HostRuntime) -> Result<(), Fail> {
-    let mut directory = Directory::new(rt.alloc());
-    directory.add(NodeId(1), node_key(rt.alloc(), 1)?.public_key())?;
+    let directory = directory_of_one(rt.alloc())?;
     let store = store_of_two(rt.alloc())?;
-    let hashes = valid_conflict(&directory, &store)?;
-    assert!(rt; hashes == (Hash([7; 32]), Hash([8; 32])));
+    assert!(rt; valid_conflict(&directory, &store)? == (Hash([7; 32]), Hash([8; 32])));
     Ok(())
+}
+
+fn has_conflict(store: &AuthenticatorStore, node: u32) -> bool {
+    store.conflict(NodeId(node)).is_some()
 }
 
 #[test]
 fn two_signatures_of_one_hash_are_no_conflict(rt: HostRuntime) -> Result<(), Fail> {
     let mut store = store_of(rt.alloc(), &[(1, 5, 7, 1), (1, 5, 7, 0)])?;
     assert!(rt; !insert(rt.alloc(), &mut store, (1, 5, 7, 1))?);
-    assert!(rt; store.conflict(NodeId(1)).is_none());
-    let found = store.at(NodeId(1), 5);
-    assert!(rt; are(found, &[(1, 5, 7, 0), (1, 5, 7, 1)]));
+    assert!(rt; !has_conflict(&store, 1));
+    assert!(rt; are(store.at(NodeId(1), 5), &[(1, 5, 7, 0), (1, 5, 7, 1)]));
     Ok(())
+}
+
+/// Whether these are the conflicting statements of node 1.
+fn is_conflict(
+    store: &AuthenticatorStore,
+    first: (u32, u64, u8, u8),
+    second: (u32, u64, u8, u8),
+) -> bool {
+    match store.conflict(NodeId(1)) {
+        Some((a, b)) => is(a, first) && is(b, second),
+        None => false,
+    }
 }
 
 #[test]
 fn two_hashes_of_one_number_are_a_conflict(rt: HostRuntime) -> Result<(), Fail> {
     let statements = [(1, 5, 8, 0), (1, 5, 7, 0), (2, 5, 9, 0)];
     let store = store_of(rt.alloc(), &statements)?;
-    let Some((a, b)) = store.conflict(NodeId(1)) else {
-        return Err("a conflict")?;
-    };
-    assert!(rt; is(a, (1, 5, 7, 0)) && is(b, (1, 5, 8, 0)));
-    assert!(rt; store.conflict(NodeId(2)).is_none() && store.conflict(NodeId(3)).is_none());
+    assert!(rt; is_conflict(&store, (1, 5, 7, 0), (1, 5, 8, 0)));
+    assert!(rt; !has_conflict(&store, 2) && !has_conflict(&store, 3));
     Ok(())
 }
 
 /// A store of statements of three nodes, put in out of order.
-fn store_of_three_nodes(alloc: Global) -> Result<AuthenticatorStore, Fail> {
+fn store_of_three_nodes(alloc: Global) -> Result<Box<AuthenticatorStore>, Fail> {
     let statements = [
         (2, 7, 1, 3),
         (1, u64::MAX, 2, 0),
@@ -194,7 +220,7 @@ fn a_range_is_as_long_as_it_finds(rt: HostRuntime) -> Result<(), Fail> {
         store.range(NodeId(2), 9, 4).len(),
         store.range(NodeId(4), 0, u64::MAX).len(),
     ];
-    assert_eq!(rt; lengths, [6, 0, 0]);
+    assert!(rt; lengths == [6, 0, 0]);
     Ok(())
 }
 
@@ -212,7 +238,7 @@ fn statements_from_three(alloc: Global, count: u8) -> Result<Vec<Authenticator>,
 /// How many statements are held after these were put in at once, where those of the numbers 0 to 4 were held before; none
 /// where they do not stand one a number, from 0 on.
 fn held_with(alloc: Global, count: u8) -> Result<Option<usize>, Fail> {
-    let mut store = AuthenticatorStore::new(alloc);
+    let mut store = Box::new(alloc, AuthenticatorStore::new(alloc))?;
     for seq in 0..5 {
         insert(alloc, &mut store, (1, seq, 0, 0))?;
     }
@@ -227,8 +253,12 @@ fn held_with(alloc: Global, count: u8) -> Result<Option<usize>, Fail> {
 
 #[test]
 fn statements_are_put_in_at_once(rt: HostRuntime) -> Result<(), Fail> {
-    assert_eq!(rt; held_with(rt.alloc(), 0)?, Some(5));
-    assert_eq!(rt; held_with(rt.alloc(), 3)?, Some(6));
-    assert_eq!(rt; held_with(rt.alloc(), 12)?, Some(15));
+    let alloc = rt.alloc();
+    let held = [
+        held_with(alloc, 0)?,
+        held_with(alloc, 3)?,
+        held_with(alloc, 12)?,
+    ];
+    assert!(rt; held == [Some(5), Some(6), Some(15)]);
     Ok(())
 }
