@@ -5,8 +5,10 @@ use log_chain::{
     Hash, SecureHistory, SegmentFault, base_hash, chain_end, entry_hash, entry_hash_of_digest,
     kind, place_of,
 };
+use outcome::Memory;
 use sha2::{Digest, Sha256};
 use std::alloc::{AllocError, Global};
+use std::fmt::Display;
 use std::hash::{DefaultHasher, Hash as _, Hasher};
 use std::test::*;
 
@@ -21,12 +23,17 @@ fn the_base_hash_is_that_of_the_empty_text(rt: HostRuntime) {
     assert!(rt; base_hash() == Hash(want));
 }
 
+/// Whether the value is shown as this text.
+fn is_shown_as<T: Display + Drop>(alloc: Global, value: T, want: &str) -> Result<bool, Fail> {
+    let shown = format!(in alloc; "{value}")?;
+    Ok(shown.as_str() == want)
+}
+
 #[test]
 fn a_hash_is_shown_in_hexadecimal_digits(rt: HostRuntime) -> Result<(), Fail> {
-    let shown = format!(in rt.alloc(); "{}", base_hash())?;
     // As printed by sha256sum of the empty text.
     let want = "e3b0c44298fc1c149afbf4c8996fb92427ae41e4649b934ca495991b7852b855";
-    assert_eq!(rt; shown.as_str(), want);
+    assert!(rt; is_shown_as(rt.alloc(), base_hash(), want)?);
     Ok(())
 }
 
@@ -37,27 +44,35 @@ fn refusals_have_numbers_and_names(rt: HostRuntime) {
         AppendFault::SeqNotRising.number(),
         SegmentFault::SegmentTooLong.number(),
     ];
-    assert_eq!(rt; numbers, [40, 10, 13]);
-    let names = [
-        FieldFault::TooLong.name(),
-        AppendFault::ContentTooLong.name(),
-        SegmentFault::Memory.name(),
-    ];
-    assert!(rt; names == ["TooLong", "ContentTooLong", "Memory"]);
+    assert!(rt; numbers == [40, 10, 13]);
+    assert!(rt; FieldFault::TooLong.name() == "TooLong");
+    assert!(rt; AppendFault::ContentTooLong.name() == "ContentTooLong");
+    assert!(rt; SegmentFault::Memory.name() == "Memory");
 }
 
 #[test]
 fn a_refused_append_has_a_line(rt: HostRuntime) -> Result<(), Fail> {
     let fault = AppendFault::ContentTooLong;
     let content = ByteString::from_vec(Vec::new(rt.alloc()));
-    let shown = format!(in rt.alloc(); "{}", AppendRefused { fault, content })?;
-    assert_eq!(rt; shown.as_str(), "the entry's content is too long");
+    let refused = AppendRefused { fault, content };
+    assert!(rt; is_shown_as(rt.alloc(), refused, "the entry's content is too long")?);
     Ok(())
 }
 
 /// The byte, and the numbers of four and of eight bytes, that the reader gives next.
 fn read_numbers(reader: &mut FieldReader) -> Result<(u8, u32, u64), FieldFault> {
     Ok((reader.u8()?, reader.u32()?, reader.u64()?))
+}
+
+/// Whether the reader gives the first text behind its length, and then as many bytes as the second one has.
+fn gives_slices(reader: &mut FieldReader, first: &[u8], second: &[u8]) -> bool {
+    reader.bytes(first.len()) == Ok(first) && reader.take(second.len()) == Ok(second)
+}
+
+/// Whether the reader has these bytes left, gives them as the rest, and has none left then.
+fn gives_the_rest(reader: &mut FieldReader, rest: &[u8]) -> bool {
+    let left = reader.left() == rest.len() && reader.as_slice() == rest;
+    left && reader.rest() == rest && reader.left() == 0
 }
 
 #[test]
@@ -68,11 +83,9 @@ fn fields_are_read_in_turn(rt: HostRuntime) {
     let mut reader = FieldReader::new(&text);
     assert_eq!(rt; reader.left(), 21);
     assert!(rt; read_numbers(&mut reader) == Ok((7, 0x0102, 0x0304)));
-    let slices = (reader.bytes(2), reader.take(1));
-    assert!(rt; slices == (Ok(b"hi".as_slice()), Ok(b".".as_slice())));
-    assert!(rt; reader.hash().is_err() && reader.left() == 1);
-    assert!(rt; reader.as_slice() == [9].as_slice());
-    assert!(rt; reader.rest() == [9].as_slice() && reader.left() == 0);
+    assert!(rt; gives_slices(&mut reader, b"hi", b"."));
+    assert!(rt; reader.hash().is_err());
+    assert!(rt; gives_the_rest(&mut reader, &[9]));
 }
 
 #[test]
@@ -85,11 +98,14 @@ fn a_hash_is_read_as_it_stands(rt: HostRuntime) {
 fn a_refused_field_leaves_the_place(rt: HostRuntime) {
     // A length of 3 with two bytes after it: above a limit of 2, cut off below a limit of 3.
     let mut reader = FieldReader::new(&[0, 0, 0, 3, 1, 2]);
-    assert!(rt; reader.bytes(2) == Err(FieldFault::TooLong));
-    assert!(rt; reader.bytes(3) == Err(FieldFault::Truncated));
-    assert!(rt; reader.u64() == Err(FieldFault::Truncated));
-    assert_eq!(rt; reader.left(), 6);
-    assert_eq!(rt; reader.u32(), Ok(3));
+    let faults = [
+        reader.bytes(2).err(),
+        reader.bytes(3).err(),
+        reader.u64().err(),
+    ];
+    let truncated = Some(FieldFault::Truncated);
+    assert!(rt; faults == [Some(FieldFault::TooLong), truncated, truncated]);
+    assert!(rt; (reader.left(), reader.u32()) == (6, Ok(3)));
 }
 
 #[test]
@@ -101,35 +117,43 @@ fn byte_strings_are_compared(rt: HostRuntime) -> Result<(), Fail> {
     Ok(())
 }
 
+/// How many bytes the string has, whether it has none, whether its vector is `bytes`, and whether that vector is again the `text`.
+fn as_vector(string: ByteString, bytes: &[u8], text: &ByteString) -> (usize, bool, bool, bool) {
+    let (len, empty) = (string.len(), string.is_empty());
+    let vector = string.into_vec();
+    let same = vector.as_slice() == bytes;
+    (len, empty, same, ByteString::from_vec(vector) == *text)
+}
+
 #[test]
 fn byte_strings_are_their_bytes(rt: HostRuntime) -> Result<(), Fail> {
     let text = ByteString::from_slice(rt.alloc(), b"abc")?;
-    let copy = text.try_clone(rt.alloc())?;
-    assert!(rt; copy.len() == 3 && !copy.is_empty());
-    let bytes = copy.into_vec();
-    assert!(rt; bytes.as_slice() == b"abc".as_slice());
-    assert!(rt; ByteString::from_vec(bytes) == text);
+    assert!(rt; as_vector(text.try_clone(rt.alloc())?, b"abc", &text) == (3, false, true, true));
     Ok(())
+}
+
+/// The digest of a byte string, and what a hasher makes of it.
+fn digest_and_hash(alloc: Global, text: &[u8]) -> Result<(Hash, u64), AllocError> {
+    let text = ByteString::from_slice(alloc, text)?;
+    let mut hasher = DefaultHasher::new();
+    text.hash(&mut hasher);
+    Ok((Hash(Sha256::digest(&text)), hasher.finish()))
 }
 
 #[test]
 fn a_byte_string_is_digested_as_its_bytes(rt: HostRuntime) -> Result<(), Fail> {
-    let text = ByteString::from_slice(rt.alloc(), b"abc")?;
+    let (digest, _hash) = digest_and_hash(rt.alloc(), b"abc")?;
     // FIPS 180-4, as printed by sha256sum.
-    let digest = Hash(Sha256::digest(&text));
-    let shown = format!(in rt.alloc(); "{digest}")?;
     let want = "ba7816bf8f01cfea414140de5dae2223b00361a396177a9cb410ff61f20015ad";
-    assert_eq!(rt; shown.as_str(), want);
+    assert!(rt; is_shown_as(rt.alloc(), digest, want)?);
     Ok(())
 }
 
 #[test]
 fn a_byte_string_hashes_as_its_slice(rt: HostRuntime) -> Result<(), Fail> {
-    let text = ByteString::from_slice(rt.alloc(), b"abc")?;
-    let mut hasher = DefaultHasher::new();
-    text.hash(&mut hasher);
+    let (_digest, hash) = digest_and_hash(rt.alloc(), b"abc")?;
     // SipHash-1-3 under a key of zeros, of the length in eight bytes and the text: Python's `hash` under PYTHONHASHSEED=0.
-    assert_eq!(rt; hasher.finish(), 0x4aa3_e4b3_4416_e6c9);
+    assert_eq!(rt; hash, 0x4aa3_e4b3_4416_e6c9);
     Ok(())
 }
 
@@ -178,27 +202,45 @@ fn an_entry_is_hashed_behind_the_hash_before_it(rt: HostRuntime) -> Result<(), F
         0xb0, 0x4c, 0xf4, 0x50, 0xa6, 0xe1, 0x57, 0x9b, 0xeb, 0xdf, 0x73, 0x6f, 0xa6, 0x84, 0xd0,
         0x31, 0xe6,
     ]);
-    assert!(rt; Sha256::digest(text) == hash.0);
-    assert!(rt; entry_hash(base_hash(), &abc) == hash);
-    assert!(rt; entry_hash_of_digest(base_hash(), 7, kind::SEND, digest) == hash);
+    let hashes = [
+        Hash(Sha256::digest(text)),
+        entry_hash(base_hash(), &abc),
+        entry_hash_of_digest(base_hash(), 7, kind::SEND, digest),
+    ];
+    assert!(rt; hashes == [hash; 3]);
     Ok(())
 }
 
 #[test]
 fn a_chain_ends_with_its_last_hash(rt: HostRuntime) -> Result<(), Fail> {
     let entries = three_entries(rt.alloc())?;
-    assert!(rt; chain_end(base_hash(), &entries) == THIRD);
-    assert!(rt; chain_end(FIRST, &[]) == FIRST);
-    let list = EntryList::from_vec(entries);
-    let copy = list.try_clone(rt.alloc())?;
-    assert!(rt; list == copy);
-    assert_eq!(rt; copy.len(), 3);
-    assert!(rt; !copy.is_empty());
-    assert!(rt; list.as_slice() == copy.into_vec().as_slice());
+    let ends = (chain_end(base_hash(), &entries), chain_end(FIRST, &[]));
+    assert!(rt; ends == (THIRD, FIRST));
     Ok(())
 }
 
-/// Writes a field of each kind but a hash: 20 bytes.
+/// Whether a copy of the list is equal to it, how many entries the copy has, whether it has none, and whether its vector has the
+/// same entries.
+fn copied(alloc: Global, list: &EntryList) -> Result<(bool, usize, bool, bool), Memory> {
+    let copy = list.try_clone(alloc)?;
+    let (equal, len, empty) = (*list == copy, copy.len(), copy.is_empty());
+    let entries = copy.into_vec();
+    Ok((equal, len, empty, list.as_slice() == entries.as_slice()))
+}
+
+#[test]
+fn a_list_of_entries_is_copied(rt: HostRuntime) -> Result<(), Fail> {
+    let list = EntryList::from_vec(three_entries(rt.alloc())?);
+    assert!(rt; copied(rt.alloc(), &list)? == (true, 3, false, true));
+    Ok(())
+}
+
+/// A field of each kind but a hash.
+const FIELDS: [u8; 20] = [
+    7, 0, 0, 1, 2, 0, 0, 0, 0, 0, 0, 3, 4, 0, 0, 0, 2, b'h', b'i', b'.',
+];
+
+/// Writes these fields.
 fn write_fields(writer: &mut FieldWriter) -> Result<(), AllocError> {
     writer.u8(7)?;
     writer.u32(0x0102)?;
@@ -211,13 +253,10 @@ fn write_fields(writer: &mut FieldWriter) -> Result<(), AllocError> {
 fn fields_are_written_in_turn(rt: HostRuntime) -> Result<(), Fail> {
     let mut writer = FieldWriter::new(rt.alloc());
     write_fields(&mut writer)?;
-    assert_eq!(rt; writer.written(), 20);
+    assert!(rt; writer.written() == 20);
     writer.rest(b"and more")?;
     writer.truncate(20);
-    let text = [
-        7, 0, 0, 1, 2, 0, 0, 0, 0, 0, 0, 3, 4, 0, 0, 0, 2, b'h', b'i', b'.',
-    ];
-    assert!(rt; writer.finish().as_slice() == text.as_slice());
+    assert!(rt; writer.finish().as_slice() == FIELDS.as_slice());
     Ok(())
 }
 
@@ -266,28 +305,37 @@ fn history_of_one(alloc: Global) -> Result<SecureHistory, Fail> {
 #[test]
 fn appending_tells_the_hash(rt: HostRuntime) -> Result<(), Fail> {
     let mut history = SecureHistory::new(rt.alloc());
-    assert!(rt; history.last().is_none() && history.is_empty());
-    let hashes = append_three(rt.alloc(), &mut history)?;
-    assert!(rt; hashes == [FIRST, SECOND, THIRD]);
+    assert!(rt; (history.last(), history.is_empty()) == (None, true));
+    assert!(rt; append_three(rt.alloc(), &mut history)? == [FIRST, SECOND, THIRD]);
     Ok(())
+}
+
+/// The hashes of the entries 1, 7 and 8.
+fn hashes_at(history: &SecureHistory) -> [Option<Hash>; 3] {
+    [history.hash_at(1), history.hash_at(7), history.hash_at(8)]
 }
 
 #[test]
 fn a_history_keeps_the_chain(rt: HostRuntime) -> Result<(), Fail> {
     let history = history_of_three(rt.alloc())?;
-    assert!(rt; history.len() == 3 && history.last() == Some((9, THIRD)));
-    let hashes = [history.hash_at(1), history.hash_at(7), history.hash_at(8)];
-    assert!(rt; hashes == [Some(FIRST), Some(SECOND), None]);
-    assert!(rt; history.entries() == three_entries(rt.alloc())?.as_slice());
+    assert!(rt; (history.len(), history.last()) == (3, Some((9, THIRD))));
+    assert!(rt; hashes_at(&history) == [Some(FIRST), Some(SECOND), None]);
+    let entries = three_entries(rt.alloc())?;
+    assert!(rt; history.entries() == entries.as_slice());
     Ok(())
+}
+
+/// Whether what `Debug` shows of the history starts so.
+fn starts_with(alloc: Global, history: &SecureHistory, start: &str) -> Result<bool, Fail> {
+    let shown = format!(in alloc; "{history:?}")?;
+    Ok(shown.as_str().starts_with(start))
 }
 
 #[test]
 fn a_history_is_shown_by_its_length(rt: HostRuntime) -> Result<(), Fail> {
     let history = history_of_three(rt.alloc())?;
-    let shown = format!(in rt.alloc(); "{history:?}")?;
     let start = "SecureHistory { len: 3, spare: ";
-    assert!(rt; shown.as_str().starts_with(start));
+    assert!(rt; starts_with(rt.alloc(), &history, start)?);
     Ok(())
 }
 
@@ -304,9 +352,13 @@ fn ends_of(
 #[test]
 fn a_segment_is_a_part_of_the_chain(rt: HostRuntime) -> Result<(), Fail> {
     let history = history_of_three(rt.alloc())?;
-    assert!(rt; ends_of(&history, 7, 9) == Ok((FIRST, 2, THIRD)));
-    assert!(rt; ends_of(&history, 1, 1) == Ok((base_hash(), 1, FIRST)));
-    assert!(rt; ends_of(&history, 9, 7) == Err(SegmentFault::NoEntry));
+    let ends = [
+        ends_of(&history, 7, 9),
+        ends_of(&history, 1, 1),
+        ends_of(&history, 9, 7),
+    ];
+    let one = Ok((base_hash(), 1, FIRST));
+    assert!(rt; ends == [Ok((FIRST, 2, THIRD)), one, Err(SegmentFault::NoEntry)]);
     Ok(())
 }
 
@@ -317,17 +369,24 @@ fn a_segment_ends_with_an_entry(rt: HostRuntime) -> Result<(), Fail> {
     Ok(())
 }
 
+/// The places of the entries with the numbers 1, 7, 9, 8 and 10.
+fn places(history: &SecureHistory) -> [Option<usize>; 5] {
+    let entries = history.entries();
+    [
+        place_of(entries, 1),
+        place_of(entries, 7),
+        place_of(entries, 9),
+        place_of(entries, 8),
+        place_of(entries, 10),
+    ]
+}
+
 #[test]
 fn an_entry_is_found_by_its_number(rt: HostRuntime) -> Result<(), Fail> {
     let mut history = SecureHistory::new(rt.alloc());
-    assert!(rt; place_of(history.entries(), 1).is_none());
+    assert!(rt; places(&history) == [None; 5]);
     append_three(rt.alloc(), &mut history)?;
-    let entries = history.entries();
-    assert_eq!(rt; place_of(entries, 1), Some(0));
-    assert_eq!(rt; place_of(entries, 7), Some(1));
-    assert_eq!(rt; place_of(entries, 9), Some(2));
-    assert!(rt; place_of(entries, 8).is_none());
-    assert!(rt; place_of(entries, 10).is_none());
+    assert!(rt; places(&history) == [Some(0), Some(1), Some(2), None, None]);
     Ok(())
 }
 
@@ -350,40 +409,47 @@ fn refusal(
     Ok(history.append(seq, 1, content).err().ok_or("a refusal")?)
 }
 
+/// Why a history of one entry refuses another one with this number and content, whether the content comes back, and how many
+/// entries the history then has.
+fn refused_with(
+    alloc: Global,
+    seq: u64,
+    content: &[u8],
+) -> Result<(AppendFault, bool, usize), Fail> {
+    let mut history = history_of_one(alloc)?;
+    let refused = refusal(&mut history, seq, ByteString::from_slice(alloc, content)?)?;
+    let comes_back = refused.content.as_slice() == content;
+    Ok((refused.fault, comes_back, history.entries().len()))
+}
+
 #[test]
 fn a_history_refuses_a_number_that_does_not_rise(rt: HostRuntime) -> Result<(), Fail> {
-    let mut history = history_of_one(rt.alloc())?;
-    let two = ByteString::from_slice(rt.alloc(), b"two")?;
-    let refused = refusal(&mut history, 1, two)?;
-    assert_eq!(rt; refused.fault, AppendFault::SeqNotRising);
-    assert!(rt; refused.content.as_slice() == b"two".as_slice());
-    assert_eq!(rt; history.entries().len(), 1);
+    let refused = refused_with(rt.alloc(), 1, b"two")?;
+    assert_eq!(rt; refused, (AppendFault::SeqNotRising, true, 1));
     Ok(())
 }
 
 #[test]
 fn a_history_refuses_a_content_that_is_too_long(rt: HostRuntime) -> Result<(), Fail> {
-    let mut history = history_of_one(rt.alloc())?;
-    let long = ByteString::from_vec(vec![in rt.alloc(); 0; 131_073]?);
-    let refused = refusal(&mut history, 2, long)?;
-    assert_eq!(rt; refused.fault, AppendFault::ContentTooLong);
-    assert_eq!(rt; refused.content.len(), 131_073);
-    assert_eq!(rt; history.entries().len(), 1);
+    let long = vec![in rt.alloc(); 0; 131_073]?;
+    let refused = refused_with(rt.alloc(), 2, long.as_slice())?;
+    assert!(rt; refused == (AppendFault::ContentTooLong, true, 1));
     Ok(())
+}
+
+/// How many entries the segment has.
+fn length_of(history: &SecureHistory, from: u64, to: u64) -> Result<usize, SegmentFault> {
+    let (_prev, entries) = history.segment(from, to)?;
+    Ok(entries.len())
 }
 
 #[test]
 fn a_segment_has_4096_entries_at_most(rt: HostRuntime) -> Result<(), Fail> {
     let mut history = SecureHistory::new(rt.alloc());
     for seq in 1..4098 {
-        let appended = history.append(seq, 4, ByteString::from_vec(Vec::new(rt.alloc())));
-        assert!(rt; appended.is_ok());
+        append(rt.alloc(), &mut history, seq, 4, b"")?;
     }
-    assert_eq!(rt;
-        history.segment(1, 4097).err(),
-        Some(SegmentFault::SegmentTooLong)
-    );
-    let (_prev, entries) = history.segment(2, 4097).ok().ok_or("they fit")?;
-    assert_eq!(rt; entries.len(), 4096);
+    assert!(rt; length_of(&history, 1, 4097) == Err(SegmentFault::SegmentTooLong));
+    assert!(rt; length_of(&history, 2, 4097) == Ok(4096));
     Ok(())
 }
