@@ -104,13 +104,10 @@ fn run_nodes(alloc: Global) -> Result<Ended, Fail> {
 #[test]
 fn each_call_of_a_node_succeeds(rt: HostRuntime) -> Result<(), Fail> {
     let ended = run_nodes(rt.alloc())?;
-    assert_eq!(rt; ended.id, NodeId(1));
-    assert!(rt; ended.lists);
+    assert!(rt; ended.id == NodeId(1) && ended.lists);
     let round = ended.round?;
-    assert!(rt; round.again);
-    assert_eq!(rt; round.checkpoint, 4);
-    assert_eq!(rt; round.awaited, (0, 1));
-    assert_eq!(rt; round.digest, hash_of(given_digest())?);
+    assert!(rt; round.again && round.checkpoint == 4 && round.awaited == (0, 1));
+    assert!(rt; round.digest == hash_of(given_digest())?);
     assert!(rt; ended.asking.ends_with(3, asking_end())?);
     assert!(rt; ended.answering.ends_with(4, answering_end())?);
     Ok(())
