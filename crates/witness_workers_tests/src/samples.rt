@@ -80,10 +80,10 @@ pub(crate) fn share(alloc: Global) -> Result<Sharing, Fail> {
     let key = make_key(alloc)?;
     let store = new_store(alloc, &key)?;
     let (shared, mut passes) = SharedStore::open(alloc, Box::into_inner(store), 2)?;
+    let shared = Box::new(alloc, shared)?;
     let (Some(second), Some(first)) = (passes.pop(), passes.pop()) else {
         unreachable!();
     };
-    let shared = Box::new(alloc, shared)?;
     Ok(Sharing {
         key,
         shared,
