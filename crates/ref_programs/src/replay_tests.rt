@@ -25,27 +25,28 @@ enum Line<'a> {
 }
 
 /// The key (H5, W4) whose identifier and seed end in the number.
-fn key_of(alloc: Global, node: u8) -> Result<SecretKey, Fail> {
+fn key_of(alloc: Global, node: u8) -> Result<Box<SecretKey>, Fail> {
     let mut id = [0; 16];
     id[15] = node;
     let mut seed = [0; 32];
     seed[31] = node;
-    Ok(SecretKey::make(alloc, LmsType::H5, OtsType::W4, id, seed)?)
+    let key = SecretKey::make(alloc, LmsType::H5, OtsType::W4, id, seed)?;
+    Ok(Box::new(alloc, key)?)
 }
 
 /// The nodes 1 and 2: the one whose log is replayed, and the other one with its key. The former's public key is of no secret key:
 /// it signs nothing here.
 #[derive(Drop)]
 struct Nodes {
-    directory: Directory,
+    directory: Box<Directory>,
     me: u8,
     other: u8,
-    key: SecretKey,
+    key: Box<SecretKey>,
 }
 
 fn nodes_of(alloc: Global, me: u8, other: u8) -> Result<Box<Nodes>, Fail> {
     let key = key_of(alloc, other)?;
-    let mut directory = Directory::new(alloc);
+    let mut directory = Box::new(alloc, Directory::new(alloc))?;
     directory.add(NodeId(u32::from(other)), key.public_key())?;
     let mut text = [0; 56];
     text[3] = 5;
@@ -177,10 +178,7 @@ fn an_honest_log_of_tally_conforms(rt: HostRuntime) -> Result<(), Fail> {
         Line::Checkpoint(b"\x00\x00\x00\x00\x00\x00\x00\x05"),
     ];
     for len in 0..6 {
-        assert_eq!(rt;
-            verdict_of(alloc, &mut nodes, &Tally, &lines[..len])?,
-            Verdict::Conforms
-        );
+        assert!(rt; verdict_of(alloc, &mut nodes, &Tally, &lines[..len])? == Verdict::Conforms);
     }
     Ok(())
 }
@@ -189,12 +187,14 @@ fn an_honest_log_of_tally_conforms(rt: HostRuntime) -> Result<(), Fail> {
 fn another_sum_deviates(rt: HostRuntime) -> Result<(), Fail> {
     let alloc = rt.alloc();
     let mut nodes = make_nodes(alloc)?;
-    let wrong = [Line::Init, Line::Recv(ADD_FIVE), Line::Send(1, TOLD_SIX)];
-    let verdict = verdict_of(alloc, &mut nodes, &Tally, &wrong)?;
-    assert_eq!(rt; verdict, deviates(2, Reason::WrongOutput));
-    let missing = [Line::Init, Line::Recv(ADD_FIVE), Line::Timer(1)];
-    let verdict = verdict_of(alloc, &mut nodes, &Tally, &missing)?;
-    assert_eq!(rt; verdict, deviates(2, Reason::MissingOutput));
+    for (line, reason) in [
+        (Line::Send(1, TOLD_SIX), Reason::WrongOutput),
+        (Line::Timer(1), Reason::MissingOutput),
+    ] {
+        let lines = [Line::Init, Line::Recv(ADD_FIVE), line];
+        let verdict = verdict_of(alloc, &mut nodes, &Tally, &lines)?;
+        assert!(rt; verdict == deviates(2, reason));
+    }
     Ok(())
 }
 
@@ -209,7 +209,7 @@ fn the_greatest_total_stays(rt: HostRuntime) -> Result<(), Fail> {
         Line::Checkpoint(GREATEST),
     ];
     let verdict = verdict_after(alloc, &mut nodes, &Tally, Hash([7; 32]), &lines)?;
-    assert_eq!(rt; verdict, Verdict::Conforms);
+    assert!(rt; verdict == Verdict::Conforms);
     Ok(())
 }
 
@@ -218,24 +218,22 @@ fn checkpoints_are_the_state(rt: HostRuntime) -> Result<(), Fail> {
     let alloc = rt.alloc();
     let mut nodes = make_nodes(alloc)?;
     let one = b"\x00\x00\x00\x00\x00\x00\x00\x01".as_slice();
-    let verdict = verdict_of(
-        alloc,
-        &mut nodes,
-        &Tally,
-        &[Line::Init, Line::Checkpoint(one)],
-    )?;
-    assert_eq!(rt; verdict, deviates(1, Reason::WrongCheckpoint));
-    let lines = [Line::Checkpoint(one), Line::Checkpoint(GREATEST)];
-    let verdict = verdict_after(alloc, &mut nodes, &Tally, Hash([7; 32]), &lines)?;
-    assert_eq!(rt; verdict, deviates(1, Reason::WrongCheckpoint));
-    let verdict = verdict_after(
-        alloc,
-        &mut nodes,
-        &Tally,
-        Hash([7; 32]),
-        &[Line::Checkpoint(&one[..7])],
-    )?;
-    assert_eq!(rt; verdict, deviates(0, Reason::BadContent));
+    let lines = [Line::Init, Line::Checkpoint(one)];
+    let verdict = verdict_of(alloc, &mut nodes, &Tally, &lines)?;
+    assert!(rt; verdict == deviates(1, Reason::WrongCheckpoint));
+    for (lines, verdict) in [
+        (
+            [Line::Checkpoint(one), Line::Checkpoint(GREATEST)].as_slice(),
+            deviates(1, Reason::WrongCheckpoint),
+        ),
+        (
+            [Line::Checkpoint(&one[..7])].as_slice(),
+            deviates(0, Reason::BadContent),
+        ),
+    ] {
+        let told = verdict_after(alloc, &mut nodes, &Tally, Hash([7; 32]), lines)?;
+        assert!(rt; told == verdict);
+    }
     Ok(())
 }
 
@@ -258,7 +256,7 @@ fn relay_passes_on(rt: HostRuntime) -> Result<(), Fail> {
             deviates(2, Reason::MissingOutput),
         ),
     ] {
-        assert_eq!(rt; verdict_of(alloc, &mut nodes, &Relay, &lines)?, verdict);
+        assert!(rt; verdict_of(alloc, &mut nodes, &Relay, &lines)? == verdict);
     }
     Ok(())
 }
@@ -273,7 +271,7 @@ fn relay_sends_nothing_to_a_node_that_is_not_listed(rt: HostRuntime) -> Result<(
         Line::Checkpoint(b"\x00\x00\x00\x00\x00\x00\x00\x01"),
     ];
     let verdict = verdict_of(alloc, &mut nodes, &Relay, &lines)?;
-    assert_eq!(rt; verdict, Verdict::Conforms);
+    assert!(rt; verdict == Verdict::Conforms);
     Ok(())
 }
 
@@ -294,10 +292,7 @@ fn contents_are_well_formed(rt: HostRuntime) -> Result<(), Fail> {
         Line::Other(3, b"\x00\x00\x00"),
         Line::Other(5, &long),
     ] {
-        assert_eq!(rt;
-            verdict_on(alloc, &mut nodes, line)?,
-            deviates(1, Reason::BadContent)
-        );
+        assert!(rt; verdict_on(alloc, &mut nodes, line)? == deviates(1, Reason::BadContent));
     }
     Ok(())
 }
@@ -313,12 +308,22 @@ fn each_other_reason_is_told(rt: HostRuntime) -> Result<(), Fail> {
         (Line::Changed(b"X"), Reason::BadReceipt),
         (Line::Send(1, b"X"), Reason::ExtraOutput),
     ] {
-        assert_eq!(rt; verdict_on(alloc, &mut nodes, line)?, deviates(1, reason));
+        assert!(rt; verdict_on(alloc, &mut nodes, line)? == deviates(1, reason));
     }
-    let verdict = verdict_of(alloc, &mut nodes, &Relay, &[Line::Timer(1)])?;
-    assert_eq!(rt; verdict, deviates(0, Reason::BadInit));
-    let verdict = verdict_after(alloc, &mut nodes, &Relay, Hash([7; 32]), &[Line::Init])?;
-    assert_eq!(rt; verdict, deviates(0, Reason::BadKind));
+    Ok(())
+}
+
+#[test]
+fn a_whole_log_alone_begins_with_init(rt: HostRuntime) -> Result<(), Fail> {
+    let alloc = rt.alloc();
+    let mut nodes = make_nodes(alloc)?;
+    for (prev, line, reason) in [
+        (base_hash(), Line::Timer(1), Reason::BadInit),
+        (Hash([7; 32]), Line::Init, Reason::BadKind),
+    ] {
+        let verdict = verdict_after(alloc, &mut nodes, &Relay, prev, &[line])?;
+        assert!(rt; verdict == deviates(0, reason));
+    }
     Ok(())
 }
 
@@ -349,15 +354,10 @@ fn verdict_at(alloc: Global, nodes: &Nodes, seq: u64) -> Result<Verdict, Fail> {
 fn numbers_rise(rt: HostRuntime) -> Result<(), Fail> {
     let alloc = rt.alloc();
     let nodes = make_nodes(alloc)?;
-    assert_eq!(rt;
-        verdict_at(alloc, &nodes, 4)?,
-        deviates(1, Reason::SeqOrder)
-    );
-    assert_eq!(rt;
-        verdict_at(alloc, &nodes, 5)?,
-        deviates(1, Reason::SeqOrder)
-    );
-    assert_eq!(rt; verdict_at(alloc, &nodes, 9)?, Verdict::Conforms);
+    let order = deviates(1, Reason::SeqOrder);
+    for (seq, verdict) in [(4, order), (5, order), (9, Verdict::Conforms)] {
+        assert!(rt; verdict_at(alloc, &nodes, seq)? == verdict);
+    }
     Ok(())
 }
 
@@ -372,23 +372,36 @@ fn log_with_quotes(alloc: Global, nodes: &mut Nodes) -> Result<Vec<Entry>, Fail>
     Ok(log_of(alloc, nodes, &lines)?)
 }
 
+/// The verdict on node 2's log, where these hashes are told beside it.
+fn verdict_with(
+    alloc: Global,
+    directory: &Directory,
+    log: &[Entry],
+    quoted: &[Option<Hash>],
+) -> Result<Option<Verdict>, Fail> {
+    let replayed = replay_with_quotes(alloc, &Relay, directory, NodeId(2), base_hash(), log)?;
+    Ok((replayed.quotes.as_slice() == quoted).then_some(replayed.verdict))
+}
+
+/// Whether these hashes are told alone.
+fn are_quoted(
+    alloc: Global,
+    directory: &Directory,
+    log: &[Entry],
+    quoted: &[Option<Hash>],
+) -> Result<bool, Fail> {
+    let quotes = quoted_hashes(alloc, directory, NodeId(2), log)?;
+    Ok(quotes.as_slice() == quoted)
+}
+
 #[test]
 fn quotes_behind_a_deviation_are_told(rt: HostRuntime) -> Result<(), Fail> {
     let alloc = rt.alloc();
     let mut nodes = make_nodes(alloc)?;
     let log = log_with_quotes(alloc, &mut nodes)?;
-    let replayed = replay_with_quotes(
-        alloc,
-        &Relay,
-        &nodes.directory,
-        NodeId(2),
-        base_hash(),
-        &log,
-    )?;
-    assert_eq!(rt; replayed.verdict, deviates(1, Reason::ExtraOutput));
     let quoted = [None, None, Some(sent_hash(alloc, 2, b"X")?), None];
-    assert_eq!(rt; replayed.quotes.as_slice(), quoted.as_slice());
-    let quotes = quoted_hashes(alloc, &nodes.directory, NodeId(2), &log)?;
-    assert_eq!(rt; quotes.as_slice(), quoted.as_slice());
+    let verdict = verdict_with(alloc, &nodes.directory, &log, &quoted)?;
+    assert!(rt; verdict == Some(deviates(1, Reason::ExtraOutput)));
+    assert!(rt; are_quoted(alloc, &nodes.directory, &log, &quoted)?);
     Ok(())
 }
