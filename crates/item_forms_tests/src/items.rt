@@ -41,8 +41,9 @@ fn is_written_again(alloc: Global, text: &[u8]) -> Result<bool, Fail> {
     Ok(item.encoded_len() == text.len() && again.as_slice() == text)
 }
 
-/// The refusals of the text with a byte more, with a byte less, under tag 6, and with a signature of 9,325 bytes.
-fn refusals(alloc: Global) -> [u8; 4] {
+/// The refusals of the text with a byte more, with a byte less, under tag 6, and with a signature of 9,325 bytes; and that of no
+/// byte.
+fn refusals(alloc: Global) -> [u8; 5] {
     let text = auth_text();
     let mut longer = [0u8; 50];
     longer[..49].copy_from_slice(&text);
@@ -56,14 +57,14 @@ fn refusals(alloc: Global) -> [u8; 4] {
         refusal_of_front(alloc, &text),
         refusal(alloc, &other_tag),
         refusal(alloc, &long_signature),
+        refusal(alloc, &[]),
     ]
 }
 
 #[test]
 fn a_statement_has_its_text(rt: HostRuntime) -> Result<(), Fail> {
     assert!(rt; is_written_again(rt.alloc(), &auth_text())?);
-    assert_eq!(rt; refusals(rt.alloc()), [43, 40, 41, 42]);
-    assert_eq!(rt; refusal(rt.alloc(), &[]), 40);
+    assert!(rt; refusals(rt.alloc()) == [43, 40, 41, 42, 40]);
     Ok(())
 }
 
@@ -325,27 +326,28 @@ fn places(alloc: Global, tag: u8, number: u32) -> Result<[Ordering; 6], Fail> {
 #[test]
 fn items_stand_before_in_or_behind_a_group(rt: HostRuntime) -> Result<(), Fail> {
     let (less, equal, greater) = (Ordering::Less, Ordering::Equal, Ordering::Greater);
-    let segments = [less, equal, greater, greater, greater, greater];
-    assert_eq!(rt; places(rt.alloc(), 2, 1)?, segments);
-    let audits = [less, less, equal, greater, greater, equal];
-    assert_eq!(rt; places(rt.alloc(), 3, 1)?, audits);
-    let sends = [less, less, less, equal, greater, less];
-    assert_eq!(rt; places(rt.alloc(), 4, 1)?, sends);
-    let acknowledgements = [less, less, less, less, equal, less];
-    assert_eq!(rt; places(rt.alloc(), 5, 6)?, acknowledgements);
+    for (tag, number, expected) in [
+        (2, 1, [less, equal, greater, greater, greater, greater]),
+        (3, 1, [less, less, equal, greater, greater, equal]),
+        (4, 1, [less, less, less, equal, greater, less]),
+        (5, 6, [less, less, less, less, equal, less]),
+    ] {
+        assert!(rt; places(rt.alloc(), tag, number)? == expected);
+    }
     Ok(())
 }
 
 #[test]
 fn items_stand_before_or_behind_groups_of_other_numbers(rt: HostRuntime) -> Result<(), Fail> {
     let (less, greater) = (Ordering::Less, Ordering::Greater);
-    let behind = [less, greater, greater, greater, greater, greater];
-    assert_eq!(rt; places(rt.alloc(), 2, 0)?, behind);
-    let before = [less, less, greater, greater, greater, greater];
-    assert_eq!(rt; places(rt.alloc(), 2, 2)?, before);
-    let behind = [less, less, less, less, greater, less];
-    assert_eq!(rt; places(rt.alloc(), 5, 5)?, behind);
-    assert_eq!(rt; places(rt.alloc(), 5, 7)?, [less; 6]);
+    for (tag, number, expected) in [
+        (2, 0, [less, greater, greater, greater, greater, greater]),
+        (2, 2, [less, less, greater, greater, greater, greater]),
+        (5, 5, [less, less, less, less, greater, less]),
+        (5, 7, [less; 6]),
+    ] {
+        assert!(rt; places(rt.alloc(), tag, number)? == expected);
+    }
     Ok(())
 }
 
@@ -363,9 +365,12 @@ fn changed(alloc: Global, form: u8, place: u8, bytes: &[u8]) -> Result<u8, Fail>
 
 #[test]
 fn a_flag_and_a_count_have_their_limits(rt: HostRuntime) -> Result<(), Fail> {
-    assert_eq!(rt; changed(rt.alloc(), 3, 5, &[2])?, 41);
-    assert_eq!(rt; changed(rt.alloc(), 2, 37, &[0, 0, 16, 1])?, 42);
-    assert_eq!(rt; changed(rt.alloc(), 2, 37, &[0, 0, 16, 0])?, 40);
+    let numbers = [
+        changed(rt.alloc(), 3, 5, &[2])?,
+        changed(rt.alloc(), 2, 37, &[0, 0, 16, 1])?,
+        changed(rt.alloc(), 2, 37, &[0, 0, 16, 0])?,
+    ];
+    assert!(rt; numbers == [41, 42, 40]);
     Ok(())
 }
 
@@ -383,18 +388,21 @@ fn is_made(alloc: Global, len: usize) -> Result<bool, Fail> {
 
 #[test]
 fn a_signature_has_a_greatest_length(rt: HostRuntime) -> Result<(), Fail> {
-    assert!(rt; is_made(rt.alloc(), 9324)?);
-    assert!(rt; !is_made(rt.alloc(), 9325)?);
+    assert!(rt; is_made(rt.alloc(), 9324)? && !is_made(rt.alloc(), 9325)?);
     Ok(())
+}
+
+/// Whether the fault is shown as this text.
+fn is_shown_as(alloc: Global, fault: DecodeFault, want: &str) -> Result<bool, Fail> {
+    let shown = format!(in alloc; "{fault}")?;
+    Ok(shown.as_str() == want)
 }
 
 #[test]
 fn refusals_have_numbers_names_and_lines(rt: HostRuntime) -> Result<(), Fail> {
-    assert_eq!(rt; TooLong.number(), 42);
-    assert_eq!(rt; TooLong.name(), "TooLong");
-    assert_eq!(rt; DecodeFault::Trailing.number(), 43);
-    assert_eq!(rt; DecodeFault::BadTag.name(), "BadTag");
-    let shown = format!(in rt.alloc(); "{}", DecodeFault::Truncated)?;
-    assert_eq!(rt; shown.as_str(), "the bytes end within a field");
+    assert!(rt; (TooLong.number(), DecodeFault::Trailing.number()) == (42, 43));
+    assert!(rt; TooLong.name() == "TooLong" && DecodeFault::BadTag.name() == "BadTag");
+    let line = "the bytes end within a field";
+    assert!(rt; is_shown_as(rt.alloc(), DecodeFault::Truncated, line)?);
     Ok(())
 }
