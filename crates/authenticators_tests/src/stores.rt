@@ -58,16 +58,17 @@ fn are(found: &[Authenticator], expected: &[(u32, u64, u8, u8)]) -> bool {
     true
 }
 
-/// Whether the statement equals one of node 1, its number 5 and this hash.
-fn equals(alloc: Global, one: &Authenticator, hash: u8) -> Result<bool, Fail> {
+/// Whether the statement equals one of node 1, its number 5 and this hash, and whether it differs from it.
+fn compared(alloc: Global, one: &Authenticator, hash: u8) -> Result<(bool, bool), Fail> {
     let other = Box::new(alloc, statement(alloc, 1, 5, hash, 0)?)?;
-    Ok(*one == *other)
+    Ok((*one == *other, *one != *other))
 }
 
 #[test]
 fn a_statement_equals_its_like_alone(rt: HostRuntime) -> Result<(), Fail> {
     let one = Box::new(rt.alloc(), statement(rt.alloc(), 1, 5, 7, 0)?)?;
-    assert!(rt; equals(rt.alloc(), &one, 7)? && !equals(rt.alloc(), &one, 8)?);
+    assert!(rt; compared(rt.alloc(), &one, 7)? == (true, false));
+    assert!(rt; compared(rt.alloc(), &one, 8)? == (false, true));
     Ok(())
 }
 
