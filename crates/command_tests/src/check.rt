@@ -23,8 +23,8 @@ fn told<H: Threads + Wait + Sync>(
 fn two_hashes_of_one_number_convict(rt: HostRuntime) -> Result<(), Fail> {
     let (_, first, second) = statements();
     let (answer, written) = told(&rt, rt.alloc(), first, second)?;
-    assert_eq!(rt; answer, Ok(()));
-    assert_eq!(rt; written.as_slice(), b"exposes 7\n".as_slice());
+    assert!(rt; answer == Ok(()));
+    assert!(rt; written.as_slice() == b"exposes 7\n".as_slice());
     Ok(())
 }
 
@@ -32,7 +32,7 @@ fn two_hashes_of_one_number_convict(rt: HostRuntime) -> Result<(), Fail> {
 fn one_statement_twice_convicts_nobody(rt: HostRuntime) -> Result<(), Fail> {
     let (_, first, _) = statements();
     let (answer, written) = told(&rt, rt.alloc(), first, first)?;
-    assert_eq!(rt; answer, Err(Fault::NoContradiction));
+    assert!(rt; answer == Err(Fault::NoContradiction));
     assert!(rt; written.is_empty());
     Ok(())
 }
@@ -40,6 +40,6 @@ fn one_statement_twice_convicts_nobody(rt: HostRuntime) -> Result<(), Fail> {
 #[test]
 fn a_store_is_no_proof(rt: HostRuntime) {
     let (answer, written) = outcome(&rt, rt.alloc(), Task::Check, no_statements());
-    assert_eq!(rt; answer, Err(Fault::BadTag));
+    assert!(rt; answer == Err(Fault::BadTag));
     assert!(rt; written.is_empty());
 }

@@ -132,14 +132,10 @@ fn each_read_may_be_interrupted(rt: HostRuntime) {
 fn each_write_may_fail(rt: HostRuntime) {
     let input = no_statements();
     for number in 1..34 {
-        assert_eq!(rt;
-            tells_write(&rt, rt.alloc(), Task::Status, input, number),
-            number <= 20
-        );
+        assert!(rt; tells_write(&rt, rt.alloc(), Task::Status, input, number) == (number <= 20));
         assert!(rt; tells_write(&rt, rt.alloc(), Task::Merge, input, number));
-        assert_eq!(rt;
-            tells_write(&rt, rt.alloc(), Task::Prove(NodeId(1)), input, number),
-            number <= 5
+        assert!(rt;
+            tells_write(&rt, rt.alloc(), Task::Prove(NodeId(1)), input, number) == (number <= 5)
         );
     }
 }
@@ -147,7 +143,7 @@ fn each_write_may_fail(rt: HostRuntime) {
 #[test]
 fn each_write_of_check_may_fail(rt: HostRuntime) -> Result<(), Fail> {
     for number in 1..12 {
-        assert_eq!(rt; check_tells_write(&rt, rt.alloc(), number)?, number <= 10);
+        assert!(rt; check_tells_write(&rt, rt.alloc(), number)? == (number <= 10));
     }
     Ok(())
 }
@@ -174,9 +170,8 @@ fn each_read_of_run_may_fail_or_be_interrupted(rt: HostRuntime) {
 #[test]
 fn each_write_of_run_may_fail(rt: HostRuntime) {
     for number in 1..28 {
-        assert_eq!(rt;
-            tells_write(&rt, rt.alloc(), Task::Run(1), scenario(), number),
-            number <= 26
+        assert!(rt;
+            tells_write(&rt, rt.alloc(), Task::Run(1), scenario(), number) == (number <= 26)
         );
     }
 }

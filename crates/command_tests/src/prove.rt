@@ -9,7 +9,7 @@ use commands::task::Task;
 fn two_hashes_of_one_number_are_a_proof(rt: HostRuntime) {
     let (answer, written) = outcome(&rt, rt.alloc(), Task::Prove(NodeId(7)), equivocation());
     let (_, items) = halves(equivocation(), 177);
-    assert_eq!(rt; answer, Ok(()));
+    assert!(rt; answer == Ok(()));
     assert!(rt;
         written
             .strip_prefix(b"01")
@@ -21,13 +21,13 @@ fn two_hashes_of_one_number_are_a_proof(rt: HostRuntime) {
 #[test]
 fn nothing_is_found_against_a_trusted_node(rt: HostRuntime) {
     let (answer, written) = outcome(&rt, rt.alloc(), Task::Prove(NodeId(2)), no_statements());
-    assert_eq!(rt; answer, Ok(()));
-    assert_eq!(rt; written.as_slice(), b"none\n".as_slice());
+    assert!(rt; answer == Ok(()));
+    assert!(rt; written.as_slice() == b"none\n".as_slice());
 }
 
 #[test]
 fn a_node_that_is_not_listed_is_refused(rt: HostRuntime) {
     let (answer, written) = outcome(&rt, rt.alloc(), Task::Prove(NodeId(3)), no_statements());
-    assert_eq!(rt; answer, Err(Fault::UnknownNode));
+    assert!(rt; answer == Err(Fault::UnknownNode));
     assert!(rt; written.is_empty());
 }

@@ -26,9 +26,9 @@ fn a_scenario_is_run(rt: HostRuntime) -> Result<(), Fail> {
     let text =
         b"witnesses 2\nnode 1 honest\nnode 2 wrong\nnode 3 mute\ntimer 1 5\ntimer 2 7\naudit 2\n";
     let outcome = outcome(&rt, rt.alloc(), text, 2)?;
-    assert_eq!(rt; outcome.witnesses.len(), 2);
+    assert!(rt; outcome.witnesses.len() == 2);
     for witness in &outcome.witnesses {
-        assert_eq!(rt; witness.store.count(), 3);
+        assert!(rt; witness.store.count() == 3);
     }
     Ok(())
 }
@@ -46,7 +46,7 @@ fn a_wrong_number_of_workers_is_told(rt: HostRuntime) -> Result<(), Fail> {
         );
         assert!(rt; matches!(told, Err(RunFault::BadWorkers)));
     }
-    assert_eq!(rt; RunFault::BadWorkers.number(), 90);
-    assert_eq!(rt; RunFault::BadWorkers.name(), "BadWorkers");
+    assert!(rt; RunFault::BadWorkers.number() == 90);
+    assert!(rt; RunFault::BadWorkers.name() == "BadWorkers");
     Ok(())
 }

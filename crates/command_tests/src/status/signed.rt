@@ -68,13 +68,13 @@ fn report_of(alloc: Global, hashes: [u8; 2]) -> Result<Vec<u8>, Fail> {
 #[test]
 fn two_hashes_of_one_number_expose_their_node(rt: HostRuntime) -> Result<(), Fail> {
     let report = report_of(rt.alloc(), [1, 2])?;
-    assert_eq!(rt; report.as_slice(), b"1 exposed\n2 trusted\n".as_slice());
+    assert!(rt; report.as_slice() == b"1 exposed\n2 trusted\n".as_slice());
     Ok(())
 }
 
 #[test]
 fn two_signatures_of_one_hash_expose_nobody(rt: HostRuntime) -> Result<(), Fail> {
     let report = report_of(rt.alloc(), [1, 1])?;
-    assert_eq!(rt; report.as_slice(), b"1 trusted\n2 trusted\n".as_slice());
+    assert!(rt; report.as_slice() == b"1 trusted\n2 trusted\n".as_slice());
     Ok(())
 }
