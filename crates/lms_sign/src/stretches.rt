@@ -171,7 +171,8 @@ fn move_on(stretches: &mut [Stretch; LANES], chains: &[OpenChain], count: u8)
 }
 
 /// Runs the chains by stretches of `size` steps, each lane its own. Where `size` is at least an eighth of all steps and no
-/// chain has more of them left, all chains are at their ends afterwards, and no lane has waited but at the end.
+/// chain has more of them left, all chains are at their ends afterwards, and no lane has waited but at the end. No contract
+/// says so: what stretches leave is run longest first.
 fn run_stretches(chains: &mut [OpenChain], size: u32)
     requires some { 0 < length chains.old }
     requires most { length chains.old ≤ MOST_CHAINS }
@@ -196,6 +197,6 @@ pub(crate) fn run_long_chains(chains: &mut [OpenChain])
 {
     let steps = steps_left(chains);
     if steps > LONG * chains.len() as u32 {
-        run_stretches(chains, steps.div_ceil(8));
+        run_stretches(chains, steps.div_ceil(LANES as u32));
     }
 }
