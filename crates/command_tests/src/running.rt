@@ -1,6 +1,5 @@
 //! Scenarios that are run.
 
-use authenticators::NodeId;
 use evidence_store::{Evidence, PlainStore};
 use ref_programs::Tally;
 use scenario_run::{Outcome, RunFault, run};
