@@ -1,7 +1,7 @@
 use Rattle.std.proofs.Common.{◌≡◌, [], ◌∷◌, All, subst, sym}
 use Rattle.std.proofs.lemmas.List.Elements.{All-cons, All-nil}
 use Rattle.witness_workers.specs.Shares.{Share}
-use Rattle.exchanging.proofs.tests.two_stores.Goals as goal
+use Rattle.exchanging_tests.proofs.exchanges.two_stores.Goals as goal
 
 pub returns : goal.returns
 returns g c =

@@ -2,11 +2,11 @@
 
 ghost use Rattle.std.specs.Prelude.{◌≡◌, ◌∷◌, [], All, IfOk};
 
-use crate::{ExchangeFault, Pass, SharedStore, exchange};
 use authenticators::{Authenticator, Directory, NodeId, statement_text};
 use evidence_item::{Item, check_item};
 use evidence_set::Indication;
 use evidence_store::{Evidence, PlainStore};
+use exchanging::{ExchangeFault, Pass, SharedStore, exchange};
 use lms_sign::{LmsType, OtsType, SecretKey};
 use log_chain::{ByteString, Hash};
 use ref_programs::Tally;

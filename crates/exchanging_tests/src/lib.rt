@@ -1,0 +1,5 @@
+//! Tests of the public calls of `exchanging`.
+#![tactic(auto)]
+
+#[cfg(test)]
+mod exchanges;
