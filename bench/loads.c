@@ -1,6 +1,5 @@
 /* How long a load takes whose address is what the load before it gave, through areas of several sizes. What other machines on
-   the same hardware do to the caches and the memory shows here, and in no count of a processor's own; a prover is such loads for
-   the most part.
+   the same hardware do to the caches and the memory can show here.
    Build: gcc -O2 loads.c. Run: loads. */
 #include <stdint.h>
 #include <stdio.h>
