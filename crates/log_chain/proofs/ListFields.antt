@@ -46,6 +46,14 @@ parts_again {A = A} {E = E} at text Fits field (x ∷ xs) rest fits =
     ∙ ap (λ (r : Read A E). r >>= λ first. parts_at at (length xs) first.1 >>= λ others. Ok (first.0 ∷ others.0, others.1)) (field.again x (flat_map text xs ++ rest) fits.0)
     ∙ ap (λ (r : Read (List A) E). r >>= λ others. Ok (x ∷ others.0, others.1)) (parts_again at text Fits field xs rest fits.1)
 
+-- as many parts as this
+pub parts_field : {A E : Type 0} {at : List ℕ → Read A E} {text : A → List ℕ} {Fits : A → Type 0} (n : ℕ) → IsField at text Fits
+    → IsField (parts_at at n) (flat_map text) (λ xs. (length xs ≡ n) × AllByRecursion Fits xs)
+parts_field {at = at} {text = text} {Fits = Fits} n field = record {
+  takes = λ bytes xs rest fits e. let t = parts_taken at text Fits field n bytes xs rest fits e in (t.taken, (t.count, t.each));
+  again = λ xs rest fits. ap (λ (k : ℕ). parts_at at k (flat_map text xs ++ rest)) (sym fits.0) ∙ parts_again at text Fits field xs rest fits.1;
+}
+
 counted_taken : {A E : Type 0} (tell : FieldFault → E) (most : ℕ) (at : List ℕ → Read A E) (text : A → List ℕ) (Fits : A → Type 0) → IsField at text Fits → (bytes : List ℕ) (xs : List A) (rest : List ℕ) → IsBytes bytes
     → counted_at tell most at bytes ≡ Ok (xs, rest) → Takes bytes (counted_text text xs) rest × IsListUpTo most Fits xs
 unfolding counted_at

@@ -4,6 +4,7 @@ ghost use Rattle.std.specs.Prelude.{◌≡◌, ◌+◌, ◌≤◌, ◌++◌, ◌
 ghost use Rattle.std.specs.Int.{to_be_bytes, w64};
 ghost use Rattle.sha2.specs.Sha256.{sha256};
 ghost use Rattle.log_chain.specs.Chain.{chain_end, entry_hash};
+ghost use Rattle.log_chain.specs.Pieces.{joined};
 
 use crate::byte_string::ByteString;
 use crate::hash::Hash;
@@ -56,14 +57,31 @@ pub(crate) fn hashed_text(prev: Hash, seq: u64, kind: u8, digest: [u8; 32]) -> [
     text
 }
 
-/// The hash of an entry whose content has this SHA-256 digest, after the hash before it: one digest of 73 bytes. So whoever
-/// has a content in pieces, or its digest alone, need not put it together. It takes no memory.
+/// The hash of an entry whose content has this SHA-256 digest, after the hash before it.
 #[tactic(auto, unfolding(crate::specs::Chain::entry_text))]
-pub fn entry_hash_of_digest(prev: Hash, seq: u64, kind: u8, digest: [u8; 32]) -> Hash
-    ensures text { result ≡ sha256 (prev ++ to_be_bytes w64 seq ++ kind ∷ digest) }
-    ensures entry { (content : List ℕ) → digest ≡ sha256 content → result ≡ entry_hash prev (record { seq = seq; kind = kind; content = content }) }
+fn hash_of_digest(prev: Hash, seq: u64, kind: u8, digest: [u8; 32]) -> Hash
+    ensures { (content : List ℕ) → digest ≡ sha256 content → result ≡ entry_hash prev (record { seq = seq; kind = kind; content = content }) }
 {
     Hash(Sha256::digest(hashed_text(prev, seq, kind, digest)))
+}
+
+/// The digest of the pieces, one behind the other.
+fn digest_of_pieces(pieces: &[&[u8]]) -> [u8; 32]
+    ensures { result ≡ sha256 (joined pieces.now) }
+{
+    let mut hasher = Sha256::new();
+    for piece in pieces {
+        hasher.update(piece);
+    }
+    hasher.finalize()
+}
+
+/// The hash of an entry whose content is these pieces, one behind the other, after the hash before it. So whoever has a content
+/// in pieces need not put it together. It takes no memory.
+pub fn entry_hash_of_pieces(prev: Hash, seq: u64, kind: u8, pieces: &[&[u8]]) -> Hash
+    ensures { result ≡ entry_hash prev (record { seq = seq; kind = kind; content = joined pieces.now }) }
+{
+    hash_of_digest(prev, seq, kind, digest_of_pieces(pieces))
 }
 
 /// The hash of an entry after the hash before it: one digest of its content, and one of 73 bytes. It takes no memory.
@@ -71,7 +89,7 @@ pub fn entry_hash(prev: Hash, entry: &Entry) -> Hash
     ensures { result ≡ entry_hash prev entry.now }
 {
     let digest = Sha256::digest(entry.content.as_slice());
-    entry_hash_of_digest(prev, entry.seq, entry.kind, digest)
+    hash_of_digest(prev, entry.seq, entry.kind, digest)
 }
 
 /// The hash of the last entry after the hash `prev` before the first, or `prev` where there is none. It takes no memory.

@@ -1,6 +1,8 @@
 //! Laws over the definitions. Each is a function that does nothing: its contract is the law.
 
+ghost use Rattle.outcome.specs.Bytes.{IsBytes};
 ghost use Rattle.outcome.specs.Equality.{TellsEqual};
+ghost use Rattle.log_chain.specs.Fields.{IsBytesOf};
 ghost use Rattle.log_chain.specs.FieldLaws.{FieldsReadBack, SpelledPartsFit, WritesAsExpected};
 ghost use Rattle.std.specs.Prelude.{ℕ, List};
 ghost use Rattle.log_chain.specs.declared.entry.Entry.{Entry as EntryValue};
@@ -84,4 +86,16 @@ pub fn entries_are_equal_by_fields()
 /// `==` of lists of entries is true exactly of the same entries in the same order.
 pub fn entry_lists_are_equal_by_entries()
     ensures { TellsEqual (List EntryValue) ⟦<EntryList as PartialEq>⟧.eq }
+{}
+
+/// A hash has 32 bytes: what is known of the range of its type, for a prover who knows only a value behind a reference.
+pub fn hash_fits(hash: Hash)
+    ensures { IsBytesOf 32 hash }
+{
+    let _bytes = hash.0;
+}
+
+/// Bytes are below 256, for a prover who knows only a slice.
+pub fn bytes_fit(bytes: &[u8])
+    ensures { IsBytes bytes.now }
 {}

@@ -8,7 +8,7 @@
 #![tactic(auto)]
 
 pub use byte_string::ByteString;
-pub use entry::{Entry, chain_end, entry_hash, entry_hash_of_digest};
+pub use entry::{Entry, chain_end, entry_hash, entry_hash_of_pieces};
 pub use entry_list::EntryList;
 pub use fault::{AppendFault, FieldFault, SegmentFault};
 pub use field_reader::FieldReader;
