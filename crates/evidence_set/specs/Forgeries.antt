@@ -1,0 +1,40 @@
+-- Forged statements: those of a node that a set holds and that the node did not sign.
+use Rattle.std.specs.Prelude.{◌≡◌, ◌≢◌, ℕ, ◌<◌, ◌^◌, List}
+use Rattle.std.specs.List.{Contains}
+use Rattle.log_chain.specs.Fields.{IsBytesOf}
+use Rattle.authenticators.specs.declared.authenticator.Authenticator.{Authenticator}
+use Rattle.authenticators.specs.Directory.{Listing}
+use Rattle.commitment.specs.Accounts.{Stamp, stamp}
+use Rattle.item_forms.specs.declared.forms.Fields.TheVariants as form
+use Rattle.item_forms.specs.Pieces.{Piece}
+use Rattle.evidence_item.specs.Statements.{IsSigned}
+use Rattle.evidence_set.specs.Exports.{AreValid}
+use Rattle.evidence_set.specs.Held.{IsHeld}
+use Rattle.evidence_set.specs.ItemSets.{Items, IsWithin, insert, none}
+
+-- The set holds a statement of node j whose number and hash are not among those that were signed. The number is one of eight bytes,
+-- the hash one of 32 bytes.
+pub record Forged (ds : Listing) (E : Items) (j : ℕ) (signed : List Stamp) : Type 0 where
+  pub statement : Authenticator
+  pub held : IsHeld ds E j statement
+  pub number : statement.seq < 2 ^ 64
+  pub hash : IsBytesOf 32 statement.hash
+  pub unsigned : ¬ (Contains signed (stamp statement))
+
+-- ---- laws, which `laws` proves
+
+-- A statement of the node that is held and was not signed is a forgery, and where the items are valid the node's key verifies it;
+-- there is none where each was signed, as where the set is empty or has but another signature of what was signed, and a statement of
+-- another node is none; and more items take none back.
+pub record ForgeriesAreUnsigned : Type 0 where
+  pub found : (ds : Listing) (E : Items) (j : ℕ) (signed : List Stamp) (a : Authenticator)
+      → IsHeld ds E j a → ¬ (Contains signed (stamp a)) → Forged ds E j signed
+  pub verifies : (ds : Listing) (E : Items) (j : ℕ) (signed : List Stamp) → AreValid ds E → (f : Forged ds E j signed) → IsSigned ds f.statement
+  pub all_signed : (ds : Listing) (E : Items) (j : ℕ) (signed : List Stamp)
+      → ((a : Authenticator) → IsHeld ds E j a → Contains signed (stamp a)) → ¬ (Forged ds E j signed)
+  pub empty : (ds : Listing) (j : ℕ) (signed : List Stamp) → ¬ (Forged ds none j signed)
+  pub again : (ds : Listing) (x : Piece) (a : Authenticator) (signed : List Stamp)
+      → x.fields ≡ form.Auth a → Contains signed (stamp a) → ¬ (Forged ds (insert none x) a.node signed)
+  pub others : (ds : Listing) (x : Piece) (a : Authenticator) (j : ℕ) (signed : List Stamp)
+      → x.fields ≡ form.Auth a → j ≢ a.node → ¬ (Forged ds (insert none x) j signed)
+  pub stay : (ds : Listing) (A B : Items) (j : ℕ) (signed : List Stamp) → IsWithin A B → Forged ds A j signed → Forged ds B j signed
