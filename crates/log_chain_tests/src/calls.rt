@@ -5,7 +5,7 @@ mod histories;
 
 use log_chain::{
     AppendFault, AppendRefused, ByteString, Entry, EntryList, FieldFault, FieldReader, FieldWriter,
-    Hash, SegmentFault, base_hash, chain_end, entry_hash, entry_hash_of_digest, kind,
+    Hash, SegmentFault, base_hash, chain_end, entry_hash, entry_hash_of_pieces, kind,
 };
 use outcome::Memory;
 use sha2::{Digest, Sha256};
@@ -191,7 +191,6 @@ const THIRD: Hash = Hash([
 #[test]
 fn an_entry_is_hashed_behind_the_hash_before_it(rt: HostRuntime) -> Result<(), Fail> {
     let abc = entry(rt.alloc(), 7, 2, b"abc")?;
-    let digest = Sha256::digest(b"abc");
     let text = [
         0xe3, 0xb0, 0xc4, 0x42, 0x98, 0xfc, 0x1c, 0x14, 0x9a, 0xfb, 0xf4, 0xc8, 0x99, 0x6f, 0xb9,
         0x24, 0x27, 0xae, 0x41, 0xe4, 0x64, 0x9b, 0x93, 0x4c, 0xa4, 0x95, 0x99, 0x1b, 0x78, 0x52,
@@ -204,10 +203,11 @@ fn an_entry_is_hashed_behind_the_hash_before_it(rt: HostRuntime) -> Result<(), F
         0xb0, 0x4c, 0xf4, 0x50, 0xa6, 0xe1, 0x57, 0x9b, 0xeb, 0xdf, 0x73, 0x6f, 0xa6, 0x84, 0xd0,
         0x31, 0xe6,
     ]);
+    let pieces: [&[u8]; 3] = [b"a", b"", b"bc"];
     let hashes = [
         Hash(Sha256::digest(text)),
         entry_hash(base_hash(), &abc),
-        entry_hash_of_digest(base_hash(), 7, kind::SEND, digest),
+        entry_hash_of_pieces(base_hash(), 7, kind::SEND, &pieces),
     ];
     assert!(rt; hashes == [hash; 3]);
     Ok(())
