@@ -1,8 +1,9 @@
 #!/usr/bin/env python3
-"""Computes, over Python's hashlib alone, the values that the tests of messages and of nodes hold, and looks for each in its file.
+"""Computes, over Python's hashlib alone, the values that the tests of signatures, messages and nodes hold, and looks for each in its file.
 
 It shares no code with the crates: LMS with H5 (RFC 8554), the hash chain of a log, and nodes under Tally are written here again,
-from the formats (docs/FORMATS.md) and the RFC. A node's key has the identifier and the seed that end in the node's number.
+from the formats (docs/FORMATS.md) and the RFC. Key k of a node has the identifier and the seed that end in the node's number, and
+before it bytes k.
 """
 
 import hashlib
@@ -39,13 +40,16 @@ def u64(number):
 class Key:
     """A secret key of RFC 8554, appendix A, with its whole tree."""
 
-    def __init__(self, node, ots_type):
-        self.identifier, self.seed = bytes(12) + u32(node), bytes(28) + u32(node)
+    def __init__(self, node, ots_type, number=0):
+        self.number, self.identifier, self.seed = number, bytes([number]) * 12 + u32(node), bytes([number]) * 28 + u32(node)
         self.ots_type, self.next_leaf = ots_type, 0
         self.width, self.chains, self.shift = OTS[ots_type]
         self.tree = {LEAVES + leaf: self.leaf_hash(leaf) for leaf in range(LEAVES)}
         for r in range(LEAVES - 1, 0, -1):
             self.tree[r] = sha256(self.identifier, u32(r), u16(0x8383), self.tree[2 * r], self.tree[2 * r + 1])
+
+    def public(self):
+        return u32(HEIGHT) + u32(self.ots_type) + self.identifier + self.tree[1]
 
     def leaf_hash(self, leaf):
         ends = [self.chain(leaf, i, self.start(leaf, i), (1 << self.width) - 1) for i in range(self.chains)]
@@ -72,6 +76,11 @@ class Key:
         values = [self.chain(leaf, i, self.start(leaf, i), digit) for i, digit in enumerate(digits)]
         path = [self.tree[((LEAVES + leaf) >> level) ^ 1] for level in range(HEIGHT)]
         return b"".join([u32(leaf), u32(self.ots_type), c, *values, u32(HEIGHT), *path])
+
+    def text(self, message, c):
+        """The signature text: behind a byte with the key's number, where that is not 0."""
+        signature = self.sign(message, c)
+        return signature if self.number == 0 else u8(self.number) + signature
 
 
 def entry_hash(before, seq, kind, content):
@@ -213,6 +222,15 @@ def messages():
     return [sent, sha256(signature), received, sha256(Key(2, 4).sign(u64(11) + received, bytes([8]) * 32))]
 
 
+def two_keys():
+    """Node 1's keys 0 and 1, and the signature text of number 5 and a hash of 32 bytes 7 by each."""
+    statement = u64(5) + bytes([7]) * 32
+    keys = [Key(1, 4), Key(1, 4, 1)]
+    texts = [key.text(statement, bytes(32)) for key in keys]
+    assert [len(text) for text in texts] == [1292, 1293]
+    return [key.public() for key in keys] + texts
+
+
 def round_of_calls():
     """Each call of a node once: node 1 asks, node 2 answers, and makes a checkpoint."""
     asking, answering = Node(1, 1), Node(2, 1)
@@ -228,6 +246,7 @@ def main():
     crates = os.path.join(os.path.dirname(os.path.abspath(__file__)), "..", "crates")
     missing = 0
     for path, values in (
+        ("authenticators_tests/src/signatures.rt", two_keys()),
         ("commitment_tests/src/calls.rt", messages()),
         ("commitment_tests/src/nodes/each_call.rt", round_of_calls()),
         ("commitment_tests/src/nodes.rt", spent() + exchange() + checkpoint()),
