@@ -116,7 +116,7 @@ class Node:
 
     def __init__(self, number, first_seq):
         self.number, self.key, self.next_seq, self.end = number, Key(number, self.ots_type), first_seq, sha256()
-        self.total, self.entries, self.signed, self.sent, self.acks, self.awaited = 0, 0, [], {}, {}, []
+        self.total, self.entries, self.signed, self.sent, self.heard, self.awaited = 0, 0, [], {}, {}, []
         self.log(1, u32(number))
 
     def log(self, kind, content):
@@ -129,7 +129,7 @@ class Node:
     def sign(self, entropy, k):
         """Signs the last entry as the signature number k of a call."""
         seq = self.next_seq - 1
-        signature = self.key.sign(u64(seq) + self.end, sha256(entropy, u32(k)))
+        signature = self.key.text(u64(seq) + self.end, sha256(entropy, u32(k)))
         self.signed.append(u32(self.number) + u64(seq) + self.end + u64(len(signature)) + signature)
         return signature
 
@@ -148,11 +148,14 @@ class Node:
         return self.send([(self.number + 1, b"A" + u64(moment))], entropy, 0)
 
     def receive(self, message, entropy):
-        content = message.quote()
-        if content in self.acks:
-            return self.acks[content], []
-        seq, before = self.log(3, content)
-        ack = self.acks[content] = Ack(self.number, message.seq, seq, before, self.sign(entropy, 0))
+        """The acknowledgement and the messages. Nothing where another message of the sender with the number was received."""
+        sent = message.sender, message.seq
+        if sent in self.heard:
+            kept, ack = self.heard[sent]
+            return (ack, []) if kept.fed() == message.fed() else None
+        seq, before = self.log(3, message.quote())
+        ack = Ack(self.number, message.seq, seq, before, self.sign(entropy, 0))
+        self.heard[sent] = message, ack
         if len(message.payload) != 9 or message.payload[:1] != b"A":
             return ack, []
         self.total = min(2**64 - 1, self.total + int.from_bytes(message.payload[1:], "big"))
@@ -165,11 +168,16 @@ class Node:
         self.awaited.remove(ack.send_seq)
 
 
-def message_to_2(key, seq, number):
-    """Node 1's message that adds the number, after 32 zero bytes in its log."""
-    before, payload = bytes(32), b"A" + u64(number)
+def message_with(key, seq, payload):
+    """Node 1's message with the payload, after 32 zero bytes in its log."""
+    before = bytes(32)
     statement = u64(seq) + entry_hash(before, seq, 2, u32(2) + payload)
     return Message(1, 2, seq, before, key.sign(statement, bytes([9]) * 32), payload)
+
+
+def message_to_2(key, seq, number):
+    """Node 1's message that adds the number, after 32 zero bytes in its log."""
+    return message_with(key, seq, b"A" + u64(number))
 
 
 def of_call(number):
@@ -222,6 +230,30 @@ def messages():
     return [sent, sha256(signature), received, sha256(Key(2, 4).sign(u64(11) + received, bytes([8]) * 32))]
 
 
+def taken():
+    """Node 2 receives one of three messages of number 4, and one of number 5."""
+    node, key, digest = Node(2, 1), Key(1, 3), hashlib.sha256()
+    first, second, third, fourth = [message_with(key, seq, payload) for seq, payload in ((4, b"X"), (4, b"Y"), (4, b"X"), (5, b"Y"))]
+    ack, none = node.receive(first, of_call(1))
+    assert (node.receive(second, of_call(2)), node.receive(third, of_call(3)), node.receive(first, of_call(4))) == (None, None, (ack, none))
+    digest.update(ack.fed() + node.receive(fourth, of_call(5))[0].fed())
+    assert (node.entries, len(node.signed), node.awaited, node.key.next_leaf) == (3, 2, [], 2)
+    return [digest.digest(), node.end]
+
+
+def renewed():
+    """Node 2 answers messages until no leaf of its key is left, and one more by its key 1."""
+    node, key = Node(2, 1), Key(1, 3)
+    for seq in range(2, 18):
+        node.receive(message_to_2(key, seq, 1), of_call(seq))
+    assert (node.entries, node.key.next_leaf) == (33, LEAVES)
+    node.key = Key(2, 4, 1)
+    ack, (answer,) = node.receive(message_to_2(key, 18, 1), of_call(18))
+    assert (node.entries, len(node.signed), node.key.next_leaf) == (35, 34, 2)
+    assert len(ack.signature) == len(answer.signature) == 1293
+    return [sha256(ack.fed() + answer.fed()), node.end]
+
+
 def two_keys():
     """Node 1's keys 0 and 1, and the signature text of number 5 and a hash of 32 bytes 7 by each."""
     statement = u64(5) + bytes([7]) * 32
@@ -249,6 +281,8 @@ def main():
         ("authenticators_tests/src/signatures.rt", two_keys()),
         ("commitment_tests/src/calls.rt", messages()),
         ("commitment_tests/src/nodes/each_call.rt", round_of_calls()),
+        ("commitment_tests/src/nodes/receptions.rt", taken()),
+        ("commitment_tests/src/nodes/keys.rt", renewed()),
         ("commitment_tests/src/nodes.rt", spent() + exchange() + checkpoint()),
     ):
         with open(os.path.join(crates, path), encoding="utf-8") as file:
