@@ -1,8 +1,9 @@
 #!/usr/bin/env python3
-"""Computes, over Python's hashlib alone, the values that the tests of messages and of nodes hold, and looks for each in its file.
+"""Computes, over Python's hashlib alone, the values that the tests of signatures, messages and nodes hold, and looks for each in its file.
 
 It shares no code with the crates: LMS with H5 (RFC 8554), the hash chain of a log, and nodes under Tally are written here again,
-from the formats (docs/FORMATS.md) and the RFC. A node's key has the identifier and the seed that end in the node's number.
+from the formats (docs/FORMATS.md) and the RFC. Key k of a node has the identifier and the seed that end in the node's number, and
+before it bytes k.
 """
 
 import hashlib
@@ -39,13 +40,16 @@ def u64(number):
 class Key:
     """A secret key of RFC 8554, appendix A, with its whole tree."""
 
-    def __init__(self, node, ots_type):
-        self.identifier, self.seed = bytes(12) + u32(node), bytes(28) + u32(node)
+    def __init__(self, node, ots_type, number=0):
+        self.number, self.identifier, self.seed = number, bytes([number]) * 12 + u32(node), bytes([number]) * 28 + u32(node)
         self.ots_type, self.next_leaf = ots_type, 0
         self.width, self.chains, self.shift = OTS[ots_type]
         self.tree = {LEAVES + leaf: self.leaf_hash(leaf) for leaf in range(LEAVES)}
         for r in range(LEAVES - 1, 0, -1):
             self.tree[r] = sha256(self.identifier, u32(r), u16(0x8383), self.tree[2 * r], self.tree[2 * r + 1])
+
+    def public(self):
+        return u32(HEIGHT) + u32(self.ots_type) + self.identifier + self.tree[1]
 
     def leaf_hash(self, leaf):
         ends = [self.chain(leaf, i, self.start(leaf, i), (1 << self.width) - 1) for i in range(self.chains)]
@@ -72,6 +76,11 @@ class Key:
         values = [self.chain(leaf, i, self.start(leaf, i), digit) for i, digit in enumerate(digits)]
         path = [self.tree[((LEAVES + leaf) >> level) ^ 1] for level in range(HEIGHT)]
         return b"".join([u32(leaf), u32(self.ots_type), c, *values, u32(HEIGHT), *path])
+
+    def text(self, message, c):
+        """The signature text: behind a byte with the key's number, where that is not 0."""
+        signature = self.sign(message, c)
+        return signature if self.number == 0 else u8(self.number) + signature
 
 
 def entry_hash(before, seq, kind, content):
@@ -107,7 +116,7 @@ class Node:
 
     def __init__(self, number, first_seq):
         self.number, self.key, self.next_seq, self.end = number, Key(number, self.ots_type), first_seq, sha256()
-        self.total, self.entries, self.signed, self.sent, self.acks, self.awaited = 0, 0, [], {}, {}, []
+        self.total, self.entries, self.signed, self.sent, self.heard, self.awaited = 0, 0, [], {}, {}, []
         self.log(1, u32(number))
 
     def log(self, kind, content):
@@ -120,7 +129,7 @@ class Node:
     def sign(self, entropy, k):
         """Signs the last entry as the signature number k of a call."""
         seq = self.next_seq - 1
-        signature = self.key.sign(u64(seq) + self.end, sha256(entropy, u32(k)))
+        signature = self.key.text(u64(seq) + self.end, sha256(entropy, u32(k)))
         self.signed.append(u32(self.number) + u64(seq) + self.end + u64(len(signature)) + signature)
         return signature
 
@@ -139,11 +148,14 @@ class Node:
         return self.send([(self.number + 1, b"A" + u64(moment))], entropy, 0)
 
     def receive(self, message, entropy):
-        content = message.quote()
-        if content in self.acks:
-            return self.acks[content], []
-        seq, before = self.log(3, content)
-        ack = self.acks[content] = Ack(self.number, message.seq, seq, before, self.sign(entropy, 0))
+        """The acknowledgement and the messages. Nothing where another message of the sender with the number was received."""
+        sent = message.sender, message.seq
+        if sent in self.heard:
+            kept, ack = self.heard[sent]
+            return (ack, []) if kept.fed() == message.fed() else None
+        seq, before = self.log(3, message.quote())
+        ack = Ack(self.number, message.seq, seq, before, self.sign(entropy, 0))
+        self.heard[sent] = message, ack
         if len(message.payload) != 9 or message.payload[:1] != b"A":
             return ack, []
         self.total = min(2**64 - 1, self.total + int.from_bytes(message.payload[1:], "big"))
@@ -156,11 +168,16 @@ class Node:
         self.awaited.remove(ack.send_seq)
 
 
-def message_to_2(key, seq, number):
-    """Node 1's message that adds the number, after 32 zero bytes in its log."""
-    before, payload = bytes(32), b"A" + u64(number)
+def message_with(key, seq, payload):
+    """Node 1's message with the payload, after 32 zero bytes in its log."""
+    before = bytes(32)
     statement = u64(seq) + entry_hash(before, seq, 2, u32(2) + payload)
     return Message(1, 2, seq, before, key.sign(statement, bytes([9]) * 32), payload)
+
+
+def message_to_2(key, seq, number):
+    """Node 1's message that adds the number, after 32 zero bytes in its log."""
+    return message_with(key, seq, b"A" + u64(number))
 
 
 def of_call(number):
@@ -213,6 +230,39 @@ def messages():
     return [sent, sha256(signature), received, sha256(Key(2, 4).sign(u64(11) + received, bytes([8]) * 32))]
 
 
+def taken():
+    """Node 2 receives one of three messages of number 4, and one of number 5."""
+    node, key, digest = Node(2, 1), Key(1, 3), hashlib.sha256()
+    first, second, third, fourth = [message_with(key, seq, payload) for seq, payload in ((4, b"X"), (4, b"Y"), (4, b"X"), (5, b"Y"))]
+    ack, none = node.receive(first, of_call(1))
+    assert (node.receive(second, of_call(2)), node.receive(third, of_call(3)), node.receive(first, of_call(4))) == (None, None, (ack, none))
+    digest.update(ack.fed() + node.receive(fourth, of_call(5))[0].fed())
+    assert (node.entries, len(node.signed), node.awaited, node.key.next_leaf) == (3, 2, [], 2)
+    return [digest.digest(), node.end]
+
+
+def renewed():
+    """Node 2 answers messages until no leaf of its key is left, and one more by its key 1."""
+    node, key = Node(2, 1), Key(1, 3)
+    for seq in range(2, 18):
+        node.receive(message_to_2(key, seq, 1), of_call(seq))
+    assert (node.entries, node.key.next_leaf) == (33, LEAVES)
+    node.key = Key(2, 4, 1)
+    ack, (answer,) = node.receive(message_to_2(key, 18, 1), of_call(18))
+    assert (node.entries, len(node.signed), node.key.next_leaf) == (35, 34, 2)
+    assert len(ack.signature) == len(answer.signature) == 1293
+    return [sha256(ack.fed() + answer.fed()), node.end]
+
+
+def two_keys():
+    """Node 1's keys 0 and 1, and the signature text of number 5 and a hash of 32 bytes 7 by each."""
+    statement = u64(5) + bytes([7]) * 32
+    keys = [Key(1, 4), Key(1, 4, 1)]
+    texts = [key.text(statement, bytes(32)) for key in keys]
+    assert [len(text) for text in texts] == [1292, 1293]
+    return [key.public() for key in keys] + texts
+
+
 def round_of_calls():
     """Each call of a node once: node 1 asks, node 2 answers, and makes a checkpoint."""
     asking, answering = Node(1, 1), Node(2, 1)
@@ -228,8 +278,11 @@ def main():
     crates = os.path.join(os.path.dirname(os.path.abspath(__file__)), "..", "crates")
     missing = 0
     for path, values in (
+        ("authenticators_tests/src/signatures.rt", two_keys()),
         ("commitment_tests/src/calls.rt", messages()),
         ("commitment_tests/src/nodes/each_call.rt", round_of_calls()),
+        ("commitment_tests/src/nodes/receptions.rt", taken()),
+        ("commitment_tests/src/nodes/keys.rt", renewed()),
         ("commitment_tests/src/nodes.rt", spent() + exchange() + checkpoint()),
     ):
         with open(os.path.join(crates, path), encoding="utf-8") as file:

@@ -1,3 +1,8 @@
+//! Directories of nodes with one key each, the older of the two texts, and statements.
+
+mod keys;
+mod texts;
+
 use authenticators::{Authenticator, Directory, DirectoryFault, NodeId, statement_text};
 use lms_sign::PublicKey;
 use log_chain::{ByteString, Hash};
@@ -153,20 +158,6 @@ fn a_directory_has_a_length(rt: HostRuntime) -> Result<(), Fail> {
     Ok(())
 }
 
-/// The text of the directory that is read of a text.
-fn written_again(alloc: Global, text: &[u8]) -> Result<Vec<u8>, Fail> {
-    let directory = Box::new(alloc, Directory::from_bytes(alloc, text)?)?;
-    Ok(directory.to_bytes()?)
-}
-
-#[test]
-fn a_directory_is_written_as_it_was_read(rt: HostRuntime) -> Result<(), Fail> {
-    let text = directory_text(rt.alloc(), [0, 0, 0, 2], &two_nodes())?;
-    let written = written_again(rt.alloc(), &text)?;
-    assert!(rt; written.as_slice() == text.as_slice());
-    Ok(())
-}
-
 /// Whether the value is shown as this text.
 fn is_shown_as<T: Display + Drop>(alloc: Global, value: T, want: &str) -> Result<bool, Fail> {
     let shown = format!(in alloc; "{value}")?;
@@ -174,10 +165,17 @@ fn is_shown_as<T: Display + Drop>(alloc: Global, value: T, want: &str) -> Result
 }
 
 #[test]
-fn a_refusal_has_number_name_and_line(rt: HostRuntime) -> Result<(), Fail> {
-    let fault = DirectoryFault::DuplicateKey;
-    assert!(rt; fault.number() == 21 && fault.name() == "DuplicateKey");
-    assert!(rt; is_shown_as(rt.alloc(), fault, "the directory lists the key already")?);
+fn refusals_have_numbers_names_and_lines(rt: HostRuntime) -> Result<(), Fail> {
+    let [key, count, node] = [
+        DirectoryFault::DuplicateKey,
+        DirectoryFault::KeyCount,
+        DirectoryFault::UnlistedNode,
+    ];
+    assert!(rt; [key.number(), count.number(), node.number()] == [21, 26, 27]);
+    assert!(rt;
+        [key.name(), count.name(), node.name()] == ["DuplicateKey", "KeyCount", "UnlistedNode"]
+    );
+    assert!(rt; is_shown_as(rt.alloc(), key, "the directory lists the key already")?);
     Ok(())
 }
 

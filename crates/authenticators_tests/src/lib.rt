@@ -4,4 +4,6 @@
 #[cfg(test)]
 mod directories;
 #[cfg(test)]
+mod signatures;
+#[cfg(test)]
 mod stores;

@@ -285,12 +285,14 @@ fn is_shown_as(alloc: Global, fault: NodeFault, want: &str) -> Result<bool, Fail
 
 #[test]
 fn faults_have_lines_names_and_numbers(rt: HostRuntime) -> Result<(), Fail> {
-    let full = NodeFault::LogFull;
+    let [full, taken] = [NodeFault::LogFull, NodeFault::NumberTaken];
     let [node, key, memory] = [NewFault::UnknownNode, NewFault::WrongKey, NewFault::Memory];
-    let numbers = [node.number(), key.number(), memory.number(), full.number()];
-    assert!(rt; numbers == [30, 31, 99, 37]);
-    let names = [node.name(), key.name(), memory.name(), full.name()];
-    assert!(rt; names == ["UnknownNode", "WrongKey", "Memory", "LogFull"]);
+    let numbers = [node.number(), key.number(), memory.number()];
+    assert!(rt; numbers == [30, 31, 99]);
+    assert!(rt; [full.number(), taken.number()] == [37, 39]);
+    let names = [node.name(), key.name(), memory.name()];
+    assert!(rt; names == ["UnknownNode", "WrongKey", "Memory"]);
+    assert!(rt; [full.name(), taken.name()] == ["LogFull", "NumberTaken"]);
     assert!(rt; is_shown_as(rt.alloc(), full, "the log is full")?);
     Ok(())
 }

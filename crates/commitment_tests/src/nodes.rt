@@ -2,6 +2,8 @@
 
 mod each_call;
 mod fixtures;
+mod keys;
+mod receptions;
 
 use commitment::{Ack, Message, Node, NodeFault};
 use fixtures::{

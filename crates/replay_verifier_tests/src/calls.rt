@@ -2,8 +2,8 @@
 
 use authenticators::{Directory, NodeId};
 use lms_sign::PublicKey;
-use log_chain::{ByteString, Hash};
-use replay_verifier::{Output, OutputList, Reason, Receipt, outs};
+use log_chain::{ByteString, Entry, Hash, kind};
+use replay_verifier::{Output, OutputList, Reason, Receipt, outs, quoted_hashes};
 use std::alloc::Global;
 use std::test::Fail;
 
@@ -115,9 +115,14 @@ fn output_lists_have_lengths(rt: HostRuntime) -> Result<(), Fail> {
 
 #[test]
 fn reasons_have_numbers_and_names(rt: HostRuntime) -> Result<(), Fail> {
-    assert_eq!(rt; Reason::SeqOrder.number(), 1);
-    assert_eq!(rt; Reason::WrongCheckpoint.number(), 9);
-    assert!(rt; Reason::MissingOutput.name() == "MissingOutput");
+    let reasons = [
+        Reason::SeqOrder,
+        Reason::WrongCheckpoint,
+        Reason::DuplicateReceipt,
+    ];
+    assert!(rt; reasons.map(|reason| reason.number()) == [1, 9, 10]);
+    let names = ["SeqOrder", "WrongCheckpoint", "DuplicateReceipt"];
+    assert!(rt; reasons.map(|reason| reason.name()) == names);
     Ok(())
 }
 
@@ -203,22 +208,33 @@ fn the_signed_hash_is_that_of_the_send_entry(rt: HostRuntime) -> Result<(), Fail
     Ok(())
 }
 
-/// The hash of the entry that the content quotes genuinely at the node, if it does.
-fn genuine_hash_at(directory: &Directory, content: &[u8], me: u32) -> Option<Hash> {
-    match Receipt::read(content) {
-        Some(receipt) => receipt.genuine_hash(directory, NodeId(me)),
-        None => None,
-    }
+/// Whether a RECV entry of this content is told to quote, at the node, an entry of this hash.
+fn is_quoted_at(
+    alloc: Global,
+    directory: &Directory,
+    content: &[u8],
+    me: u32,
+    hash: Option<Hash>,
+) -> Result<bool, Fail> {
+    let content = ByteString::from_slice(alloc, content)?;
+    let mut entries = Vec::new(alloc);
+    entries.push(Entry {
+        seq: 1,
+        kind: kind::RECV,
+        content,
+    })?;
+    let quotes = quoted_hashes(alloc, directory, NodeId(me), &entries)?;
+    Ok(quotes.as_slice() == [hash].as_slice())
 }
 
 #[test]
 fn a_genuine_receipt_is_told_by_the_hash_of_its_entry(rt: HostRuntime) -> Result<(), Fail> {
-    let directory = signer_and_receiver(rt.alloc())?;
-    let content = signed_content(rt.alloc())?;
-    let at_two = genuine_hash_at(&directory, &content, 2);
-    let at_one = genuine_hash_at(&directory, &content, 1);
-    let hash = entry_hash()?;
-    assert_eq!(rt; [at_two, at_one], [Some(hash), None]);
+    let alloc = rt.alloc();
+    let directory = signer_and_receiver(alloc)?;
+    let content = signed_content(alloc)?;
+    for (me, hash) in [(2, Some(entry_hash()?)), (1, None)] {
+        assert!(rt; is_quoted_at(alloc, &directory, &content, me, hash)?);
+    }
     Ok(())
 }
 

@@ -15,24 +15,45 @@ fn directory_text() -> &'static str {
     "505244495245435400000003000000010000000500000003000000000000000000000000000000015911ca998bb9efb12495dce31c4d5a9d47c70736184efb430e0f4ea04cf2c4f90000000200000005000000030000000000000000000000000000000250931abf9c49bda75cfb75f27e508c717aeb028ccb0f029be8d475122e119d640000000300000005000000030000000000000000000000000000000391d94256fe6f7c0dccb633d361c8585c98cded65c6d82d94c7086326e5a443a4"
 }
 
-/// The node's key.
-pub fn key_of(alloc: Global, node: u8) -> Result<SecretKey, Fail> {
-    let mut id = [0; 16];
-    id[15] = node;
-    let mut seed = [0; 32];
-    seed[31] = node;
-    Ok(SecretKey::make(alloc, LmsType::H5, OtsType::W4, id, seed)?)
+/// The node's key with this number (H5): identifier and seed end in the node's, after bytes of the key's.
+pub fn numbered_key(alloc: Global, node: u8, number: u8, ots: OtsType) -> Result<SecretKey, Fail> {
+    let mut id = [number; 16];
+    id[12..].copy_from_slice(&[0, 0, 0, node]);
+    let mut seed = [number; 32];
+    seed[28..].copy_from_slice(&[0, 0, 0, node]);
+    Ok(SecretKey::make(alloc, LmsType::H5, ots, id, seed)?)
 }
 
-/// A node under Tally, whose log begins at the number.
-pub fn begin(alloc: Global, node: u8, first_seq: u64) -> Result<Box<Node<Tally>>, Fail> {
-    let directory = Directory::from_bytes(alloc, &hex::decode(alloc, directory_text())?)?;
-    let key = key_of(alloc, node)?;
+/// The node's key 0.
+pub fn key_of(alloc: Global, node: u8) -> Result<SecretKey, Fail> {
+    numbered_key(alloc, node, 0, OtsType::W4)
+}
+
+/// That directory.
+pub fn directory_of_three(alloc: Global) -> Result<Directory, Fail> {
+    Ok(Directory::from_bytes(alloc, &hex::decode(alloc, directory_text())?)?)
+}
+
+/// A node under Tally in the directory, which signs by the key and whose log begins at the number.
+pub fn begin_in(
+    alloc: Global,
+    directory: Directory,
+    node: u8,
+    key: SecretKey,
+    first_seq: u64,
+) -> Result<Box<Node<Tally>>, Fail> {
     let id = NodeId(u32::from(node));
     match Node::new(alloc, Tally, directory, id, key, first_seq) {
         Ok(node) => Ok(Box::new(alloc, node)?),
         Err(refused) => Err(refused.fault)?,
     }
+}
+
+/// A node under Tally, which signs by its key 0 and whose log begins at the number.
+pub fn begin(alloc: Global, node: u8, first_seq: u64) -> Result<Box<Node<Tally>>, Fail> {
+    let directory = directory_of_three(alloc)?;
+    let key = key_of(alloc, node)?;
+    begin_in(alloc, directory, node, key, first_seq)
 }
 
 /// The nodes 1 and 2, whose logs begin at 1.
@@ -82,6 +103,11 @@ impl Seen {
         )
     }
 
+    /// Whether they are the same.
+    pub fn is_same(&self, other: &Seen) -> bool {
+        self.counts() == other.counts() && self.last == other.last
+    }
+
     /// Whether the log ends with this number and the hash in hexadecimal.
     pub fn ends_with(&self, seq: u64, text: &str) -> Result<bool, Fail> {
         Ok(self.last == Some((seq, hash_of(text)?)))
@@ -115,15 +141,14 @@ fn send_entry(alloc: Global, seq: u64, payload: &ByteString) -> Result<Entry, Fa
     })
 }
 
-/// Node 1's message to node 2 that adds `number`. It stands at `seq` after 32 zero bytes in its sender's log, and the C of its
+/// Node 1's message to node 2 with the payload. It stands at `seq` after 32 zero bytes in its sender's log, and the C of its
 /// signature is 32 bytes 9.
-pub fn message_to_2(
+pub fn message_with(
     alloc: Global,
     key: &mut SecretKey,
     seq: u64,
-    number: u64,
+    payload: ByteString,
 ) -> Result<Message, Fail> {
-    let payload = add_text(alloc, number)?;
     let prev = Hash([0; 32]);
     let hash = entry_hash(prev, &send_entry(alloc, seq, &payload)?);
     let sig = key.sign(alloc, &statement_text(seq, hash), [9; 32])?;
@@ -135,6 +160,16 @@ pub fn message_to_2(
         sig: ByteString::from_vec(sig),
         payload,
     })
+}
+
+/// Node 1's message to node 2 that adds `number`.
+pub fn message_to_2(
+    alloc: Global,
+    key: &mut SecretKey,
+    seq: u64,
+    number: u64,
+) -> Result<Message, Fail> {
+    message_with(alloc, key, seq, add_text(alloc, number)?)
 }
 
 /// Feeds a message's fields in order, and before each text its length in 8 bytes.
