@@ -58,7 +58,10 @@ fn verdict_on(
     prev: Hash,
     entries: Vec<Entry>,
 ) -> Result<Option<Verdict>, Fail> {
-    let last = entries.last().map_or(0, |entry| entry.seq);
+    let last = match entries.last() {
+        Some(entry) => entry.seq,
+        None => 0,
+    };
     let hash = chain_end(prev, &entries);
     let sig = signed(alloc, &mut receiver.key, last, hash)?;
     let item = Item::segment(NodeId(2), prev, entries, sig)?;
