@@ -13,15 +13,18 @@ use ref_programs::Tally;
 use std::alloc::Global;
 use std::test::Fail;
 
-fn make_key(alloc: Global) -> Result<Box<SecretKey>, Fail> {
-    let key = SecretKey::make(alloc, LmsType::H5, OtsType::W4, [1; 16], [2; 32])?;
+/// The key of the node.
+pub(crate) fn make_key(alloc: Global, node: u8) -> Result<Box<SecretKey>, Fail> {
+    let key = SecretKey::make(alloc, LmsType::H5, OtsType::W4, [node; 16], [2; 32])?;
     Ok(Box::new(alloc, key)?)
 }
 
-fn new_node(alloc: Global) -> Result<Box<Node<Tally>>, Fail> {
-    let key = make_key(alloc)?;
-    let mut directory = Box::new(alloc, Directory::new(alloc))?;
-    directory.add(NodeId(1), key.public_key())?;
+/// Node 1 under Tally.
+pub(crate) fn node_of(
+    alloc: Global,
+    directory: Box<Directory>,
+    key: Box<SecretKey>,
+) -> Result<Box<Node<Tally>>, Fail> {
     let (directory, key) = (Box::into_inner(directory), Box::into_inner(key));
     match Node::new(alloc, Tally, directory, NodeId(1), key, 1) {
         Ok(node) => Ok(Box::new(alloc, node)?),
@@ -29,8 +32,15 @@ fn new_node(alloc: Global) -> Result<Box<Node<Tally>>, Fail> {
     }
 }
 
+fn new_node(alloc: Global) -> Result<Box<Node<Tally>>, Fail> {
+    let key = make_key(alloc, 1)?;
+    let mut directory = Box::new(alloc, Directory::new(alloc))?;
+    directory.add(NodeId(1), key.public_key())?;
+    node_of(alloc, directory, key)
+}
+
 /// A store without items, under the node's directory.
-fn new_store(alloc: Global, node: &Node<Tally>) -> Result<Box<PlainStore<Tally>>, Fail>
+pub(crate) fn new_store(alloc: Global, node: &Node<Tally>) -> Result<Box<PlainStore<Tally>>, Fail>
     ensures { IfOk result (λ s. s.value.directory ≡ node.now.directory) }
 {
     let directory = node.directory().try_clone()?;
@@ -51,7 +61,11 @@ fn statement(alloc: Global, key: &mut SecretKey, hash: Hash) -> Result<Box<Item>
 }
 
 /// Takes the item, if it is valid.
-fn take(alloc: Global, store: &mut PlainStore<Tally>, item: Box<Item>) -> Result<(), Fail>
+pub(crate) fn take(
+    alloc: Global,
+    store: &mut PlainStore<Tally>,
+    item: Box<Item>,
+) -> Result<(), Fail>
     ensures { OnOk result (store.new.directory ≡ store.old.directory) }
 {
     let checked = check_item(alloc, &Tally, store.directory(), Box::into_inner(item))?;
@@ -63,7 +77,7 @@ fn take(alloc: Global, store: &mut PlainStore<Tally>, item: Box<Item>) -> Result
 fn take_forgeries(alloc: Global, store: &mut PlainStore<Tally>) -> Result<(), Fail>
     ensures { OnOk result (store.new.directory ≡ store.old.directory) }
 {
-    let mut stolen = make_key(alloc)?;
+    let mut stolen = make_key(alloc, 1)?;
     let first = statement(alloc, &mut stolen, Hash([1; 32]))?;
     let second = statement(alloc, &mut stolen, Hash([2; 32]))?;
     take(alloc, store, first)?;

@@ -11,7 +11,7 @@ use ref_programs::Tally;
 use std::alloc::Global;
 use std::test::Fail;
 
-const MAGIC: [u8; 8] = *b"PRSTORE1";
+const MAGIC: [u8; 8] = *b"PRSTORE2";
 
 /// Node 1 with its key, which makes short work of signing.
 #[derive(Drop)]
@@ -157,7 +157,7 @@ fn faults(alloc: Global) -> Result<[Option<ImportFault>; 7], Fail> {
     let text = container(alloc, &mut signer, [5, 6])?;
     let directory = &signer.directory;
     let second = 8 + text.len() / 2;
-    let other_magic = refusal_of_changed(alloc, directory, &text, 7, b'2')?;
+    let other_magic = refusal_of_changed(alloc, directory, &text, 7, b'1')?;
     let long = refusal_of_changed(alloc, directory, &text, 16, 0x21)?;
     let other_tag = refusal_of_changed(alloc, directory, &text, second + 4, 9)?;
     let longer = refusal_of_longer(alloc, directory, &text)?;
@@ -187,6 +187,40 @@ fn each_fault_is_told_at_its_item(rt: HostRuntime) -> Result<(), Fail> {
             at(2, Cause::Trailing),
         ]
     );
+    Ok(())
+}
+
+/// Why the text of the magic and these bytes is refused, if it is.
+fn refusal_behind_magic(alloc: Global, bytes: &[u8]) -> Result<Option<ImportFault>, Fail> {
+    let mut text = Vec::from_slice(alloc, &MAGIC)?;
+    text.extend_from_slice(bytes)?;
+    Ok(refusal(alloc, &Directory::new(alloc), &text))
+}
+
+#[test]
+fn a_count_takes_no_memory(rt: HostRuntime) -> Result<(), Fail> {
+    assert_eq!(rt;
+        refusal_behind_magic(rt.alloc(), &[0xff; 8])?,
+        at(0, Cause::Truncated)
+    );
+    Ok(())
+}
+
+/// The same of the count 1 and of this length of the item, of which no byte is there.
+fn refusal_of_length(alloc: Global, len: [u8; 4]) -> Result<Option<ImportFault>, Fail> {
+    let [a, b, c, d] = len;
+    refusal_behind_magic(alloc, &[0, 0, 0, 0, 0, 0, 0, 1, a, b, c, d])
+}
+
+#[test]
+fn an_item_has_a_greatest_length(rt: HostRuntime) -> Result<(), Fail> {
+    let told = [
+        refusal_of_length(rt.alloc(), [0x20, 0x00, 0xf4, 0x9a])?,
+        refusal_of_length(rt.alloc(), [0x20, 0x00, 0xf4, 0x9b])?,
+        refusal_of_length(rt.alloc(), [0x20, 0x00, 0xff, 0xff])?,
+    ];
+    let long = at(0, Cause::TooLong);
+    assert_eq!(rt; told, [at(0, Cause::Truncated), long, long]);
     Ok(())
 }
 
@@ -250,7 +284,7 @@ fn pieces_are_read_as_the_whole(rt: HostRuntime) -> Result<(), Fail> {
 fn answers(alloc: Global) -> Result<[Result<(), ImportFault>; 2], Fail> {
     let signer = make_signer(alloc)?;
     let mut reading: Reading<Tally> = Reading::new(alloc, MAGIC);
-    let first = reading.feed(&Tally, &signer.directory, b"PRSTORE2");
+    let first = reading.feed(&Tally, &signer.directory, b"PRPACK01");
     let second = reading.feed(&Tally, &signer.directory, &[]);
     Ok([first, second])
 }

@@ -6,4 +6,8 @@ mod checking;
 #[cfg(test)]
 mod finding;
 #[cfg(test)]
+mod receipts;
+#[cfg(test)]
 mod samples;
+#[cfg(test)]
+mod second_key;

@@ -63,7 +63,7 @@ pub(crate) struct Nodes {
 }
 
 /// The key (H5, W4) whose identifier and seed end in the number.
-fn key_of(alloc: Global, node: u8) -> Result<Box<SecretKey>, Fail> {
+pub(crate) fn key_of(alloc: Global, node: u8) -> Result<Box<SecretKey>, Fail> {
     let mut id = [0; 16];
     id[15] = node;
     let mut seed = [0; 32];
@@ -92,7 +92,12 @@ pub(crate) fn no_bytes(alloc: Global) -> ByteString {
 pub(crate) const ZEROS: Hash = Hash([0; 32]);
 
 /// The key's signature of number and hash.
-fn signed(alloc: Global, key: &mut SecretKey, seq: u64, hash: Hash) -> Result<ByteString, Fail> {
+pub(crate) fn signed(
+    alloc: Global,
+    key: &mut SecretKey,
+    seq: u64,
+    hash: Hash,
+) -> Result<ByteString, Fail> {
     let sig = key.sign(alloc, &statement_text(seq, hash), [9; 32])?;
     Ok(ByteString::from_vec(sig))
 }
@@ -160,8 +165,8 @@ pub(crate) fn valid_ack(alloc: Global, nodes: &mut Nodes) -> Result<Box<Item>, F
     Ok(Box::new(alloc, item)?)
 }
 
-/// What a RECV entry quotes of the message, with the last byte changed by `change`.
-fn quote_of(alloc: Global, message: &Message, change: u8) -> Result<ByteString, Fail> {
+/// What a RECV entry quotes of the message.
+pub(crate) fn quote_of(alloc: Global, message: &Message) -> Result<Vec<u8>, Fail> {
     let mut content = Vec::new(alloc);
     content.extend_from_slice(&message.from.0.to_be_bytes())?;
     content.extend_from_slice(&message.seq.to_be_bytes())?;
@@ -169,13 +174,19 @@ fn quote_of(alloc: Global, message: &Message, change: u8) -> Result<ByteString, 
     content.extend_from_slice(&u32::try_from(message.sig.len())?.to_be_bytes())?;
     content.extend_from_slice(message.sig.as_slice())?;
     content.extend_from_slice(message.payload.as_slice())?;
+    Ok(content)
+}
+
+/// The same with the last byte changed.
+fn changed_quote_of(alloc: Global, message: &Message) -> Result<ByteString, Fail> {
+    let mut content = quote_of(alloc, message)?;
     if let Some(byte) = content.last_mut() {
-        *byte ^= change;
+        *byte ^= 1;
     }
     Ok(ByteString::from_vec(content))
 }
 
-fn entry_of(seq: u64, kind: u8, content: ByteString) -> Entry {
+pub(crate) fn entry_of(seq: u64, kind: u8, content: ByteString) -> Entry {
     Entry { seq, kind, content }
 }
 
@@ -185,9 +196,9 @@ fn log_of(alloc: Global, nodes: &mut Nodes) -> Result<Vec<Entry>, Fail> {
     let mut entries = Vec::new(alloc);
     let me = ByteString::from_slice(alloc, &[0, 0, 0, 2])?;
     entries.push(entry_of(1, kind::INIT, me))?;
-    let changed = quote_of(alloc, &message, 1)?;
+    let changed = changed_quote_of(alloc, &message)?;
     entries.push(entry_of(2, kind::RECV, changed))?;
-    let honest = quote_of(alloc, &message, 0)?;
+    let honest = ByteString::from_vec(quote_of(alloc, &message)?);
     entries.push(entry_of(4, kind::RECV, honest))?;
     Ok(entries)
 }

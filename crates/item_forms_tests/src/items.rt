@@ -42,22 +42,17 @@ fn is_written_again(alloc: Global, text: &[u8]) -> Result<bool, Fail> {
     Ok(item.encoded_len() == text.len() && again.as_slice() == text)
 }
 
-/// The refusals of the text with a byte more, with a byte less, under tag 6, and with a signature of 9,325 bytes; and that of no
-/// byte.
-fn refusals(alloc: Global) -> [u8; 5] {
+/// The refusals of the text with a byte more, with a byte less, and under tag 6; and that of no byte.
+fn refusals(alloc: Global) -> [u8; 4] {
     let text = auth_text();
     let mut longer = [0u8; 50];
     longer[..49].copy_from_slice(&text);
     let mut other_tag = text;
     other_tag[0] = 6;
-    let mut long_signature = text;
-    long_signature[47] = 0x24;
-    long_signature[48] = 0x6d;
     [
         refusal(alloc, &longer),
         refusal_of_front(alloc, &text),
         refusal(alloc, &other_tag),
-        refusal(alloc, &long_signature),
         refusal(alloc, &[]),
     ]
 }
@@ -65,7 +60,24 @@ fn refusals(alloc: Global) -> [u8; 5] {
 #[test]
 fn a_statement_has_its_text(rt: HostRuntime) -> Result<(), Fail> {
     assert!(rt; is_written_again(rt.alloc(), &auth_text())?);
-    assert!(rt; refusals(rt.alloc()) == [43, 40, 41, 42, 40]);
+    assert!(rt; refusals(rt.alloc()) == [43, 40, 41, 40]);
+    Ok(())
+}
+
+/// The refusal of the text with this length of its signature, of which no byte is there.
+fn refusal_of_length(alloc: Global, len: [u8; 4]) -> u8 {
+    let mut text = auth_text();
+    text[45..].copy_from_slice(&len);
+    refusal(alloc, &text)
+}
+
+#[test]
+fn a_signature_that_is_read_has_a_greatest_length(rt: HostRuntime) -> Result<(), Fail> {
+    let numbers = [
+        refusal_of_length(rt.alloc(), [0, 0, 0x24, 0x6d]),
+        refusal_of_length(rt.alloc(), [0, 0, 0x24, 0x6e]),
+    ];
+    assert!(rt; numbers == [40, 42]);
     Ok(())
 }
 
@@ -279,7 +291,7 @@ fn is_made(alloc: Global, len: usize) -> Result<bool, Fail> {
 
 #[test]
 fn a_signature_has_a_greatest_length(rt: HostRuntime) -> Result<(), Fail> {
-    assert!(rt; is_made(rt.alloc(), 9324)? && !is_made(rt.alloc(), 9325)?);
+    assert!(rt; is_made(rt.alloc(), 9325)? && !is_made(rt.alloc(), 9326)?);
     Ok(())
 }
 

@@ -1,4 +1,4 @@
-//! What a segment tells of its numbers and its pairs.
+//! What a segment tells of its last number and its pairs.
 
 use authenticators::NodeId;
 use item_forms::Segment;
@@ -12,12 +12,10 @@ fn no_bytes(alloc: Global) -> ByteString {
     ByteString::from_vec(Vec::new(alloc))
 }
 
-/// What a segment tells of its numbers, and whether it has pairs, without and with the hashes that are known.
+/// What a segment tells of its last number, and whether it has pairs, without and with the hashes that are known.
 #[derive(Clone, Copy, PartialEq, Eq)]
 struct Numbers {
-    first: Option<u64>,
     last: Option<u64>,
-    is_rising: bool,
     has: [bool; 2],
     has_found: [bool; 2],
 }
@@ -40,9 +38,7 @@ fn numbers_of(alloc: Global) -> Result<Numbers, Fail> {
     };
     let known = [hash];
     Ok(Numbers {
-        first: segment.first_seq(),
         last: segment.last_seq(),
-        is_rising: segment.is_rising(),
         has: [segment.has_pair(3, hash), segment.has_pair(3, ZEROS)],
         has_found: [
             segment.has_found_pair(&known, 3, hash),
@@ -54,9 +50,7 @@ fn numbers_of(alloc: Global) -> Result<Numbers, Fail> {
 #[test]
 fn a_segment_has_numbers_and_pairs(rt: HostRuntime) -> Result<(), Fail> {
     let expected = Numbers {
-        first: Some(3),
         last: Some(3),
-        is_rising: true,
         has: [true, false],
         has_found: [true, false],
     };

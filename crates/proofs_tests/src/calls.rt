@@ -1,11 +1,15 @@
 //! What contradicts a segment, and the texts of proofs: values from outside, and each public call once on its happy path.
 
+ghost use Rattle.std.specs.Prelude.{◌≡◌, IfOk};
+ghost use Rattle.log_chain.specs.Chain.{hashes};
+
 use authenticators::{Authenticator, NodeId};
 use evidence_item::Segment;
 use log_chain::{
-    ByteString, Entry, EntryList, FieldReader, FieldWriter, Hash, base_hash, chain_end, kind,
+    ByteString, Entry, EntryList, FieldReader, FieldWriter, Hash, base_hash, chain_end, entry_hash,
+    kind,
 };
-use proofs::{DecodeFault, Item, Parts, Proof, WrongTag, contradicts, read_framed, write_framed};
+use proofs::{DecodeFault, Item, Outline, Parts, Proof, read_framed, write_framed};
 use std::alloc::Global;
 use std::test::Fail;
 
@@ -30,15 +34,30 @@ fn entries_of(alloc: Global, numbers: &[u64]) -> Result<Vec<Entry>, Fail> {
     Ok(entries)
 }
 
+/// The hash of each entry, after the hash `prev`.
+fn hashes_of(alloc: Global, prev: Hash, entries: &[Entry]) -> Result<Vec<Hash>, Fail>
+    ensures { IfOk result (λ all. all.items ≡ hashes prev entries.now) }
+{
+    let mut all = Vec::new(alloc);
+    let mut hash = prev;
+    for entry in entries {
+        hash = entry_hash(hash, entry);
+        all.push(hash)?;
+    }
+    Ok(all)
+}
+
 /// Whether the statement contradicts a segment of entries of these numbers after the hash.
 fn is_told(alloc: Global, prev: Hash, numbers: &[u64], seq: u64, hash: Hash) -> Result<bool, Fail> {
+    let entries = entries_of(alloc, numbers)?;
+    let hashes = hashes_of(alloc, prev, &entries)?;
     let segment = Segment {
         node: NodeId(1),
         prev,
-        entries: EntryList::from_vec(entries_of(alloc, numbers)?),
+        entries: EntryList::from_vec(entries),
         sig: no_bytes(alloc),
     };
-    Ok(contradicts(&segment, seq, hash))
+    Ok(Outline::new(&segment, &hashes).contradicts(seq, hash))
 }
 
 /// The hash of the last of entries of these numbers after 32 zero bytes.
@@ -113,16 +132,16 @@ fn segment_item(alloc: Global) -> Result<Box<Item>, Fail> {
     Ok(Box::new(alloc, item)?)
 }
 
-pub(crate) fn two_auths(first: Box<Item>, second: Box<Item>) -> Result<Proof, WrongTag> {
-    Proof::two_auths(Box::into_inner(first), Box::into_inner(second))
+pub(crate) fn two_auths(first: Box<Item>, second: Box<Item>) -> Result<Proof, Fail> {
+    Ok(Proof::two_auths(Box::into_inner(first), Box::into_inner(second))?)
 }
 
-pub(crate) fn auth_segment(auth: Box<Item>, segment: Box<Item>) -> Result<Proof, WrongTag> {
-    Proof::auth_segment(Box::into_inner(auth), Box::into_inner(segment))
+pub(crate) fn auth_segment(auth: Box<Item>, segment: Box<Item>) -> Result<Proof, Fail> {
+    Ok(Proof::auth_segment(Box::into_inner(auth), Box::into_inner(segment))?)
 }
 
-pub(crate) fn nonconforming(segment: Box<Item>) -> Result<Proof, WrongTag> {
-    Proof::nonconforming(Box::into_inner(segment))
+pub(crate) fn nonconforming(segment: Box<Item>) -> Result<Proof, Fail> {
+    Ok(Proof::nonconforming(Box::into_inner(segment))?)
 }
 
 /// A proof of each form, by its number.
@@ -221,19 +240,57 @@ fn other_texts_are_refused(rt: HostRuntime) -> Result<(), Fail> {
     Ok(())
 }
 
-fn is_refused(made: Result<Proof, WrongTag>) -> bool {
-    made.is_err()
+/// The refusal of a proof whose first item has this length, of which no byte is there.
+fn refusal_of_length(alloc: Global, len: [u8; 4]) -> u8 {
+    let [a, b, c, d] = len;
+    refusal(alloc, &[1, a, b, c, d])
+}
+
+#[test]
+fn an_item_has_a_greatest_length(rt: HostRuntime) -> Result<(), Fail> {
+    let numbers = [
+        refusal_of_length(rt.alloc(), [0x20, 0x00, 0xf4, 0x9a]),
+        refusal_of_length(rt.alloc(), [0x20, 0x00, 0xf4, 0x9b]),
+    ];
+    assert_eq!(rt; numbers, [40, 42]);
+    Ok(())
+}
+
+/// The number of the refusal of two items as two statements, or 0 where they make a proof.
+fn refusal_of_two(first: Box<Item>, second: Box<Item>) -> u8 {
+    match Proof::two_auths(Box::into_inner(first), Box::into_inner(second)) {
+        Ok(_) => 0,
+        Err(refused) => refused.number(),
+    }
+}
+
+/// The same of two items as a statement and a segment.
+fn refusal_of_both(auth: Box<Item>, segment: Box<Item>) -> u8 {
+    match Proof::auth_segment(Box::into_inner(auth), Box::into_inner(segment)) {
+        Ok(_) => 0,
+        Err(refused) => refused.number(),
+    }
+}
+
+/// The same of an item as a segment.
+fn refusal_of_one(segment: Box<Item>) -> u8 {
+    match Proof::nonconforming(Box::into_inner(segment)) {
+        Ok(_) => 0,
+        Err(refused) => refused.number(),
+    }
 }
 
 #[test]
 fn other_items_make_no_proof(rt: HostRuntime) -> Result<(), Fail> {
     let alloc = rt.alloc();
-    let refused = two_auths(auth_of(alloc, 5, ZEROS)?, segment_item(alloc)?);
-    assert!(rt; is_refused(refused));
-    let refused = auth_segment(segment_item(alloc)?, segment_item(alloc)?);
-    assert!(rt; is_refused(refused));
-    let refused = nonconforming(auth_of(alloc, 5, ZEROS)?);
-    assert!(rt; is_refused(refused));
+    let numbers = [
+        refusal_of_two(auth_of(alloc, 5, ZEROS)?, segment_item(alloc)?),
+        refusal_of_two(segment_item(alloc)?, auth_of(alloc, 5, ZEROS)?),
+        refusal_of_both(segment_item(alloc)?, segment_item(alloc)?),
+        refusal_of_both(auth_of(alloc, 5, ZEROS)?, auth_of(alloc, 5, ZEROS)?),
+        refusal_of_one(auth_of(alloc, 5, ZEROS)?),
+    ];
+    assert_eq!(rt; numbers, [41; 5]);
     Ok(())
 }
 

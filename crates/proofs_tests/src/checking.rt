@@ -25,13 +25,13 @@ fn make_node(alloc: Global) -> Result<Box<Node>, Fail> {
 
 /// What checking tells: the node that is convicted, or the number of the refusal.
 #[derive(Clone, Copy, Debug, PartialEq, Eq)]
-enum Answer {
+pub(crate) enum Answer {
     Convicted(u32),
     Refused(u8),
 }
 
-fn told(alloc: Global, node: &Node, proof: &Proof) -> Answer {
-    match check_proof(alloc, &Tally, &node.directory, proof) {
+pub(crate) fn told(alloc: Global, directory: &Directory, proof: &Proof) -> Answer {
+    match check_proof(alloc, &Tally, directory, proof) {
         Ok(node) => Answer::Convicted(node.0),
         Err(fault) => Answer::Refused(fault.number()),
     }
@@ -57,7 +57,7 @@ fn signed_auth(alloc: Global, node: &mut Node, seq: u64, hash: Hash) -> Result<B
 /// What is told of the form's proof that is not signed.
 fn told_of_unsigned(alloc: Global, node: &Node, form: u8) -> Result<Answer, Fail> {
     let proof = proof_of(alloc, form)?;
-    Ok(told(alloc, node, &proof))
+    Ok(told(alloc, &node.directory, &proof))
 }
 
 /// What is told of node 1's statements of number 5 and zeros, and of another number and hash.
@@ -65,7 +65,7 @@ fn told_of_two(alloc: Global, node: &mut Node, seq: u64, hash: Hash) -> Result<A
     let first = signed_auth(alloc, node, 5, ZEROS)?;
     let second = signed_auth(alloc, node, seq, hash)?;
     let proof = two_auths(first, second)?;
-    Ok(told(alloc, node, &proof))
+    Ok(told(alloc, &node.directory, &proof))
 }
 
 /// What is told of two hashes of one number, of one hash, of two numbers, and of two hashes that are not signed.
@@ -110,7 +110,7 @@ fn told_of_segment(alloc: Global, node: &mut Node, seq: u64) -> Result<Answer, F
     let auth = signed_auth(alloc, node, seq, ZEROS)?;
     let segment = log_segment(alloc, node, &[0, 0, 0, 1])?;
     let proof = auth_segment(auth, segment)?;
-    Ok(told(alloc, node, &proof))
+    Ok(told(alloc, &node.directory, &proof))
 }
 
 /// The same of the statements of the numbers 5, 0 and 6.
@@ -138,7 +138,7 @@ fn a_contradiction_convicts(rt: HostRuntime) -> Result<(), Fail> {
 fn told_of_log(alloc: Global, node: &mut Node, content: &[u8]) -> Result<Answer, Fail> {
     let segment = log_segment(alloc, node, content)?;
     let proof = nonconforming(segment)?;
-    Ok(told(alloc, node, &proof))
+    Ok(told(alloc, &node.directory, &proof))
 }
 
 /// The same of the content that INIT is to have, of another, and of a segment that is not signed.

@@ -5,3 +5,5 @@
 mod calls;
 #[cfg(test)]
 mod checking;
+#[cfg(test)]
+mod receipts;

@@ -1,7 +1,7 @@
 //! The order of items: that of their texts, and their places beside a group.
 
 use super::{item, message};
-use item_forms::{Group, Item, NodeId};
+use item_forms::{ByteString, Group, Hash, Item, NodeId};
 use std::alloc::Global;
 use std::cmp::Ordering;
 use std::test::Fail;
@@ -112,6 +112,34 @@ fn items_stand_before_or_behind_groups_of_other_numbers(rt: HostRuntime) -> Resu
         (5, 7, [less; 6]),
     ] {
         assert!(rt; places(rt.alloc(), tag, number)? == expected);
+    }
+    Ok(())
+}
+
+/// Where an acknowledgement of the message of number 6 from node 1 to node 2 stands beside those of a message from, to and with this
+/// number whose other fields are others.
+fn place_beside(alloc: Global, from: u32, to: u32, seq: u64) -> Result<Ordering, Fail> {
+    let mut message = message(alloc, seq)?;
+    message.from = NodeId(from);
+    message.to = NodeId(to);
+    message.prev = Hash([7; 32]);
+    message.payload = ByteString::from_slice(alloc, b"other")?;
+    place(alloc, 5, &Group::Acknowledgements(&message))
+}
+
+#[test]
+fn acknowledgements_are_of_a_sender_a_receiver_and_a_number(rt: HostRuntime) -> Result<(), Fail> {
+    let (less, equal, greater) = (Ordering::Less, Ordering::Equal, Ordering::Greater);
+    for (from, to, seq, expected) in [
+        (1, 2, 6, equal),
+        (2, 1, 5, less),
+        (0, 3, 7, greater),
+        (1, 3, 5, less),
+        (1, 1, 7, greater),
+        (1, 2, 7, less),
+        (1, 2, 5, greater),
+    ] {
+        assert!(rt; place_beside(rt.alloc(), from, to, seq)? == expected);
     }
     Ok(())
 }
