@@ -45,7 +45,7 @@ def main():
     told = summary([first, third])
     named = {told[16 + 32 * k : 48 + 32 * k] for k in range(2)}
     given = container(b"PRPACK01", [item for item in (first, second) if sha256(item) not in named])
-    union = container(b"PRSTORE1", taken()[1])
+    union = container(b"PRSTORE2", taken()[1])
     missing = 0
     for name, text, tests in (("summary", told, TRANSFER), ("pack", given, TRANSFER), ("union", union, WITNESSES)):
         value = sha256(text).hex()

@@ -1,100 +1,16 @@
-//! Challenges to node 2 and its answers, with the hashes of its log as a program in Python over its `hashlib` has them.
+//! Challenges to node 2, its answers, and its refusals.
 
-ghost use Rattle.std.specs.Prelude.{IfOk};
-ghost use Rattle.evidence_item.specs.Checking.{IsChecked};
-ghost use Rattle.ref_programs.specs.TallyMeaning.{tally};
-
-use crate::samples::{Nodes, Signer, ZEROS, make_nodes, node_with_log, spend_key};
+use crate::asking::{Part, answered, audit, checked, part_of, refusal};
+use crate::log_hashes::{BASE, FOURTH, SECOND, SIXTH};
+use crate::samples::{ADDS_ONE, Nodes, Signer, ZEROS, make_nodes, node_with_log, receive_up_to};
 use authenticators::{Authenticator, NodeId};
-use challenges::{Answer, AnswerFault, ChallengeFault, answer, audit_challenge, send_challenge};
+use challenges::{AnswerFault, ChallengeFault, audit_challenge, send_challenge};
 use commitment::Node;
-use evidence_item::{Checked, check_item};
 use item_forms::{Form, Item};
-use log_chain::{ByteString, Hash, chain_end};
+use log_chain::{ByteString, Hash};
 use ref_programs::Tally;
 use std::alloc::Global;
 use std::test::Fail;
-
-/// The hash before the first entry.
-const BASE: Hash = Hash([
-    0xe3, 0xb0, 0xc4, 0x42, 0x98, 0xfc, 0x1c, 0x14, 0x9a, 0xfb, 0xf4, 0xc8, 0x99, 0x6f, 0xb9, 0x24,
-    0x27, 0xae, 0x41, 0xe4, 0x64, 0x9b, 0x93, 0x4c, 0xa4, 0x95, 0x99, 0x1b, 0x78, 0x52, 0xb8, 0x55,
-]);
-
-/// The hash of entry 2 of the log.
-const SECOND: Hash = Hash([
-    0x5e, 0xb6, 0xd2, 0x7c, 0xc7, 0xff, 0x64, 0xea, 0x65, 0xb2, 0xb9, 0x4d, 0x3e, 0xf5, 0x6f, 0x54,
-    0x10, 0x00, 0x84, 0xfa, 0x27, 0x20, 0xec, 0x22, 0x3d, 0x51, 0xfa, 0x62, 0x8e, 0x19, 0xb4, 0x6f,
-]);
-
-/// The hash of entry 4.
-const FOURTH: Hash = Hash([
-    0x84, 0x3f, 0xd7, 0xb4, 0x8a, 0x2d, 0x64, 0x56, 0xa1, 0x97, 0xc9, 0x81, 0x3d, 0xf8, 0xc9, 0x73,
-    0x1d, 0x13, 0xca, 0x34, 0x48, 0xe0, 0x1e, 0xda, 0x73, 0x84, 0xe9, 0x2f, 0x2f, 0x0f, 0xb4, 0x00,
-]);
-
-/// The hash of entry 6.
-const SIXTH: Hash = Hash([
-    0x8e, 0xfd, 0xb9, 0x2f, 0x95, 0xad, 0xed, 0xfc, 0x3b, 0x09, 0x01, 0xb6, 0xcd, 0x71, 0x09, 0x5f,
-    0xbf, 0x3b, 0xa9, 0xe4, 0x1e, 0xa7, 0x21, 0x7e, 0x94, 0xb2, 0xd8, 0x44, 0x59, 0x61, 0x72, 0xf7,
-]);
-
-/// The item, which is valid under the node's directory.
-fn checked(alloc: Global, node: &Node<Tally>, item: Item) -> Result<Box<Checked<Tally>>, Fail>
-    ensures { IfOk result (λ c. IsChecked node.now.directory tally c.value) }
-{
-    let checked = check_item(alloc, &Tally, node.directory(), item)?;
-    Ok(Box::new(alloc, checked)?)
-}
-
-/// The node's answer to the item.
-fn answered(alloc: Global, node: &mut Node<Tally>, item: Item) -> Result<Box<Answer>, Fail> {
-    let challenge = checked(alloc, node, item)?;
-    let given = answer(alloc, node, &challenge, [7; 32])?;
-    Ok(Box::new(alloc, given)?)
-}
-
-/// The number of the fault with which the node refuses to answer the item; 0 where it answers.
-fn refusal(alloc: Global, node: &mut Node<Tally>, item: Item) -> Result<u8, Fail> {
-    let challenge = checked(alloc, node, item)?;
-    match answer(alloc, node, &challenge, [7; 32]) {
-        Ok(_) => Ok(0),
-        Err(fault) => Ok(fault.number()),
-    }
-}
-
-/// What a segment has: the hash before it and at its end, the first number and the last.
-#[derive(Clone, Copy, Debug, PartialEq, Eq)]
-struct Part {
-    prev: Hash,
-    end: Hash,
-    first: u64,
-    last: u64,
-}
-
-/// What the item has, which is valid, where it is a segment.
-fn part_of(alloc: Global, node: &Node<Tally>, item: Item) -> Result<Option<Part>, Fail> {
-    let checked = checked(alloc, node, item)?;
-    let Form::Segment(segment) = checked.item().form() else {
-        return Ok(None);
-    };
-    Ok(Some(Part {
-        prev: segment.prev,
-        end: chain_end(segment.prev, segment.entries.as_slice()),
-        first: segment.first_seq().unwrap_or(0),
-        last: segment.last_seq().unwrap_or(0),
-    }))
-}
-
-/// The audit of node 2 from the entry `first`, if one is given, to entry 6.
-fn audit(alloc: Global, two: &mut Signer, first: Option<(u64, Hash)>) -> Result<Item, Fail> {
-    let first = match first {
-        None => None,
-        Some((seq, hash)) => Some(two.statement(alloc, seq, hash)?),
-    };
-    let last = two.statement(alloc, 6, SIXTH)?;
-    Ok(audit_challenge(first, last)?)
-}
 
 /// What the node shows where it is asked from the entry `first`, if one is given, to entry 6. It sends no messages.
 fn shown(
@@ -103,7 +19,7 @@ fn shown(
     two: &mut Signer,
     first: Option<(u64, Hash)>,
 ) -> Result<Option<Part>, Fail> {
-    let item = audit(alloc, two, first)?;
+    let item = audit(alloc, two, first, (6, SIXTH))?;
     let given = answered(alloc, node, item)?;
     if !given.messages.is_empty() {
         return Ok(None);
@@ -111,16 +27,16 @@ fn shown(
     part_of(alloc, node, Box::into_inner(given).item)
 }
 
-/// The refusal of an audit from the beginning to the entry with this hash, which the signer states.
+/// The refusal of an audit, whose statements the signer signs.
 fn audit_refusal(
     alloc: Global,
     node: &mut Node<Tally>,
     signer: &mut Signer,
-    seq: u64,
-    hash: Hash,
+    first: Option<(u64, Hash)>,
+    last: (u64, Hash),
 ) -> Result<u8, Fail> {
-    let last = signer.statement(alloc, seq, hash)?;
-    refusal(alloc, node, audit_challenge(None, last)?)
+    let item = audit(alloc, signer, first, last)?;
+    refusal(alloc, node, item)
 }
 
 /// The refusal of a message to node 2, or to another node.
@@ -188,7 +104,7 @@ fn told_twice(alloc: Global, node: &mut Node<Tally>, item: Box<Item>) -> Result<
 
 /// What answers a message that adds one.
 fn acknowledged(alloc: Global, node: &mut Node<Tally>, one: &mut Signer) -> Result<Told, Fail> {
-    let message = one.message(alloc, 2, 4, &[b'A', 0, 0, 0, 0, 0, 0, 0, 1])?;
+    let message = one.message(alloc, 2, 4, &ADDS_ONE)?;
     let item = send_challenge(Box::into_inner(message))?;
     told_twice(alloc, node, Box::new(alloc, item)?)
 }
@@ -218,7 +134,7 @@ fn shown_to(
     match asked {
         Asked::From(first) => shown(alloc, node, &mut nodes.two, first),
         Asked::WhenSpent => {
-            spend_key(alloc, &mut nodes.one, node)?;
+            receive_up_to(alloc, &mut nodes.one, node, 21)?;
             shown(alloc, node, &mut nodes.two, None)
         }
     }
@@ -238,6 +154,8 @@ enum Refused {
     AuditOfAnother,
     /// An audit up to the entry of this number, with this hash.
     AuditTo(u64, Hash),
+    /// The same from entry 2 on.
+    AuditFromSecondTo(u64, Hash),
     /// A message to node 1.
     MessageToAnother,
     /// A message, where its key has no leaf left.
@@ -246,6 +164,7 @@ enum Refused {
     Statement,
 }
 
+/// The number of the refusal.
 fn refused_by(
     alloc: Global,
     nodes: &mut Nodes,
@@ -253,22 +172,21 @@ fn refused_by(
     what: Refused,
 ) -> Result<u8, Fail> {
     match what {
-        Refused::AuditOfAnother => audit_refusal(alloc, node, &mut nodes.one, 6, SIXTH),
-        Refused::AuditTo(seq, hash) => audit_refusal(alloc, node, &mut nodes.two, seq, hash),
+        Refused::AuditOfAnother => audit_refusal(alloc, node, &mut nodes.one, None, (6, SIXTH)),
+        Refused::AuditTo(seq, hash) => {
+            audit_refusal(alloc, node, &mut nodes.two, None, (seq, hash))
+        }
+        Refused::AuditFromSecondTo(seq, hash) => {
+            let first = Some((2, SECOND));
+            audit_refusal(alloc, node, &mut nodes.two, first, (seq, hash))
+        }
         Refused::MessageToAnother => message_refusal(alloc, node, &mut nodes.two, 1),
         Refused::MessageWhenSpent => {
-            spend_key(alloc, &mut nodes.one, node)?;
+            receive_up_to(alloc, &mut nodes.one, node, 21)?;
             message_refusal(alloc, node, &mut nodes.one, 2)
         }
         Refused::Statement => statement_refusal(alloc, node, &mut nodes.one),
     }
-}
-
-/// The number of node 2's refusal.
-fn number_told(alloc: Global, what: Refused) -> Result<u8, Fail> {
-    let mut nodes = make_nodes(alloc)?;
-    let mut node = node_with_log(alloc, &nodes)?;
-    refused_by(alloc, &mut nodes, &mut node, what)
 }
 
 /// The whole log.
@@ -327,15 +245,21 @@ fn a_message_is_acknowledged_once(rt: HostRuntime) -> Result<(), Fail> {
 
 #[test]
 fn what_is_no_challenge_to_the_node_is_refused(rt: HostRuntime) -> Result<(), Fail> {
+    let mut nodes = make_nodes(rt.alloc())?;
+    let mut node = node_with_log(rt.alloc(), &nodes)?;
     for (what, number) in [
         (Refused::AuditOfAnother, 70),
         (Refused::AuditTo(6, SECOND), 71),
         (Refused::AuditTo(7, SIXTH), 71),
+        (Refused::AuditFromSecondTo(5, ZEROS), 71),
         (Refused::MessageToAnother, 70),
         (Refused::MessageWhenSpent, 36),
         (Refused::Statement, 72),
     ] {
-        assert_eq!(rt; number_told(rt.alloc(), what)?, number);
+        assert_eq!(rt;
+            refused_by(rt.alloc(), &mut nodes, &mut node, what)?,
+            number
+        );
     }
     Ok(())
 }
@@ -370,11 +294,11 @@ fn no_challenge(
 fn an_audit_challenge_has_a_range(rt: HostRuntime) -> Result<(), Fail> {
     let alloc = rt.alloc();
     for (node, seq, len, fault) in [
-        (2, 5, 9324, None),
+        (2, 5, 9325, None),
         (2, 6, 9, Some(ChallengeFault::BadRange)),
         (1, 5, 9, Some(ChallengeFault::BadRange)),
-        (2, 5, 9325, Some(ChallengeFault::TooLong)),
-        (1, 6, 9325, Some(ChallengeFault::TooLong)),
+        (2, 5, 9326, Some(ChallengeFault::TooLong)),
+        (1, 6, 9326, Some(ChallengeFault::TooLong)),
     ] {
         assert_eq!(rt; no_challenge(alloc, node, seq, len)?, fault);
     }

@@ -2,6 +2,12 @@
 #![tactic(auto)]
 
 #[cfg(test)]
+mod asking;
+#[cfg(test)]
 mod calls;
+#[cfg(test)]
+mod closing;
+#[cfg(test)]
+mod log_hashes;
 #[cfg(test)]
 mod samples;

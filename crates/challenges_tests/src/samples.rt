@@ -10,6 +10,9 @@ use std::test::Fail;
 
 pub(crate) const ZEROS: Hash = Hash([0; 32]);
 
+/// What a message says that adds one: its receiver answers it.
+pub(crate) const ADDS_ONE: [u8; 9] = [b'A', 0, 0, 0, 0, 0, 0, 0, 1];
+
 /// A node's number, and a key that is equal to the node's.
 #[derive(Drop)]
 pub(crate) struct Signer {
@@ -25,14 +28,19 @@ pub(crate) struct Nodes {
     pub(crate) two: Signer,
 }
 
-/// The key (H5, W1) whose identifier and seed end in the number.
-fn key_of(alloc: Global, node: u8) -> Result<Box<SecretKey>, Fail> {
-    let mut id = [0; 16];
-    id[15] = node;
-    let mut seed = [0; 32];
-    seed[31] = node;
+/// The key (H5, W1) whose identifier and seed are of this byte, and end in the node's number in 4 bytes.
+fn make_key(alloc: Global, byte: u8, node: u8) -> Result<Box<SecretKey>, Fail> {
+    let mut id = [byte; 16];
+    id[12..].copy_from_slice(&[0, 0, 0, node]);
+    let mut seed = [byte; 32];
+    seed[28..].copy_from_slice(&[0, 0, 0, node]);
     let key = SecretKey::make(alloc, LmsType::H5, OtsType::W1, id, seed)?;
     Ok(Box::new(alloc, key)?)
+}
+
+/// The node's key 0.
+fn key_of(alloc: Global, node: u8) -> Result<Box<SecretKey>, Fail> {
+    make_key(alloc, 0, node)
 }
 
 fn make_signer(alloc: Global, node: u8) -> Result<Signer, Fail> {
@@ -53,6 +61,13 @@ pub(crate) fn make_nodes(alloc: Global) -> Result<Nodes, Fail> {
         one,
         two,
     })
+}
+
+/// Lists key 1 of node 2, and gives it.
+pub(crate) fn list_next_key(alloc: Global, nodes: &mut Nodes) -> Result<Box<SecretKey>, Fail> {
+    let key = make_key(alloc, 1, 2)?;
+    nodes.directory.add_key(NodeId(2), key.public_key())?;
+    Ok(key)
 }
 
 /// Node 2 under Tally, whose log begins with the number 1.
@@ -76,14 +91,15 @@ pub(crate) fn node_with_log(alloc: Global, nodes: &Nodes) -> Result<Box<Node<Tal
     Ok(node)
 }
 
-/// Node 2 receives 16 messages, each of which it acknowledges and answers: its key of 32 leaves has none left.
-pub(crate) fn spend_key(
+/// Node 2 receives messages with the numbers from 5 up to this one. It acknowledges and answers each: two leaves of its key.
+pub(crate) fn receive_up_to(
     alloc: Global,
     one: &mut Signer,
     node: &mut Node<Tally>,
+    end: u64,
 ) -> Result<(), Fail> {
-    for seq in 5..21 {
-        let message = one.message(alloc, 2, seq, &[b'A', 0, 0, 0, 0, 0, 0, 0, 1])?;
+    for seq in 5..end {
+        let message = one.message(alloc, 2, seq, &ADDS_ONE)?;
         node.receive(&message, [0; 32])?;
     }
     Ok(())

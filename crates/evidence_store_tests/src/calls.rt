@@ -11,7 +11,7 @@ fn a_store_without_items(rt: HostRuntime) -> Result<(), Fail> {
     let store: PlainStore<Tally> = PlainStore::new(alloc, Directory::new(alloc))?;
     assert_eq!(rt; store.count(), 0);
     let text = store.export()?;
-    assert_eq!(rt; text.as_slice(), b"PRSTORE1\0\0\0\0\0\0\0\0".as_slice());
+    assert_eq!(rt; text.as_slice(), b"PRSTORE2\0\0\0\0\0\0\0\0".as_slice());
     Ok(())
 }
 

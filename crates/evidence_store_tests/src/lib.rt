@@ -2,4 +2,12 @@
 #![tactic(auto)]
 
 #[cfg(test)]
+mod answers;
+#[cfg(test)]
 mod calls;
+#[cfg(test)]
+mod receipts;
+#[cfg(test)]
+mod samples;
+#[cfg(test)]
+mod texts;

@@ -113,7 +113,7 @@ fn spread(
 }
 
 /// The text of the four statements, by `reference/transfers.py`.
-const ALL: &str = "55400109ac30619c210489ed85e34250bc4384126a39ad9062df684daf85ab7d";
+const ALL: &str = "b7b746db1e05984c15b3375c3e8af11286e401c71e4d3549b9920dc0083e81e2";
 
 /// Whether all four texts are that of the four statements.
 fn is_all(alloc: Global, exports: &Exports) -> Result<bool, Fail> {

@@ -109,7 +109,7 @@ fn is_shown_as(alloc: Global, hash: Hash, want: &str) -> Result<bool, Fail> {
 #[test]
 fn two_callers_one_after_the_other(rt: HostRuntime) -> Result<(), Fail> {
     let (seen, calls) = told_and_closed(&rt, rt.alloc())?;
-    let text = "b9bf2e141d77577f1b32ed8c396da29abcd8a61185750e6721d8a5884c3b656a";
+    let text = "60250af824ede25285f66a16f5795241be9068843d9efbaaabecb4c22101485a";
     assert!(rt; is_shown_as(rt.alloc(), seen.text, text)?);
     assert!(rt; seen.took == (Some(true), Some(true)));
     assert!(rt; seen.told == (Indication::Exposed, Indication::Exposed));

@@ -1,0 +1,137 @@
+//! A demand to acknowledge a message, and items beside it, which answer it or do not.
+
+use crate::samples::{Nodes, Said, Signer, Start, make_nodes, new_store, said_by, take, turned};
+use commitment::Message;
+use evidence_item::Item;
+use evidence_set::Indication;
+use std::alloc::Global;
+use std::test::Fail;
+
+/// A message of node 1 to node 2, by its number, its payload, and the byte of which the C of its signature is made.
+#[derive(Clone, Copy)]
+struct Sent {
+    seq: u64,
+    payload: &'static [u8],
+    c: u8,
+}
+
+/// The message that is to be acknowledged.
+const DEMANDED: Sent = Sent {
+    seq: 7,
+    payload: b"hello",
+    c: 9,
+};
+
+/// What stands beside the demand.
+#[derive(Clone, Copy)]
+enum Beside {
+    Nothing,
+    /// A message with its acknowledgement.
+    Ack(Sent),
+    /// A segment of node 2 that receives a message.
+    Receipt(Sent),
+    /// The same, where the last byte of the message's signature is another one.
+    FalseReceipt(Sent),
+}
+
+fn message(alloc: Global, one: &mut Signer, sent: Sent) -> Result<Box<Message>, Fail> {
+    one.message(alloc, sent.seq, sent.payload, sent.c)
+}
+
+/// A segment that receives the message under a signature whose last byte is another one.
+fn false_receipt(
+    alloc: Global,
+    two: &mut Signer,
+    message: Box<Message>,
+) -> Result<Box<Item>, Fail> {
+    let mut message = Box::into_inner(message);
+    message.sig = turned(message.sig);
+    two.receiving(alloc, Start::Init, &message)
+}
+
+fn item_of(alloc: Global, nodes: &mut Nodes, beside: Beside) -> Result<Option<Box<Item>>, Fail> {
+    let item = match beside {
+        Beside::Nothing => return Ok(None),
+        Beside::Ack(sent) => {
+            let message = message(alloc, &mut nodes.one, sent)?;
+            nodes.two.acknowledged(alloc, message)?
+        }
+        Beside::Receipt(sent) => {
+            let message = message(alloc, &mut nodes.one, sent)?;
+            nodes.two.receiving(alloc, Start::Init, &message)?
+        }
+        Beside::FalseReceipt(sent) => {
+            let message = message(alloc, &mut nodes.one, sent)?;
+            false_receipt(alloc, &mut nodes.two, message)?
+        }
+    };
+    Ok(Some(item))
+}
+
+fn demand(alloc: Global, one: &mut Signer) -> Result<Box<Item>, Fail> {
+    let message = message(alloc, one, DEMANDED)?;
+    let item = Item::send(Box::into_inner(message))?;
+    Ok(Box::new(alloc, item)?)
+}
+
+/// What a store says that has the demand, and what stands beside it.
+fn said(alloc: Global, nodes: &mut Nodes, beside: Beside) -> Result<Said, Fail> {
+    let mut store = new_store(alloc, &nodes.directory)?;
+    let item = demand(alloc, &mut nodes.one)?;
+    take(alloc, &mut store, item)?;
+    if let Some(item) = item_of(alloc, nodes, beside)? {
+        take(alloc, &mut store, item)?;
+    }
+    said_by(&store)
+}
+
+const OPEN: Said = Said {
+    one: Indication::Trusted,
+    two: Indication::Suspected,
+    open: 1,
+};
+
+const ANSWERED: Said = Said {
+    one: Indication::Trusted,
+    two: Indication::Trusted,
+    open: 0,
+};
+
+/// Node 1 signed two messages under one number, and node 2 answers for one of them.
+const SIGNED_TWO: Said = Said {
+    one: Indication::Exposed,
+    two: Indication::Trusted,
+    open: 0,
+};
+
+/// Node 2 logged what node 1 did not sign.
+const LOGGED_FALSELY: Said = Said {
+    one: Indication::Trusted,
+    two: Indication::Exposed,
+    open: 1,
+};
+
+#[test]
+fn what_answers_a_demand(rt: HostRuntime) -> Result<(), Fail> {
+    let next = Sent { seq: 8, ..DEMANDED };
+    let again = Sent { c: 1, ..DEMANDED };
+    let other = Sent {
+        payload: b"other",
+        ..DEMANDED
+    };
+    let mut nodes = make_nodes(rt.alloc())?;
+    for (beside, expected) in [
+        (Beside::Nothing, OPEN),
+        (Beside::Ack(next), OPEN),
+        (Beside::Ack(DEMANDED), ANSWERED),
+        (Beside::Ack(again), ANSWERED),
+        (Beside::Ack(other), SIGNED_TWO),
+        (Beside::Receipt(next), OPEN),
+        (Beside::Receipt(DEMANDED), ANSWERED),
+        (Beside::Receipt(other), SIGNED_TWO),
+        (Beside::FalseReceipt(DEMANDED), LOGGED_FALSELY),
+    ] {
+        assert_eq!(rt; said(rt.alloc(), &mut nodes, beside)?, expected);
+    }
+    Ok(())
+}

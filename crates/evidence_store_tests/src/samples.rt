@@ -1,0 +1,226 @@
+//! For the tests: the nodes 1 and 2 with their keys, items that they sign, and what a store says of both.
+
+use authenticators::{Directory, NodeId, statement_text};
+use commitment::Message;
+use evidence_item::{Item, check_item};
+use evidence_set::Indication;
+use evidence_store::{Evidence, PlainStore};
+use lms_sign::{LmsType, OtsType, SecretKey};
+use log_chain::kind::{CHECKPOINT, INIT, RECV};
+use log_chain::{ByteString, Entry, Hash, base_hash, chain_end};
+use ref_programs::Tally;
+use std::alloc::Global;
+use std::test::Fail;
+
+/// A store of nodes that run Tally.
+pub(crate) type Store = PlainStore<Tally>;
+
+pub(crate) const ZEROS: Hash = Hash([0; 32]);
+
+/// A node's number, and a key that is equal to the node's.
+#[derive(Drop)]
+pub(crate) struct Signer {
+    node: NodeId,
+    key: Box<SecretKey>,
+}
+
+/// The nodes that sign, under their directory.
+#[derive(Drop)]
+pub(crate) struct Nodes {
+    pub(crate) directory: Box<Directory>,
+    pub(crate) one: Signer,
+    pub(crate) two: Signer,
+}
+
+/// The key (H5, W1) whose identifier and seed end in the number.
+pub(crate) fn key_of(alloc: Global, node: u8) -> Result<Box<SecretKey>, Fail> {
+    let mut id = [0; 16];
+    id[15] = node;
+    let mut seed = [0; 32];
+    seed[31] = node;
+    let key = SecretKey::make(alloc, LmsType::H5, OtsType::W1, id, seed)?;
+    Ok(Box::new(alloc, key)?)
+}
+
+fn make_signer(alloc: Global, node: u8) -> Result<Signer, Fail> {
+    Ok(Signer {
+        node: NodeId(u32::from(node)),
+        key: key_of(alloc, node)?,
+    })
+}
+
+pub(crate) fn make_nodes(alloc: Global) -> Result<Nodes, Fail> {
+    let one = make_signer(alloc, 1)?;
+    let two = make_signer(alloc, 2)?;
+    let mut directory = Box::new(alloc, Directory::new(alloc))?;
+    directory.add(one.node, one.key.public_key())?;
+    directory.add(two.node, two.key.public_key())?;
+    Ok(Nodes {
+        directory,
+        one,
+        two,
+    })
+}
+
+/// A store under the directory, without items.
+pub(crate) fn new_store(alloc: Global, directory: &Directory) -> Result<Box<Store>, Fail> {
+    let store = PlainStore::new(alloc, directory.try_clone()?)?;
+    Ok(Box::new(alloc, store)?)
+}
+
+/// Takes the item, which is valid.
+pub(crate) fn take(alloc: Global, store: &mut Store, item: Box<Item>) -> Result<(), Fail> {
+    let checked = check_item(alloc, &Tally, store.directory(), Box::into_inner(item))?;
+    store.take(checked)?;
+    Ok(())
+}
+
+/// What a store says of both nodes, and how many challenges to node 2 it has that are not answered.
+#[derive(Clone, Copy, Debug, PartialEq, Eq)]
+pub(crate) struct Said {
+    pub(crate) one: Indication,
+    pub(crate) two: Indication,
+    pub(crate) open: usize,
+}
+
+pub(crate) fn said_by(store: &Store) -> Result<Said, Fail> {
+    Ok(Said {
+        one: store.indication(NodeId(1))?,
+        two: store.indication(NodeId(2))?,
+        open: store.open_challenges(NodeId(2))?.len(),
+    })
+}
+
+/// The bytes, of which the last is another one.
+pub(crate) fn turned(bytes: ByteString) -> ByteString {
+    let mut bytes = bytes.into_vec();
+    if let Some(last) = bytes.last_mut() {
+        *last ^= 1;
+    }
+    ByteString::from_vec(bytes)
+}
+
+/// What a RECV entry quotes of the message.
+fn quote(alloc: Global, message: &Message) -> Result<ByteString, Fail> {
+    let mut content = Vec::new(alloc);
+    content.extend_from_slice(&message.from.0.to_be_bytes())?;
+    content.extend_from_slice(&message.seq.to_be_bytes())?;
+    content.extend_from_slice(&message.prev.0)?;
+    content.extend_from_slice(&u32::try_from(message.sig.len())?.to_be_bytes())?;
+    content.extend_from_slice(message.sig.as_slice())?;
+    content.extend_from_slice(message.payload.as_slice())?;
+    Ok(ByteString::from_vec(content))
+}
+
+pub(crate) fn entry(alloc: Global, seq: u64, kind: u8, content: &[u8]) -> Result<Entry, Fail> {
+    Ok(Entry {
+        seq,
+        kind,
+        content: ByteString::from_slice(alloc, content)?,
+    })
+}
+
+/// The receipt of the message.
+pub(crate) fn receipt(alloc: Global, seq: u64, message: &Message) -> Result<Entry, Fail> {
+    Ok(Entry {
+        seq,
+        kind: RECV,
+        content: quote(alloc, message)?,
+    })
+}
+
+/// Where a segment of node 2 begins.
+#[derive(Clone, Copy)]
+pub(crate) enum Start {
+    /// With INIT under the number 1.
+    Init,
+    /// With a CHECKPOINT of the total 0 under the number 1, after a hash of 32 zero bytes.
+    Checkpoint,
+}
+
+/// The hash before a segment of node 2 that begins so, and its first entry.
+fn beginning(alloc: Global, start: Start) -> Result<(Hash, Entry), Fail> {
+    match start {
+        Start::Init => Ok((base_hash(), entry(alloc, 1, INIT, &[0, 0, 0, 2])?)),
+        Start::Checkpoint => Ok((ZEROS, entry(alloc, 1, CHECKPOINT, &[0; 8])?)),
+    }
+}
+
+impl Signer {
+    pub(crate) fn sign(
+        &mut self,
+        alloc: Global,
+        seq: u64,
+        hash: Hash,
+        c: u8,
+    ) -> Result<ByteString, Fail> {
+        let sig = self.key.sign(alloc, &statement_text(seq, hash), [c; 32])?;
+        Ok(ByteString::from_vec(sig))
+    }
+
+    /// The message to node 2 with this number, after 32 zero bytes. Its signature has a C of one byte 32 times over.
+    pub(crate) fn message(
+        &mut self,
+        alloc: Global,
+        seq: u64,
+        payload: &[u8],
+        c: u8,
+    ) -> Result<Box<Message>, Fail> {
+        let payload = ByteString::from_slice(alloc, payload)?;
+        let message = Message {
+            from: self.node,
+            to: NodeId(2),
+            seq,
+            prev: ZEROS,
+            sig: ByteString::from_vec(Vec::new(alloc)),
+            payload,
+        };
+        let mut message = Box::new(alloc, message)?;
+        let hash = message.signed_hash();
+        message.sig = self.sign(alloc, seq, hash, c)?;
+        Ok(message)
+    }
+
+    /// The message with this node's acknowledgement, whose RECV entry has the number 11.
+    pub(crate) fn acknowledged(
+        &mut self,
+        alloc: Global,
+        message: Box<Message>,
+    ) -> Result<Box<Item>, Fail> {
+        let hash = message.received_hash(11, ZEROS);
+        let sig = self.sign(alloc, 11, hash, 9)?;
+        let item = Item::ack(Box::into_inner(message), 11, ZEROS, sig)?;
+        Ok(Box::new(alloc, item)?)
+    }
+
+    /// The segment of these entries, which begins so.
+    pub(crate) fn segment(
+        &mut self,
+        alloc: Global,
+        start: Start,
+        more: Vec<Entry>,
+    ) -> Result<Box<Item>, Fail> {
+        let (prev, first) = beginning(alloc, start)?;
+        let mut entries = Vec::new(alloc);
+        entries.push(first)?;
+        for entry in more {
+            entries.push(entry)?;
+        }
+        let seq = entries.last().map_or(0, |entry| entry.seq);
+        let sig = self.sign(alloc, seq, chain_end(prev, &entries), 9)?;
+        let item = Item::segment(self.node, prev, entries, sig)?;
+        Ok(Box::new(alloc, item)?)
+    }
+
+    /// The segment that begins so and receives the message.
+    pub(crate) fn receiving(
+        &mut self,
+        alloc: Global,
+        start: Start,
+        message: &Message,
+    ) -> Result<Box<Item>, Fail> {
+        let mut entries = Vec::new(alloc);
+        entries.push(receipt(alloc, 2, message)?)?;
+        self.segment(alloc, start, entries)
+    }
+}

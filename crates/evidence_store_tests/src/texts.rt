@@ -1,0 +1,112 @@
+//! The text of two items, which is read under the magic of today and under the one of before.
+
+use crate::samples::{Nodes, Signer, Store, make_nodes, new_store, take};
+use authenticators::{Authenticator, Directory, NodeId};
+use evidence_item::Item;
+use evidence_store::Evidence;
+use log_chain::Hash;
+use ref_programs::Tally;
+use std::alloc::Global;
+use std::test::Fail;
+
+/// Node 1's statement that entry 5 has a hash of this byte 32 times over.
+fn statement(alloc: Global, one: &mut Signer, byte: u8) -> Result<Box<Item>, Fail> {
+    let hash = Hash([byte; 32]);
+    let sig = one.sign(alloc, 5, hash, 9)?;
+    let item = Item::auth(Authenticator {
+        node: NodeId(1),
+        seq: 5,
+        hash,
+        sig,
+    })?;
+    Ok(Box::new(alloc, item)?)
+}
+
+/// The text of two items, and the directory under which they are valid.
+#[derive(Drop)]
+struct Text {
+    directory: Box<Directory>,
+    text: Vec<u8>,
+}
+
+fn export_of_two(alloc: Global, nodes: &mut Nodes) -> Result<Vec<u8>, Fail> {
+    let mut store = new_store(alloc, &nodes.directory)?;
+    let first = statement(alloc, &mut nodes.one, 1)?;
+    let second = statement(alloc, &mut nodes.one, 2)?;
+    take(alloc, &mut store, first)?;
+    take(alloc, &mut store, second)?;
+    Ok(store.export()?)
+}
+
+/// The text of two statements of node 1.
+fn text_of_two(alloc: Global) -> Result<Text, Fail> {
+    let mut nodes = make_nodes(alloc)?;
+    let text = export_of_two(alloc, &mut nodes)?;
+    Ok(Text {
+        directory: nodes.directory,
+        text,
+    })
+}
+
+/// The text behind this magic.
+fn behind(alloc: Global, magic: &[u8; 8], text: &[u8]) -> Result<Vec<u8>, Fail> {
+    let mut copy = Vec::from_slice(alloc, magic)?;
+    copy.extend_from_slice(text.get(8..).unwrap_or(&[]))?;
+    Ok(copy)
+}
+
+/// What a store without items makes of a text: the number of its refusal, or 0; how many items it then has; and whether it exports
+/// this text.
+#[derive(Clone, Copy, Debug, PartialEq, Eq)]
+struct Told {
+    refusal: u8,
+    count: u64,
+    is_written: bool,
+}
+
+fn told_by(store: &mut Store, text: &[u8], written: &[u8]) -> Result<Told, Fail> {
+    let refusal = match store.import(&Tally, text) {
+        Ok(_) => 0,
+        Err(fault) => fault.cause.number(),
+    };
+    Ok(Told {
+        refusal,
+        count: store.count(),
+        is_written: store.export()?.as_slice() == written,
+    })
+}
+
+/// What is made of the text of two items behind this magic, which is to be written behind that of today.
+fn read_behind(alloc: Global, on: &Text, magic: &[u8; 8]) -> Result<Told, Fail> {
+    let given = behind(alloc, magic, &on.text)?;
+    let written = behind(alloc, b"PRSTORE2", &on.text)?;
+    let mut store = new_store(alloc, &on.directory)?;
+    told_by(&mut store, &given, &written)
+}
+
+const READ: Told = Told {
+    refusal: 0,
+    count: 2,
+    is_written: true,
+};
+
+const REFUSED: Told = Told {
+    refusal: 60,
+    count: 0,
+    is_written: false,
+};
+
+#[test]
+fn both_magics_are_read_and_one_is_written(rt: HostRuntime) -> Result<(), Fail> {
+    let on = text_of_two(rt.alloc())?;
+    for (magic, expected) in [
+        (b"PRSTORE1", READ),
+        (b"PRSTORE2", READ),
+        (b"PRSTORE0", REFUSED),
+        (b"PRSTORE3", REFUSED),
+        (b"PRPACK01", REFUSED),
+    ] {
+        assert_eq!(rt; read_behind(rt.alloc(), &on, magic)?, expected);
+    }
+    Ok(())
+}
