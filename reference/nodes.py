@@ -2,8 +2,8 @@
 """Computes, over Python's hashlib alone, the values that the tests of signatures, messages and nodes hold, and looks for each in its file.
 
 It shares no code with the crates: LMS with H5 (RFC 8554), the hash chain of a log, and nodes under Tally are written here again,
-from the formats (docs/FORMATS.md) and the RFC. Key k of a node has the identifier and the seed that end in the node's number, and
-before it bytes k.
+from the formats (docs/FORMATS.md) and the RFC. A node's keys have the identifier and the seed that end in the node's number, and
+before it the key's number in each byte.
 """
 
 import hashlib
@@ -41,8 +41,8 @@ class Key:
     """A secret key of RFC 8554, appendix A, with its whole tree."""
 
     def __init__(self, node, ots_type, number=0):
-        self.number, self.identifier, self.seed = number, bytes([number]) * 12 + u32(node), bytes([number]) * 28 + u32(node)
-        self.ots_type, self.next_leaf = ots_type, 0
+        self.identifier, self.seed = 12 * u8(number) + u32(node), 28 * u8(number) + u32(node)
+        self.ots_type, self.next_leaf, self.number = ots_type, 0, number
         self.width, self.chains, self.shift = OTS[ots_type]
         self.tree = {LEAVES + leaf: self.leaf_hash(leaf) for leaf in range(LEAVES)}
         for r in range(LEAVES - 1, 0, -1):
@@ -68,6 +68,7 @@ class Key:
         return [(byte >> (8 - self.width * (k + 1))) & ((1 << self.width) - 1) for byte in text for k in range(8 // self.width)]
 
     def sign(self, message, c):
+        """The signature's text: behind the key's number, but for key 0."""
         leaf, self.next_leaf = self.next_leaf, self.next_leaf + 1
         assert leaf < LEAVES
         digest = sha256(self.identifier, u32(leaf), u16(0x8181), c, message)
@@ -75,12 +76,8 @@ class Key:
         digits = self.digits(digest + u16(checksum))[: self.chains]
         values = [self.chain(leaf, i, self.start(leaf, i), digit) for i, digit in enumerate(digits)]
         path = [self.tree[((LEAVES + leaf) >> level) ^ 1] for level in range(HEIGHT)]
-        return b"".join([u32(leaf), u32(self.ots_type), c, *values, u32(HEIGHT), *path])
-
-    def text(self, message, c):
-        """The signature text: behind a byte with the key's number, where that is not 0."""
-        signature = self.sign(message, c)
-        return signature if self.number == 0 else u8(self.number) + signature
+        signature = b"".join([u32(leaf), u32(self.ots_type), c, *values, u32(HEIGHT), *path])
+        return u8(self.number) + signature if self.number else signature
 
 
 def entry_hash(before, seq, kind, content):
@@ -129,7 +126,7 @@ class Node:
     def sign(self, entropy, k):
         """Signs the last entry as the signature number k of a call."""
         seq = self.next_seq - 1
-        signature = self.key.text(u64(seq) + self.end, sha256(entropy, u32(k)))
+        signature = self.key.sign(u64(seq) + self.end, sha256(entropy, u32(k)))
         self.signed.append(u32(self.number) + u64(seq) + self.end + u64(len(signature)) + signature)
         return signature
 
@@ -258,7 +255,7 @@ def two_keys():
     """Node 1's keys 0 and 1, and the signature text of number 5 and a hash of 32 bytes 7 by each."""
     statement = u64(5) + bytes([7]) * 32
     keys = [Key(1, 4), Key(1, 4, 1)]
-    texts = [key.text(statement, bytes(32)) for key in keys]
+    texts = [key.sign(statement, bytes(32)) for key in keys]
     assert [len(text) for text in texts] == [1292, 1293]
     return [key.public() for key in keys] + texts
 

@@ -12,7 +12,10 @@ from stores import demand, spelled_segment, text, turned
 
 TESTS = os.path.join(os.path.dirname(os.path.abspath(__file__)), "..", "crates", "command_tests", "src", "playing.rt")
 NODES = [(1, "honest"), (4, "fork"), (2, "wrong"), (3, "mute"), (9, "fork")]
-ACTS = [("timer", 1, 5), ("timer", 2, 7), ("checkpoint", 2), ("timer", 3, 9), ("audit", 3), ("audit", 9), ("timer", 4, 1), ("audit", 2), ("audit", 1)]
+ACTS = [
+    *(("timer", 1, 5), ("timer", 2, 7), ("checkpoint", 2), ("timer", 3, 9), ("audit", 3), ("audit", 9), ("timer", 4, 1), ("audit", 2), ("audit", 1)),
+    *(("rekey", 1), ("rekey", 2), ("timer", 1, 6), ("audit", 2), ("rekey", 3), ("rekey", 4), ("timer", 3, 8), ("audit", 4)),
+]
 
 
 class Player(Node):
@@ -37,12 +40,18 @@ class Player(Node):
         wrong = self.kind == "wrong"
         return super().send([(to, turned(payload) if wrong else payload) for to, payload in outputs], entropy, k)
 
+    def rekey(self):
+        """Signs with its second key from here on."""
+        assert self.key.number == 0
+        self.key = Key(self.number, self.ots_type, 1)
+
     def shown(self):
         """Its log up to what it signed last."""
         seq, _, signature = self.statements[-1]
         return spelled_segment(self.number, sha256(), [entry for entry in self.contents if entry[0] <= seq], signature)
 
     def histories(self):
+        """What it signed last, and another hash of that number, which its first key signs, made once more."""
         seq, digest, signature = self.statements[-1]
         other = sha256(b"fork")
         second = Key(self.number, 4).sign(u64(seq) + other, bytes([0xFF]) * 32)
@@ -71,6 +80,9 @@ class Stage:
 
     def checkpoint(self, number):
         self.players[number].checkpoint()
+
+    def rekey(self, number):
+        self.players[number].rekey()
 
     def audit(self, number):
         player = self.players[number]

@@ -112,7 +112,7 @@ fn each_read_may_be_interrupted(rt: HostRuntime) {
                 Task::Merge,
                 input,
                 number,
-                b"505253544f5245310000000000000000\n"
+                b"505253544f5245320000000000000000\n"
             )
         );
         assert!(rt;

@@ -8,13 +8,20 @@ use std::sync::Wait;
 use std::test::Fail;
 use std::thread::Threads;
 
-/// A line of a store of one item.
-fn push_store(input: &mut Vec<u8>, item: &[u8]) -> Result<(), AllocError> {
-    input.extend_from_slice(b"\n505253544f5245310000000000000001")?;
+/// How a store of one item begins, as it is written.
+const HEAD: &[u8] = b"505253544f5245320000000000000001";
+
+/// The same, as it was written before nodes had second keys.
+const OLD_HEAD: &[u8] = b"505253544f5245310000000000000001";
+
+/// A line of a store of one item that begins so.
+fn push_store(input: &mut Vec<u8>, head: &[u8], item: &[u8]) -> Result<(), AllocError> {
+    input.push(b'\n')?;
+    input.extend_from_slice(head)?;
     input.extend_from_slice(item)
 }
 
-/// The union of three stores of one item each.
+/// The union of three stores of one item each, the second of which stands as it was written before.
 fn union_of_three<H: Threads + Wait + Sync>(
     rt: &H,
     alloc: Global,
@@ -22,12 +29,21 @@ fn union_of_three<H: Threads + Wait + Sync>(
 ) -> Result<Vec<u8>, Fail> {
     let (directory, _, _) = statements();
     let mut input = directory.to_vec(alloc)?;
-    for item in items {
-        push_store(&mut input, item)?;
-    }
+    let [first, second, third] = items;
+    push_store(&mut input, HEAD, first)?;
+    push_store(&mut input, OLD_HEAD, second)?;
+    push_store(&mut input, HEAD, third)?;
     let (answer, written) = outcome(rt, alloc, Task::Merge, input.as_slice());
     answer?;
     Ok(written)
+}
+
+/// Whether this is the line of a store of the two statements of `equivocation`, as it is written.
+fn is_equivocation(line: &[u8]) -> bool {
+    let (_, items) = halves(equivocation(), 177);
+    line.strip_prefix(b"505253544f5245320000000000000002")
+        .and_then(|store| store.strip_suffix(b"\n"))
+        == Some(items)
 }
 
 /// The union where a second store, behind an empty one, has a statement with no signature.
@@ -45,16 +61,22 @@ fn faulty<H: Threads + Wait + Sync>(
 #[test]
 fn stores_are_joined_in_each_order(rt: HostRuntime) -> Result<(), Fail> {
     let (_, first, second) = statements();
-    let (_, store) = halves(equivocation(), 145);
     for items in [
         [first, second, first],
         [second, first, second],
         [second, second, first],
     ] {
         let union = union_of_three(&rt, rt.alloc(), items)?;
-        assert!(rt; union.strip_suffix(b"\n") == Some(store));
+        assert!(rt; is_equivocation(&union));
     }
     Ok(())
+}
+
+#[test]
+fn an_old_store_is_written_anew(rt: HostRuntime) {
+    let (answer, written) = outcome(&rt, rt.alloc(), Task::Merge, equivocation());
+    assert!(rt; answer == Ok(()));
+    assert!(rt; is_equivocation(&written));
 }
 
 #[test]
@@ -62,7 +84,7 @@ fn no_stores_are_empty(rt: HostRuntime) {
     let (directory, _, _) = statements();
     let (answer, written) = outcome(&rt, rt.alloc(), Task::Merge, directory);
     assert!(rt; answer == Ok(()));
-    assert!(rt; written.as_slice() == b"505253544f5245310000000000000000\n".as_slice());
+    assert!(rt; written.as_slice() == b"505253544f5245320000000000000000\n".as_slice());
 }
 
 #[test]

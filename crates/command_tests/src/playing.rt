@@ -1,7 +1,7 @@
 //! Scenarios that are played.
 
 use authenticators::NodeId;
-use commitment::NodeFault;
+use commitment::{NewFault, NodeFault};
 use log_chain::Hash;
 use ref_programs::Tally;
 use scenarios::Scenario;
@@ -10,10 +10,11 @@ use simulation::{PlayFault, Played, play};
 use std::alloc::Global;
 use std::test::Fail;
 
-/// Each kind of node, and each kind of item.
+/// Each kind of node, by its first key and then by its second, and each kind of item.
 const SCENARIO: &[u8] = b"witnesses 1\n\
     node 1 honest\nnode 4 fork\nnode 2 wrong\nnode 3 mute\nnode 9 fork\n\
-    timer 1 5\ntimer 2 7\ncheckpoint 2\ntimer 3 9\naudit 3\naudit 9\ntimer 4 1\naudit 2\naudit 1\n";
+    timer 1 5\ntimer 2 7\ncheckpoint 2\ntimer 3 9\naudit 3\naudit 9\ntimer 4 1\naudit 2\naudit 1\n\
+    rekey 1\nrekey 2\ntimer 1 6\naudit 2\nrekey 3\nrekey 4\ntimer 3 8\naudit 4\n";
 
 /// What comes of the scenario under Tally.
 fn played(alloc: Global, text: &[u8]) -> Result<Result<Played, PlayFault>, Fail> {
@@ -32,18 +33,23 @@ fn digest_of(alloc: Global, played: &Played) -> Result<Hash, Fail> {
     Ok(Hash(Sha256::digest(&text)))
 }
 
-/// The items are those of `reference/scenarios.py`, and the directory lists the nodes as the scenario does.
+/// The items are those of `reference/scenarios.py`, and the directory lists the nodes as the scenario does, each with two keys.
 #[test]
 fn each_kind_of_node_plays(rt: HostRuntime) -> Result<(), Fail> {
     let played = played(rt.alloc(), SCENARIO)??;
-    assert!(rt; played.items.len() == 9);
+    assert!(rt; played.items.len() == 14);
     let digest = digest_of(rt.alloc(), &played)?;
     let digits = format!(in rt.alloc(); "{digest}")?;
     assert!(rt;
-        digits.as_str() == "b6c9533410d982044149b934b9f18dc51f0768535410aae635becc33fab9e2e3"
+        digits.as_str() == "f9c2c5d35a4f8007fb5120b61e457cfe2477a5a5166f4fac18ede0191d4a4f57"
     );
     let nodes = [NodeId(1), NodeId(4), NodeId(2), NodeId(3), NodeId(9)];
     assert!(rt; played.directory.nodes() == nodes.as_slice());
+    assert!(rt;
+        nodes
+            .iter()
+            .all(|node| played.directory.key_count(*node) == 2)
+    );
     Ok(())
 }
 
@@ -60,5 +66,27 @@ fn a_spent_key_ends_the_scenario(rt: HostRuntime) -> Result<(), Fail> {
     text.extend_from_slice(b"timer 1 5\n")?;
     let fault = played(alloc, &text)?.err();
     assert!(rt; fault == Some(PlayFault::Node(NodeFault::KeySpent)));
+    Ok(())
+}
+
+/// Why nodes 1 and 2 do not play these lines; nothing, where they do.
+fn fault_of(alloc: Global, lines: &[u8]) -> Result<Option<PlayFault>, Fail> {
+    let mut text = Vec::from_slice(alloc, b"witnesses 1\nnode 1 honest\nnode 2 mute\n")?;
+    text.extend_from_slice(lines)?;
+    Ok(played(alloc, &text)?.err())
+}
+
+/// A node takes its second key once, whatever it has signed by it and whatever others take.
+#[test]
+fn a_second_key_is_taken_once(rt: HostRuntime) -> Result<(), Fail> {
+    let twice = Some(PlayFault::New(NewFault::WrongKey));
+    assert!(rt; fault_of(rt.alloc(), b"rekey 1\nrekey 2\ntimer 1 5\n")? == None);
+    assert!(rt; fault_of(rt.alloc(), b"rekey 1\nrekey 1\n")? == twice);
+    assert!(rt;
+        fault_of(
+            rt.alloc(),
+            b"rekey 2\ntimer 1 5\nrekey 1\ntimer 1 5\nrekey 2\n"
+        )? == twice
+    );
     Ok(())
 }

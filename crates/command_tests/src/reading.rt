@@ -21,7 +21,7 @@ fn member(id: u32, kind: Kind) -> Member {
 fn a_scenario_is_read(rt: HostRuntime) -> Result<(), Fail> {
     let text =
         b"# who\nwitnesses 8\n\nnode 4294967295 honest\nnode 0 fork\nnode 10 mute\nnode 7 wrong\n#\n\
-        timer 10 18446744073709551615\ncheckpoint 0\n\naudit 4294967295";
+        timer 10 18446744073709551615\ncheckpoint 0\n\nrekey 7\naudit 4294967295";
     let scenario = Scenario::read(rt.alloc(), text)?;
     let nodes = [
         member(u32::MAX, Kind::Honest),
@@ -35,6 +35,7 @@ fn a_scenario_is_read(rt: HostRuntime) -> Result<(), Fail> {
             moment: u64::MAX,
         },
         Act::Checkpoint { node: NodeId(0) },
+        Act::Rekey { node: NodeId(7) },
         Act::Audit {
             node: NodeId(u32::MAX),
         },
@@ -85,6 +86,7 @@ fn texts_that_are_read(rt: HostRuntime) -> Result<(), Fail> {
         "node 6 honest",
         "audit 5\n",
         "timer 5 0\n\naudit 5",
+        "rekey 5\nrekey 5",
         "# \x7f",
     ];
     assert!(rt; first_other(rt.alloc(), HEAD, &all, 0)? == None);
@@ -135,6 +137,7 @@ fn acts_that_are_refused(rt: HostRuntime) -> Result<(), Fail> {
         "audit 6",
         "checkpoint 6\nnode 6 honest",
         "timer 6 0",
+        "rekey 6",
         "audit 4294967296",
         "audit 4294967301",
         "audit 05",
@@ -146,6 +149,8 @@ fn acts_that_are_refused(rt: HostRuntime) -> Result<(), Fail> {
         "timer 5 18446744073709551616",
         "timer 5 18446744073709551617",
         "timer 5 0 0",
+        "rekey 05",
+        "rekey 5 1",
     ];
     assert!(rt; first_other(rt.alloc(), HEAD, &all, 105)? == None);
     Ok(())
@@ -167,6 +172,9 @@ fn lines_that_are_refused(rt: HostRuntime) -> Result<(), Fail> {
         "audit 5 5",
         "stop 5",
         "Audit 5",
+        "rekey",
+        "rekey  5",
+        "Rekey 5",
         "5",
     ];
     assert!(rt; first_other(rt.alloc(), HEAD, &all, 105)? == None);

@@ -39,22 +39,80 @@ fn a_text_that_is_no_scenario_is_refused(rt: HostRuntime) {
     assert!(rt; written.is_empty());
 }
 
+/// Node 1's timer ticks so many times, and these lines follow.
+fn push_ticks(text: &mut Vec<u8>, count: u32, lines: &[u8]) -> Result<(), AllocError> {
+    for _ in 0..count {
+        text.extend_from_slice(b"timer 1 5\n")?;
+    }
+    text.extend_from_slice(lines)
+}
+
+/// Whether the scenario is refused with this line, and nothing written.
+fn is_refused<H: Threads + Wait + Sync>(
+    rt: &H,
+    alloc: Global,
+    text: &[u8],
+    line: &str,
+) -> Result<bool, Fail> {
+    let (answer, written) = outcome(rt, alloc, Task::Run(2), text);
+    let Err(fault) = answer else {
+        return Ok(false);
+    };
+    let told = format!(in alloc; "{fault}")?;
+    Ok(told.as_str() == line && written.is_empty())
+}
+
 /// A mute node drops each message, and its sender signs until its key is spent.
 #[test]
 fn a_spent_key_ends_the_run(rt: HostRuntime) -> Result<(), Fail> {
-    let alloc = rt.alloc();
-    let mut text = Vec::from_slice(alloc, b"witnesses 2\nnode 1 honest\nnode 2 mute\n")?;
-    for _ in 0..33 {
-        text.extend_from_slice(b"timer 1 5\n")?;
-    }
-    let (answer, written) = outcome(&rt, alloc, Task::Run(2), text.as_slice());
-    let number = match answer {
-        Ok(()) => 0,
-        Err(fault) => fault.number(),
-    };
-    assert!(rt; number == 36);
-    assert!(rt; written.is_empty());
+    let mut text = Vec::from_slice(rt.alloc(), b"witnesses 2\nnode 1 honest\nnode 2 mute\n")?;
+    push_ticks(&mut text, 33, b"")?;
+    assert!(rt; is_refused(&rt, rt.alloc(), &text, "refused 36 KeySpent")?);
     Ok(())
+}
+
+/// Node 1's timer ticks 17 times, these lines come before the last time, and node 2 shows its log. Each time takes two leaves of both nodes: node
+/// 1 signs its message and that it received the answer, node 2 that it received the message and the answer.
+fn seventeen_ticks(alloc: Global, lines: &[u8]) -> Result<Vec<u8>, AllocError> {
+    let mut text = Vec::from_slice(alloc, b"witnesses 1\nnode 1 honest\nnode 2 honest\n")?;
+    push_ticks(&mut text, 16, lines)?;
+    push_ticks(&mut text, 1, b"audit 2\n")?;
+    Ok(text)
+}
+
+#[test]
+fn two_leaves_are_signed_with_each_time(rt: HostRuntime) -> Result<(), Fail> {
+    let text = seventeen_ticks(rt.alloc(), b"")?;
+    assert!(rt; is_refused(&rt, rt.alloc(), &text, "refused 36 KeySpent")?);
+    Ok(())
+}
+
+#[test]
+fn second_keys_sign_on(rt: HostRuntime) -> Result<(), Fail> {
+    let text = seventeen_ticks(rt.alloc(), b"rekey 1\nrekey 2\n")?;
+    let (answer, written) = outcome(&rt, rt.alloc(), Task::Run(2), text.as_slice());
+    assert!(rt; answer == Ok(()));
+    assert!(rt; written.as_slice() == b"witness 0\n1 trusted\n2 trusted\nequal\n".as_slice());
+    Ok(())
+}
+
+#[test]
+fn a_second_key_is_taken_once(rt: HostRuntime) -> Result<(), Fail> {
+    let text = seventeen_ticks(rt.alloc(), b"rekey 1\nrekey 2\nrekey 1\n")?;
+    assert!(rt; is_refused(&rt, rt.alloc(), &text, "refused 31 WrongKey")?);
+    Ok(())
+}
+
+/// A wrong node, a forking one and a mute one are found out by their second keys as by their first.
+#[test]
+fn second_keys_are_told_of(rt: HostRuntime) {
+    let text = b"witnesses 1\nnode 1 fork\nnode 2 wrong\nnode 3 mute\n\
+        rekey 1\nrekey 2\nrekey 3\ntimer 1 5\ntimer 2 7\naudit 2\n";
+    let (answer, written) = told(&rt, rt.alloc(), 1, text);
+    assert!(rt; answer == Ok(()));
+    assert!(rt;
+        written.as_slice() == b"witness 0\n1 exposed\n2 exposed\n3 suspected\nequal\n".as_slice()
+    );
 }
 
 /// 64 nodes, each of which sends the next one a number and shows its log, and eight witnesses.

@@ -34,7 +34,7 @@ fn a_node_with_two_hashes_is_exposed(rt: HostRuntime) {
 
 #[test]
 fn refusals_are_told(rt: HostRuntime) {
-    let inputs: [(&'static [u8], Fault, &str); 4] = [
+    let inputs: [(&'static [u8], Fault, &str); 6] = [
         (b"", Fault::LineCount, "refused 104 LineCount"),
         (
             b"0g\n505253544f5245310000000000000000",
@@ -45,6 +45,16 @@ fn refusals_are_told(rt: HostRuntime) {
             b"5052444952454354\n",
             Fault::LineCount,
             "refused 104 LineCount",
+        ),
+        (
+            b"5052444952454332000000010000000100\n505253544f5245320000000000000000",
+            Fault::KeyCount,
+            "refused 26 KeyCount",
+        ),
+        (
+            b"5052444952454332000000010000000109\n505253544f5245320000000000000000",
+            Fault::KeyCount,
+            "refused 26 KeyCount",
         ),
         (unsigned(), Fault::BadSignature, "refused 49 BadSignature"),
     ];

@@ -83,7 +83,8 @@ one_of_two a b x y one two = either a x (cond b y (Err BadScenario)) one (either
 pub pair_has : (verb word : List ℕ) → IfOk (pair_of verb word) IsSaid
 unfolding pair_of
 pair_has verb word =
-    let later = one_of_two (bytes_eq verb (codes "checkpoint")) (bytes_eq verb (codes "audit")) (happening_of act.Checkpoint word) (happening_of act.Audit word) (happening_has act.Checkpoint word (λ i. tt)) (happening_has act.Audit word (λ i. tt)) in
+    let last = one_of_two (bytes_eq verb (codes "audit")) (bytes_eq verb (codes "rekey")) (happening_of act.Audit word) (happening_of act.Rekey word) (happening_has act.Audit word (λ i. tt)) (happening_has act.Rekey word (λ i. tt)) in
+    let later = either (bytes_eq verb (codes "checkpoint")) (happening_of act.Checkpoint word) _ (happening_has act.Checkpoint word (λ i. tt)) last in
     either (bytes_eq verb (codes "witnesses")) (witnesses_of word) _ (witnesses_has word) later
 
 pub triple_has : (verb first second : List ℕ) → IfOk (triple_of verb first second) IsSaid

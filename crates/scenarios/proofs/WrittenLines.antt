@@ -185,3 +185,5 @@ act_written (act.Checkpoint node) small fits =
     pair_is (codes "checkpoint") node (says.Happens (act.Checkpoint node)) refl (λ more. refl) (omega arith) (happened act.Checkpoint (decimal node) node (node_read node small))
 act_written (act.Audit node) small fits =
     pair_is (codes "audit") node (says.Happens (act.Audit node)) refl (λ more. refl) (omega arith) (happened act.Audit (decimal node) node (node_read node small))
+act_written (act.Rekey node) small fits =
+    pair_is (codes "rekey") node (says.Happens (act.Rekey node)) refl (λ more. refl) (omega arith) (happened act.Rekey (decimal node) node (node_read node small))

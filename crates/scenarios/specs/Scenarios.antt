@@ -49,6 +49,7 @@ abbrev pub node_of : Act → ℕ
 node_of (act.Timer node moment) = node
 node_of (act.Checkpoint node) = node
 node_of (act.Audit node) = node
+node_of (act.Rekey node) = node
 
 abbrev pub is_listed : List Member → ℕ → Bool
 is_listed nodes id = list_any (λ m. m.id == id) nodes

@@ -15,6 +15,7 @@ abbrev pub IsMoment : Act → Type 0
 IsMoment (act.Timer node moment) = moment < 2 ^ 64
 IsMoment (act.Checkpoint node) = Unit {0}
 IsMoment (act.Audit node) = Unit {0}
+IsMoment (act.Rekey node) = Unit {0}
 
 -- From 1 to 8 witnesses; from 1 to 64 nodes with different numbers of 32 bits; what happens, happens to a listed node; and a line
 -- for each finds room in a text.
@@ -51,6 +52,7 @@ abbrev pub act_line : Act → List ℕ
 act_line (act.Timer node moment) = triple_line (codes "timer") node (decimal moment)
 act_line (act.Checkpoint node) = pair_line (codes "checkpoint") node
 act_line (act.Audit node) = pair_line (codes "audit") node
+act_line (act.Rekey node) = pair_line (codes "rekey") node
 
 -- The text of a scenario.
 unfoldable pub text_of : Script → List ℕ

@@ -59,7 +59,7 @@ timer_of first second = do
   moment ← number_to 18446744073709551615 second
   Ok (says.Happens (act.Timer node moment))
 
--- `checkpoint ID` and `audit ID`.
+-- `checkpoint ID`, `audit ID` and `rekey ID`.
 unfoldable pub happening_of : (ℕ → Act) → List ℕ → Result Statement ScenarioFault
 happening_of happens word = do
   node ← id_of word
@@ -71,6 +71,7 @@ pair_of verb word =
     if bytes_eq verb (codes "witnesses") then witnesses_of word
     else if bytes_eq verb (codes "checkpoint") then happening_of act.Checkpoint word
     else if bytes_eq verb (codes "audit") then happening_of act.Audit word
+    else if bytes_eq verb (codes "rekey") then happening_of act.Rekey word
     else Err BadScenario
 
 -- What three words say.

@@ -67,7 +67,7 @@ impl Scenario {
     /// one blank, and numbers stand in decimal digits without leading zeros. Empty lines and those that begin with `#` are
     /// skipped. The others are, in this order: `witnesses W`, from 1 to 8; `node ID KIND` once and more, with at most 64 different
     /// numbers of 32 bits, and a kind of `honest`, `fork`, `mute` and `wrong`; and any number of `timer ID M`, with a
-    /// moment of 64 bits, `checkpoint ID` and `audit ID`, each of a listed node.
+    /// moment of 64 bits, `checkpoint ID`, `audit ID` and `rekey ID`, each of a listed node.
     ///
     /// All else is refused with `BadScenario` (105); `Memory` may come in place of it, or of the answer.
     pub fn read(alloc: Global, text: &[u8]) -> Result<Scenario, ScenarioFault>

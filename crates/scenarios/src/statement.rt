@@ -44,6 +44,11 @@ pub enum Act {
         /// The node that is asked.
         node: NodeId,
     },
+    /// The node signs with its next key from here on.
+    Rekey {
+        /// The node whose key changes.
+        node: NodeId,
+    },
 }
 
 /// What a line says.
@@ -66,7 +71,10 @@ impl Act {
         ensures { result ≡ node_of self.now }
     {
         match self {
-            Act::Timer { node, .. } | Act::Checkpoint { node } | Act::Audit { node } => *node,
+            Act::Timer { node, .. }
+            | Act::Checkpoint { node }
+            | Act::Audit { node }
+            | Act::Rekey { node } => *node,
         }
     }
 }

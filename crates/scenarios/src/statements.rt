@@ -79,6 +79,9 @@ fn pair_of(verb: &[u8], word: &[u8]) -> Result<Statement, ScenarioFault>
     } else if verb == b"audit".as_slice() {
         let node = id_of(word)?;
         Ok(Statement::Happens(Act::Audit { node }))
+    } else if verb == b"rekey".as_slice() {
+        let node = id_of(word)?;
+        Ok(Statement::Happens(Act::Rekey { node }))
     } else {
         Err(ScenarioFault::BadScenario)
     }
