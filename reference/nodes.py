@@ -2,7 +2,8 @@
 """Computes, over Python's hashlib alone, the values that the tests of messages and of nodes hold, and looks for each in its file.
 
 It shares no code with the crates: LMS with H5 (RFC 8554), the hash chain of a log, and nodes under Tally are written here again,
-from the formats (docs/FORMATS.md) and the RFC. A node's key has the identifier and the seed that end in the node's number.
+from the formats (docs/FORMATS.md) and the RFC. A node's keys have the identifier and the seed that end in the node's number, and
+before it the key's number in each byte.
 """
 
 import hashlib
@@ -39,9 +40,9 @@ def u64(number):
 class Key:
     """A secret key of RFC 8554, appendix A, with its whole tree."""
 
-    def __init__(self, node, ots_type):
-        self.identifier, self.seed = bytes(12) + u32(node), bytes(28) + u32(node)
-        self.ots_type, self.next_leaf = ots_type, 0
+    def __init__(self, node, ots_type, number=0):
+        self.identifier, self.seed = 12 * u8(number) + u32(node), 28 * u8(number) + u32(node)
+        self.ots_type, self.next_leaf, self.number = ots_type, 0, number
         self.width, self.chains, self.shift = OTS[ots_type]
         self.tree = {LEAVES + leaf: self.leaf_hash(leaf) for leaf in range(LEAVES)}
         for r in range(LEAVES - 1, 0, -1):
@@ -64,6 +65,7 @@ class Key:
         return [(byte >> (8 - self.width * (k + 1))) & ((1 << self.width) - 1) for byte in text for k in range(8 // self.width)]
 
     def sign(self, message, c):
+        """The signature's text: behind the key's number, but for key 0."""
         leaf, self.next_leaf = self.next_leaf, self.next_leaf + 1
         assert leaf < LEAVES
         digest = sha256(self.identifier, u32(leaf), u16(0x8181), c, message)
@@ -71,7 +73,8 @@ class Key:
         digits = self.digits(digest + u16(checksum))[: self.chains]
         values = [self.chain(leaf, i, self.start(leaf, i), digit) for i, digit in enumerate(digits)]
         path = [self.tree[((LEAVES + leaf) >> level) ^ 1] for level in range(HEIGHT)]
-        return b"".join([u32(leaf), u32(self.ots_type), c, *values, u32(HEIGHT), *path])
+        signature = b"".join([u32(leaf), u32(self.ots_type), c, *values, u32(HEIGHT), *path])
+        return u8(self.number) + signature if self.number else signature
 
 
 def entry_hash(before, seq, kind, content):
