@@ -24,7 +24,7 @@ def statement(key, byte):
 
 def main():
     key = Key(1, 3)
-    told = sha256(container(b"PRSTORE1", [statement(key, byte) for byte in (1, 2)])).hex()
+    told = sha256(container(b"PRSTORE2", [statement(key, byte) for byte in (1, 2)])).hex()
     with open(TESTS, encoding="utf-8") as file:
         found = told in file.read()
     print(told, "found" if found else "NOT FOUND")
