@@ -29,7 +29,7 @@ def items_of(store):
 
 
 def line_of(items):
-    return (b"PRSTORE1" + len(items).to_bytes(8, "big") + b"".join(items)).hex()
+    return (b"PRSTORE2" + len(items).to_bytes(8, "big") + b"".join(items)).hex()
 
 
 def shards_of(items, count):

@@ -20,13 +20,18 @@ def text(content):
 
 
 class Keys:
-    """The keys of the nodes 1 and 2 (H5, W4), and what they sign."""
+    """The keys of the nodes 1 and 2 (H5, W4), two of each, and what they sign by those with the present number."""
 
     def __init__(self):
-        self.keys = {1: Key(1, 3), 2: Key(2, 3)}
+        self.number, self.keys = 0, {}
+
+    def key(self, node, number):
+        if (node, number) not in self.keys:
+            self.keys[node, number] = Key(node, 3, number)
+        return self.keys[node, number]
 
     def sign(self, node, seq, digest, c=9):
-        return self.keys[node].sign(u64(seq) + digest, bytes([c]) * 32)
+        return self.key(node, self.number).sign(u64(seq) + digest, bytes([c]) * 32)
 
     def auth(self, node, seq, digest, c=9):
         return u8(1) + u32(node) + u64(seq) + digest + text(self.sign(node, seq, digest, c))
@@ -56,6 +61,10 @@ class Keys:
     def quoting(self, message, **changes):
         """Node 2's INIT and the RECV of the message, in which the fields are changed."""
         return self.segment(2, sha256(), [(1, INIT, u32(2)), (2, RECV, changed(message, changes).quote())])
+
+    def received(self, *messages):
+        """Node 2's INIT, and a RECV of each of the messages."""
+        return self.segment(2, sha256(), [(1, INIT, u32(2)), *((2 + i, RECV, it.quote()) for i, it in enumerate(messages))])
 
     def quoting_later(self, message, **changes):
         """The same from a CHECKPOINT on."""
@@ -113,16 +122,18 @@ def demand(message):
 
 
 def directory(keys):
-    text = b"PRDIRECT" + u32(2)
+    text = b"PRDIREC2" + u32(2)
     for node in (1, 2):
-        key = keys.keys[node]
-        text += u32(node) + u32(5) + u32(key.ots_type) + key.identifier + key.tree[1]
+        text += u32(node) + u8(2)
+        for number in (0, 1):
+            key = keys.key(node, number)
+            text += u32(5) + u32(key.ots_type) + key.identifier + key.tree[1]
     return text
 
 
-def export(items):
+def export(items, magic=b"PRSTORE2"):
     items = sorted(set(items))
-    return b"PRSTORE1" + u64(len(items)) + b"".join(text(item) for item in items)
+    return magic + u64(len(items)) + b"".join(text(item) for item in items)
 
 
 def demand_and_other_ack():
@@ -154,7 +165,9 @@ TRUSTED = "trusted 0 -"
 NOTHING = f"1 {TRUSTED} 2 {TRUSTED}"
 FIRST = f"1 exposed 0 1 2 {TRUSTED}"
 SECOND = f"1 {TRUSTED} 2 exposed 0 2"
+BOTH = "1 exposed 0 1 2 exposed 0 2"
 OPEN = f"1 {TRUSTED} 2 suspected 1 -"
+OPEN_AND_SECOND = f"1 {TRUSTED} 2 exposed 1 2"
 
 
 def quotes(message):
@@ -195,18 +208,57 @@ def cases():
     k = Keys()
     # a statement on a number before the log's first
     yield [beginning(k), k.auth(2, 2, ONES)], SECOND
-    # a message that another one's acknowledgement does not answer, that its own does, and that a segment with it does
+    # a message that the acknowledgement of one with another number does not answer, that its own does, and that a segment with it does
     yield demand_and_other_ack()[:1], OPEN
     yield demand_and_other_ack(), OPEN
     yield demand_and_ack(), NOTHING
     yield demand_and_receipt(0), NOTHING
     # a receipt that its sender did not sign so: it answers nothing, and exposes who logged it
-    yield demand_and_receipt(1), f"1 {TRUSTED} 2 exposed 1 2"
+    yield demand_and_receipt(1), OPEN_AND_SECOND
     k = Keys()
     # a demand from the second entry on, a part that begins behind that, and the whole log
     audit, part, whole = k.audit(2), k.log_from(3), k.log_from(1)
     yield [audit, part], OPEN
     yield [audit, part, whole], NOTHING
+    yield from of_two_keys()
+    yield from of_one_number()
+
+
+def of_two_keys():
+    """What nodes sign by one and by the other of their keys."""
+    k = Keys()
+    statement, part = k.auth(1, 5, ONES), k.log_from(3)
+    k.number = 1
+    # one statement by both keys, and two hashes of one number
+    yield [statement, k.auth(1, 5, ONES)], NOTHING
+    yield [statement, k.auth(1, 5, TWOS)], FIRST
+    # a segment, and a statement by the other key that contradicts it
+    yield [part, k.auth(2, 4, ZEROS)], SECOND
+    # a message that is acknowledged, that a segment quotes, and that one quotes without the number of its key
+    message = k.message(1, 7, b"hello")
+    yield [demand(message), k.ack(message)], NOTHING
+    yield [demand(message), k.received(message)], NOTHING
+    yield [demand(message), k.quoting(message, signature=message.signature[1:])], OPEN_AND_SECOND
+
+
+def of_one_number():
+    """Messages of node 1 to node 2 under one number: X and Y, and X once more, by another signature."""
+    k = Keys()
+    first, second, again = (k.message(1, 7, payload) for payload in (b"X", b"Y", b"X"))
+    later, other = k.message(1, 8, b"X"), k.message(2, 7, b"X")
+    # what answers the one answers the other, and the two hashes expose node 1
+    yield [demand(second), k.ack(first)], FIRST
+    yield [demand(second), k.received(first)], FIRST
+    yield [demand(again), k.ack(first)], NOTHING
+    yield [demand(again), k.received(first)], NOTHING
+    # what is of another number or of another sender answers nothing
+    yield [demand(first), k.received(later)], OPEN
+    yield [demand(first), k.ack(other)], OPEN
+    # a node that receives the number twice is exposed, wherever in its log it does
+    yield [k.received(first, first)], SECOND
+    yield [k.received(first, later, again)], SECOND
+    yield [k.received(first, second)], BOTH
+    yield [k.received(first, later)], NOTHING
 
 
 def store(first, second, said):
@@ -229,14 +281,15 @@ def lines():
     # six items, taken by two witnesses in turns, doubled, or by one of them alone
     k = Keys()
     six = [*(k.auth(1, 5, ONES, c) for c in (0, 1, 9)), k.auth(1, 5, TWOS), k.log_from(3), k.auth(2, 4, ZEROS)]
-    said = "1 exposed 0 1 2 exposed 0 2"
     for first, second in (((0, 2, 4), (5, 3, 1)), ((5, 3, 1), (0, 2, 4)), ((4, 0, 5, 1), (5, 4, 3, 2, 1, 0)), ((2, 3, 4, 5, 0, 1), (3, 3)), ((), (1, 5, 0, 4, 2, 3))):
-        yield store([six[i] for i in first], [six[i] for i in second], said)
+        yield store([six[i] for i in first], [six[i] for i in second], BOTH)
     yield store([], [], NOTHING)
-    # a text of two items, cut off at each place, lengthened, and with its items turned, before a store that has another one
+    # a text of two items, as it is written and as it was before there were second keys, cut off at each place, lengthened, and with its
+    # items turned, before a store that has another one
     k = Keys()
     items = [k.auth(1, 5, ONES), k.auth(1, 5, TWOS)]
-    yield f"cuts {spell([k.auth(2, 5, ONES)])} {export(items).hex()} {16 + 4 + len(items[0])}"
+    for magic in (b"PRSTORE2", b"PRSTORE1"):
+        yield f"cuts {spell([k.auth(2, 5, ONES)])} {export(items, magic).hex()} {16 + 4 + len(items[0])}"
 
 
 def spell(items):

@@ -35,7 +35,7 @@ def summary(items):
 def taken():
     """A directory of node 1, and the four statements that witnesses take in the tests of witness_core."""
     key = Key(1, 3)
-    directory = b"PRDIRECT" + u32(1) + u32(1) + u32(5) + u32(3) + key.identifier + key.tree[1]
+    directory = b"PRDIREC2" + u32(1) + u32(1) + u8(1) + u32(5) + u32(3) + key.identifier + key.tree[1]
     return directory, [statement(key, *of) for of in ((5, 7), (5, 8), (6, 9), (6, 10))]
 
 

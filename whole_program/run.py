@@ -27,8 +27,8 @@ LONGEST_INPUT = 67_108_864
 
 
 def statements(store):
-    """The node, number and hash of each statement of a store in PRSTORE1, by the format alone. Signatures are not looked at."""
-    assert store[:8] == b"PRSTORE1"
+    """The node, number and hash of each statement of a store, by the format alone. Signatures are not looked at."""
+    assert store[:8] in (b"PRSTORE1", b"PRSTORE2")
     count, place, found = int.from_bytes(store[8:16], "big"), 16, []
     for _ in range(count):
         item = store[place + 4 : place + 4 + int.from_bytes(store[place : place + 4], "big")]
@@ -144,9 +144,11 @@ def scenes():
 
 
 def spread(build):
-    """What `merge` writes of the stores of three witnesses is the text whose digest the tests of witness_core hold."""
+    """What `merge` writes of the stores of three witnesses, one of whom writes an older text, is the text whose digest the tests of
+    witness_core hold."""
     directory, items = transfers.taken()
-    stores = [transfers.container(b"PRSTORE1", [items[place] for place in places]) for places in ((0, 1), (1, 2), (2, 3, 0))]
+    sent = (b"PRSTORE2", (0, 1)), (b"PRSTORE1", (1, 2)), (b"PRSTORE2", (2, 3, 0))
+    stores = [transfers.container(magic, [items[place] for place in places]) for magic, places in sent]
     lines = "\n".join(text.hex() for text in (directory, *stores))
     with open(transfers.WITNESSES) as file:
         held = file.read()
@@ -155,7 +157,7 @@ def spread(build):
 
 
 def plays(build):
-    """What `run` writes of scenarios, of texts that are none, and of one in which a node's key is spent."""
+    """What `run` writes of scenarios, of texts that are none, and of some in which a node's keys are spent."""
     stored = {}
     for name in ("stdin", "stdout"):
         with open(f"{TOP}/crates/node_sim/{name}") as file:
@@ -164,11 +166,16 @@ def plays(build):
     for words in [["run"], ["run", "--workers", "1"], ["run", "--workers", "2"], ["run", "--workers=2"]]:
         yield f"a scenario: {' '.join(words)}", run(build, words, at_once(scenario)), lambda got: got == (0, stored["stdout"], "")
     yield "a scenario, byte by byte", run(build, ["run"], in_pieces(scenario, 1, 40)), lambda got: got == (0, stored["stdout"], "")
-    spent = b"witnesses 1\nnode 1 honest\nnode 2 mute\n" + b"timer 1 5\n" * 33
+    two_nodes = b"witnesses 1\nnode 1 honest\nnode 2 mute\n"
+    spent = two_nodes + b"timer 1 5\n" * 33
+    renewed = two_nodes + b"timer 1 5\n" * 32 + b"rekey 1\ntimer 1 5\n"
+    second = run(build, ["run"], at_once(renewed))
+    yield "run: a second key", second, lambda got: got == (0, "witness 0\n1 trusted\n2 suspected\nequal\n", "")
     for name, feed, told in [
         ("an empty text", at_once(b""), "refused 105 BadScenario\n"),
         ("nine witnesses", at_once(b"witnesses 9\nnode 1 honest\n"), "refused 105 BadScenario\n"),
         ("a spent key", at_once(spent), "refused 36 KeySpent\n"),
+        ("a third key", at_once(two_nodes + b"rekey 1\nrekey 1\n"), "refused 31 WrongKey\n"),
         ("an input one byte too long", zeros(LONGEST_INPUT + 1), "refused 101 InputTooLong\n"),
     ]:
         yield f"run: {name}", run(build, ["run", "--workers", "2"], feed), lambda got, told=told: got == (1, "", told)
@@ -197,8 +204,8 @@ def cases(build):
     directory, store = small.split("\n")[:2]
     exposed = [line.split()[0] for line in report(small).split("\n") if line.endswith(" exposed")]
     for name, lines, want in [
-        ("no store", [directory], "505253544f5245310000000000000000\n"),
-        ("a store with itself", [directory, store, store.upper()], store.lower() + "\n"),
+        ("no store", [directory], "505253544f5245320000000000000000\n"),
+        ("an older store with itself", [directory, store, store.upper()], f"{b'PRSTORE2'.hex()}{store[16:].lower()}\n"),
     ]:
         yield f"merge: {name}", run(build, ["merge"], at_once("\n".join(lines).encode())), lambda got, want=want: got == (0, want, "")
     for node in exposed:
