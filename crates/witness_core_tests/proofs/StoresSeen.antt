@@ -1,7 +1,7 @@
 -- Stores and what contracts see of them.
 use Rattle.std.proofs.Common.{◌≡◌, ◌<◌, ℕ, List, length, map, get_or, sym, ap, subst, ◌∙◌, arith}
 use Rattle.std.proofs.lemmas.List.{get_or-map, length-map}
-use Rattle.evidence_store.specs.Contents.{Contents}
+use Rattle.evidence.specs.Contents.{Contents}
 use Rattle.witness_core.specs.Worlds.{nothing}
 
 pub contents_in : {S : Type 0} (contents : S → Contents) (stores : List S) (shown : List Contents) (i : ℕ) (old : S) → map contents stores ≡ shown → i < length stores → old ≡ get_or stores i old → (i < length shown) × (contents old ≡ get_or shown i nothing)

@@ -2,7 +2,7 @@
 
 ghost use Rattle.std.specs.Prelude.{◌≡◌, IfOk, map};
 ghost use Rattle.std.specs.List.{All};
-ghost use Rattle.evidence_store.specs.Contents.{Contents};
+ghost use Rattle.evidence.specs.Contents.{Contents};
 ghost use Rattle.witness_core.specs.Answering.{IsCheckedFor};
 
 use authenticators::{Authenticator, Directory, NodeId, statement_text};

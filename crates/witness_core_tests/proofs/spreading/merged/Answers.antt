@@ -1,5 +1,5 @@
 use Rattle.std.proofs.Common.{ap, sym, ◌∙◌}
-use Rattle.evidence_store.specs.Contents.{Contents}
+use Rattle.evidence.specs.Contents.{Contents}
 use Rattle.witness_core_tests.proofs.StoresSeen.{contents_in}
 use Rattle.witness_core_tests.proofs.spreading.merged.Goals as goal
 

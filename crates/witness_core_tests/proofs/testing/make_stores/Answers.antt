@@ -1,7 +1,7 @@
 use Rattle.std.proofs.Common.{◌≡◌, ◌∷◌, ◌∙◌, [], ap, map}
 use Rattle.std.proofs.lemmas.List.{map-append}
 use Rattle.std.proofs.lemmas.List.Elements.{All-push}
-use Rattle.evidence_store.specs.Contents.{Contents}
+use Rattle.evidence.specs.Contents.{Contents}
 use Rattle.witness_core_tests.proofs.testing.make_stores.Goals as goal
 
 pub loop-preserved : goal.loop-preserved

@@ -1,6 +1,6 @@
 use Rattle.std.proofs.Common.{◌≡◌, map}
 use Rattle.std.specs.List.{All}
-use Rattle.evidence_store.specs.Contents.{Contents}
+use Rattle.evidence.specs.Contents.{Contents}
 use Rattle.witness_core_tests.proofs.testing.make_stores.Given as goal
 
 abbrev pub invariant-loop : goal.invariant-loop

@@ -1,0 +1,84 @@
+//! Why a store refuses.
+
+ghost use Rattle.std.specs.Prelude.{◌≡◌};
+ghost use Rattle.evidence.specs.declared.fault.AskFault.TheVariants.{Memory};
+ghost use Rattle.evidence.specs.Refusals.{name_of, number_of};
+
+use authenticators::Directory;
+use evidence_item::Checked;
+use std::alloc::{AllocError, AllocFailed};
+use thiserror::Error;
+
+/// A store that could not be made, since a growth was refused. The directory is given back.
+#[derive(Debug, Drop, Error)]
+#[error("out of memory for a store")]
+pub struct NewStoreRefused(pub Directory);
+
+/// A checked item that could not be taken, since a growth was refused. It is given back.
+#[derive(Debug, Drop, Error)]
+#[error("out of memory for an item")]
+pub struct TakeRefused<P>(pub Checked<P>);
+
+/// 44: the node is not listed in the store's directory.
+#[derive(Clone, Copy, Debug, PartialEq, Eq, Error)]
+#[error("the node is not listed in the directory")]
+pub struct UnknownNode;
+
+/// Why a question about a node is refused.
+#[derive(Clone, Copy, Debug, PartialEq, Eq, Error)]
+pub enum AskFault {
+    /// 44: the node is not listed in the store's directory.
+    #[error("the node is not listed in the directory")]
+    UnknownNode,
+    /// 99: a growth of memory was refused.
+    #[error("memory ran out")]
+    Memory,
+}
+
+impl AskFault {
+    /// The number of the refusal.
+    pub fn number(&self) -> u8
+        ensures { result ≡ number_of self.now }
+    {
+        match self {
+            AskFault::UnknownNode => 44,
+            AskFault::Memory => 99,
+        }
+    }
+
+    /// The name of the refusal, which is that of its variant.
+    pub fn name(&self) -> &'static str
+        ensures { result.now ≡ name_of self.now }
+    {
+        match self {
+            AskFault::UnknownNode => "UnknownNode",
+            AskFault::Memory => "Memory",
+        }
+    }
+}
+
+impl From<AllocError> for AskFault {
+    ghost from_gives = { λ _ e. e ≡ Memory };
+
+    fn from(_: AllocError) -> AskFault {
+        AskFault::Memory
+    }
+}
+
+impl<T: Drop> From<AllocFailed<T>> for AskFault {
+    ghost from_gives = { λ _ e. e ≡ Memory };
+
+    fn from(_: AllocFailed<T>) -> AskFault {
+        AskFault::Memory
+    }
+}
+
+impl From<UnknownNode> for AskFault {
+    ghost use Rattle.evidence.specs.declared.fault.AskFault.TheVariants.{UnknownNode};
+
+    ghost from_gives = { λ _ e. e ≡ UnknownNode };
+
+    fn from(_: UnknownNode) -> AskFault {
+        AskFault::UnknownNode
+    }
+}

@@ -1,0 +1,16 @@
+pub mod Added
+pub mod Answered
+pub mod Bridge
+pub mod Convicted
+pub mod Exposures
+mod FoundEach
+pub mod Grouped
+mod Imported
+pub mod Indicated
+pub mod Listed
+pub mod Members
+pub mod Merged
+pub mod Orders
+pub mod Places
+pub mod Taken
+mod ToldStatements

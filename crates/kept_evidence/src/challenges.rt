@@ -1,0 +1,106 @@
+//! Challenges, and what answers them.
+
+ghost use Rattle.std.specs.Prelude.{◌≡◌, false};
+ghost use Rattle.log_chain.specs.Chain.{hashes as hashes_of};
+ghost use Rattle.evidence_set.specs.Challenges.{answers_audit, covers, is_against, is_same_sending};
+ghost use Rattle.kept_evidence.specs.Kept.{HasHashes};
+ghost use Rattle.kept_evidence.specs.Telling.{is_told_receipt, told_receipt, told_send};
+
+use crate::findings::{found_hashes, found_quotes};
+use authenticators::NodeId;
+use evidence_item::{AuditChallenge, Checked, Entry, Form, Hash, Item, Message, Segment};
+use log_chain::{base_hash, kind};
+use replay_verifier::Receipt;
+
+/// Whether the item is a challenge against the node.
+pub fn is_against(node: NodeId, item: &Item) -> bool
+    ensures { result ≡ is_against node item.now.fields }
+{
+    match item.form() {
+        Form::Audit(challenge) => challenge.node == node,
+        Form::Send(message) => message.to == node,
+        Form::Auth(_) | Form::Segment(_) | Form::Ack(_) => false,
+    }
+}
+
+/// Whether the segment, whose entries have these hashes, has what the challenge names.
+fn covers(challenge: &AuditChallenge, segment: &Segment, hashes: &[Hash]) -> bool
+    requires { hashes.now ≡ hashes_of segment.now.prev segment.now.entries }
+    ensures { result ≡ covers challenge.now.first challenge.now.last segment.now }
+{
+    let last = &challenge.last;
+    match &challenge.first {
+        None => {
+            segment.prev == base_hash() && segment.has_found_pair(hashes, last.seq, last.hash)
+        }
+        Some(first) => {
+            segment.has_found_pair(hashes, first.seq, first.hash)
+                && segment.has_found_pair(hashes, last.seq, last.hash)
+        }
+    }
+}
+
+/// Whether the item answers the audit challenge.
+pub fn answers_audit<P>(challenge: &AuditChallenge, checked: &Checked<P>) -> bool
+    requires { HasHashes checked.now }
+    ensures { result ≡ answers_audit challenge.now checked.now.item.fields }
+{
+    let Form::Segment(segment) = checked.item().form() else {
+        return false;
+    };
+    let Some(hashes) = found_hashes(checked) else {
+        return false;
+    };
+    segment.node == challenge.node && covers(challenge, segment, hashes)
+}
+
+/// Whether the entry, of which this hash was found, is the receipt of a message with the sender and the number of this one.
+fn is_receipt_of(message: &Message, entry: &Entry, hash: Option<Hash>) -> bool
+    ensures { result ≡ is_told_receipt message.now entry.now hash }
+{
+    if hash.is_none() {
+        return false;
+    }
+    let Some(receipt) = Receipt::read(entry.content.as_slice()) else {
+        return false;
+    };
+    receipt.from == message.from && receipt.seq == message.seq
+}
+
+/// Whether one of the entries, of which these hashes were found, is.
+fn have_receipt_of(message: &Message, entries: &[Entry], hashes: &[Option<Hash>]) -> bool
+    ensures { result ≡ told_receipt message.now entries.now hashes.now }
+{
+    let mut rest = hashes;
+    for entry in entries {
+        let [hash, others @ ..] = rest else {
+            return false;
+        };
+        if is_receipt_of(message, entry, *hash) {
+            return true;
+        }
+        rest = others;
+    }
+    false
+}
+
+/// Whether the message has the sender, the receiver and the number of the other.
+fn is_same_sending(message: &Message, other: &Message) -> bool
+    ensures { result ≡ is_same_sending message.now other.now }
+{
+    message.from == other.from && message.to == other.to && message.seq == other.seq
+}
+
+/// Whether the item answers the challenge to acknowledge the message.
+pub fn answers_send<P>(message: &Message, checked: &Checked<P>) -> bool
+    ensures { result ≡ told_send message.now checked.now.item.fields checked.now.findings }
+{
+    match checked.item().form() {
+        Form::Segment(segment) => {
+            segment.node == message.to
+                && have_receipt_of(message, segment.entries.as_slice(), found_quotes(checked))
+        }
+        Form::Ack(ack) => is_same_sending(&ack.message, message),
+        Form::Auth(_) | Form::Audit(_) | Form::Send(_) => false,
+    }
+}

@@ -1,0 +1,12 @@
+use Rattle.std.proofs.Common.{List, subst}
+use Rattle.std.specs.Prelude.{◌↔◌, IsSome}
+use Rattle.evidence_item.specs.Checking.{Checked}
+use Rattle.evidence_set.specs.Indications.{IsExposed}
+use Rattle.evidence.specs.Contents.{Contents}
+use Rattle.kept_evidence.specs.Kept.{set_of}
+use Rattle.plain_store.proofs.plain_store.PlainStoreEvidence.proof.Goals as goal
+
+pub returns-clause-some : goal.returns-clause-some
+returns-clause-some g c =
+    subst (λ (s : Contents). IsSome c.in_ok-found.found ↔ IsExposed s.directory g.P.Program.means s.items c.args.node) c.self.view_is
+    (subst (λ (l : List Checked). IsSome c.in_ok-found.found ↔ IsExposed c.self.inside.directory g.P.Program.means (set_of l) c.args.node) c.deref.ensures.value c.in_ok-found.ensures.some)

@@ -1,0 +1,56 @@
+//! Two lists of checked items made one.
+
+ghost use Rattle.std.specs.Prelude.{◌≡◌, ◌+◌, ◌≤◌, ◌↔◌, ◌⊎◌, Contains, IfOk, length, not, vec_capacity, vec_len};
+ghost use Rattle.std.specs.List.{filter};
+ghost use Rattle.item_forms.specs.Pieces.{Piece};
+ghost use Rattle.evidence_item.specs.Checking.{Checked as TheChecked};
+ghost use Rattle.kept_evidence.specs.Kept.{IsAscending, Keeps, is_kept};
+
+use crate::placing::keeps;
+use evidence_item::Checked;
+use outcome::Memory;
+use std::alloc::Global;
+
+/// Takes away the items that are kept already.
+pub(crate) fn drop_kept<P>(kept: &[Checked<P>], more: &mut Vec<Checked<P>>)
+    requires { IsAscending kept.now }
+    ensures { more.new.items ≡ filter (λ (c : TheChecked). not (is_kept kept.now c.item)) more.old.items }
+{
+    more.retain(
+        |checked|
+            requires { IsAscending kept.now }
+        { !keeps(kept, checked.item()) },
+    );
+}
+
+/// Copies of the items that are not kept.
+pub(crate) fn copies_of_missing<P>(
+    alloc: Global,
+    kept: &[Checked<P>],
+    others: &[Checked<P>],
+) -> Result<Vec<Checked<P>>, Memory>
+    requires { IsAscending kept.now }
+    ensures { IfOk result (λ copies. copies.items ≡ filter (λ (c : TheChecked). not (is_kept kept.now c.item)) others.now) }
+{
+    let mut copies = Vec::new(alloc);
+    for other in others {
+        if !keeps(kept, other.item()) {
+            copies.push(other.try_clone(alloc)?)?;
+        }
+    }
+    Ok(copies)
+}
+
+/// Puts more items, none of which is kept, into their places. There is room for all of them.
+pub(crate) fn join<P>(kept: &mut Vec<Checked<P>>, mut more: Vec<Checked<P>>)
+    requires room { vec_len kept.old + vec_len more ≤ vec_capacity kept.old }
+    requires kept { IsAscending kept.old.items }
+    requires more { IsAscending more.items }
+    requires apart { (x : Piece) → Keeps kept.old.items x → Keeps more.items x → ⊥ }
+    ensures ascending { IsAscending kept.new.items }
+    ensures members { (c : TheChecked) → Contains kept.new.items c ↔ (Contains kept.old.items c ⊎ Contains more.items c) }
+    ensures count { length kept.new.items ≡ length kept.old.items + length more.items }
+{
+    let _ = kept.append(&mut more);
+    kept.sort_unstable_by(|a, b| a.item().cmp(b.item()));
+}

@@ -1,0 +1,47 @@
+//! The items of a set in their order.
+
+ghost use Rattle.std.specs.Prelude.{◌≡◌, IfOk, option_map, slice_get};
+ghost use Rattle.evidence_item.specs.Checking.{Checked as TheChecked};
+ghost use Rattle.evidence_set.specs.Exports.{export_of};
+ghost use Rattle.evidence_set.specs.ItemSets.{count, listed};
+ghost use Rattle.kept_evidence.specs.Kept.{IsAscending, set_of};
+
+use containers::write_all;
+use evidence_item::Checked;
+use kept_evidence::MAGIC;
+use outcome::Memory;
+use std::alloc::Global;
+
+/// How many items the set has.
+pub(crate) fn count<P>(kept: &[Checked<P>]) -> u64
+    requires { IsAscending kept.now }
+    ensures { result ≡ count (set_of kept.now) }
+{
+    kept.len() as u64
+}
+
+/// A copy of the item at a place, where there is one.
+pub(crate) fn item_at<P>(
+    alloc: Global,
+    kept: &[Checked<P>],
+    n: u64,
+) -> Result<Option<Checked<P>>, Memory>
+    requires { IsAscending kept.now }
+    ensures item { IfOk result (λ found. option_map (λ (c : TheChecked). c.item) found ≡ slice_get (listed (set_of kept.now)) n) }
+    ensures kept { IfOk result (λ found. found ≡ slice_get kept.now n) }
+{
+    let place = n as usize;
+    if place >= kept.len() {
+        return Ok(None);
+    }
+    Ok(Some(kept[place].try_clone(alloc)?))
+}
+
+/// The text of the set.
+pub(crate) fn export<P>(alloc: Global, kept: &[Checked<P>]) -> Result<Vec<u8>, Memory>
+    requires { IsAscending kept.now }
+    ensures { IfOk result (λ text. text.items ≡ export_of (set_of kept.now)) }
+{
+    let text = write_all(alloc, MAGIC, kept)?;
+    Ok(text)
+}

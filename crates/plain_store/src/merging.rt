@@ -1,0 +1,72 @@
+//! Adding many checked items at once.
+
+ghost use Rattle.std.specs.Prelude.{◌≡◌, ◌+◌, IfOk, OnErr, OnOk, length};
+ghost use Rattle.std.specs.List.{flat_map};
+ghost use Rattle.item_forms.specs.Pieces.{Piece};
+ghost use Rattle.evidence_item.specs.Checking.{Checked as TheChecked};
+ghost use Rattle.evidence_set.specs.ItemSets.{Join, count};
+ghost use Rattle.kept_evidence.specs.Kept.{AreKept, IsStore, Keeps, set_of};
+ghost use Rattle.kept_evidence.specs.Telling.{told_statements};
+
+use crate::joining::{copies_of_missing, join};
+use authenticators::{Authenticator, AuthenticatorStore, Directory};
+use evidence_item::Checked;
+use kept_evidence::write_statements;
+use outcome::Memory;
+use replay_verifier::Program;
+use std::alloc::Global;
+
+/// The statements of all of the items, one item after the other.
+fn statements_of_each<P>(alloc: Global, items: &[Checked<P>]) -> Result<Vec<Authenticator>, Memory>
+    ensures { IfOk result (λ all. all.items ≡ flat_map (λ (c : TheChecked). told_statements c.item.fields c.findings) items.now) }
+{
+    let mut statements = Vec::new(alloc);
+    for item in items {
+        write_statements(alloc, &mut statements, item)?;
+    }
+    Ok(statements)
+}
+
+/// Adds items, none of which is kept: all of them, or, with `Memory`, none.
+pub(crate) fn add_all<P: Program>(
+    alloc: Global,
+    directory: &Directory,
+    kept: &mut Vec<Checked<P>>,
+    held: &mut AuthenticatorStore,
+    more: Vec<Checked<P>>,
+) -> Result<(), Memory>
+    requires store { IsStore directory.now P.means kept.old.items held.old }
+    requires more { AreKept directory.now P.means more.items }
+    requires apart { (x : Piece) → Keeps kept.old.items x → Keeps more.items x → ⊥ }
+    ensures store { IsStore directory.now P.means kept.new.items held.new }
+    ensures joined { OnOk result (set_of kept.new.items ≡ Join (set_of kept.old.items) (set_of more.items)) }
+    ensures count { OnOk result (length kept.new.items ≡ length kept.old.items + length more.items) }
+    ensures refused { OnErr result (kept.new.items ≡ kept.old.items) }
+{
+    let statements = statements_of_each(alloc, &more)?;
+    kept.reserve(more.len())?;
+    held.insert_all(statements)?;
+    join(kept, more);
+    Ok(())
+}
+
+/// Adds copies of the items that are not kept yet, and answers how many: all of them, or, with `Memory`, none.
+pub(crate) fn merge<P: Program>(
+    alloc: Global,
+    directory: &Directory,
+    kept: &mut Vec<Checked<P>>,
+    held: &mut AuthenticatorStore,
+    others: &[Checked<P>],
+) -> Result<u64, Memory>
+    requires store { IsStore directory.now P.means kept.old.items held.old }
+    requires others { AreKept directory.now P.means others.now }
+    ensures store { IsStore directory.now P.means kept.new.items held.new }
+    ensures told { IfOk result (λ new. count (set_of kept.old.items) + new ≡ count (set_of kept.new.items)) }
+    ensures joined { OnOk result (set_of kept.new.items ≡ Join (set_of kept.old.items) (set_of others.now)) }
+    ensures refused { OnErr result (kept.new.items ≡ kept.old.items) }
+{
+    let copies = copies_of_missing(alloc, kept, others)?;
+    let new = copies.len() as u64;
+    add_all(alloc, directory, kept, held, copies)?;
+    Ok(new)
+}

@@ -1,0 +1,52 @@
+//! The challenges against a node that are open.
+
+ghost use Rattle.std.specs.Prelude.{◌≡◌, ◌↔◌, IfOk, map};
+ghost use Rattle.std.specs.List.{Contains, filter};
+ghost use Rattle.std.specs.List.Sorted.{IsStrictlySortedBy};
+ghost use Rattle.item_forms.specs.Pieces.{Piece, by_bytes};
+ghost use Rattle.evidence_item.specs.Checking.{Checked as TheChecked};
+ghost use Rattle.evidence_set.specs.Indications.{IsUnanswered};
+ghost use Rattle.evidence_set.specs.ItemSets.{Has};
+ghost use Rattle.kept_evidence.specs.Kept.{AreKept, HasHashes, IsAscending, pieces, set_of};
+ghost use Rattle.kept_evidence.specs.Telling.{is_unanswered};
+
+use crate::suspicion::is_unanswered;
+use authenticators::{Directory, NodeId};
+use evidence_item::{Checked, Item};
+use outcome::Memory;
+use replay_verifier::Program;
+use std::alloc::Global;
+
+/// The items that are challenges against the node and that none answers, in order.
+fn unanswered_of<'a, P>(
+    alloc: Global,
+    kept: &'a [Checked<P>],
+    node: NodeId,
+) -> Result<Vec<&'a Item>, Memory>
+    requires ascending { IsAscending kept.now }
+    requires hashes { (c : TheChecked) → Contains kept.now c → HasHashes c }
+    ensures { IfOk result (λ found. map (λ i. i.now) found.items ≡ filter (λ (x : Piece). is_unanswered kept.now node x.fields) (pieces kept.now)) }
+{
+    let mut found = Vec::new(alloc);
+    for checked in kept {
+        let item = checked.item();
+        if is_unanswered(kept, node, item) {
+            found.push(item)?;
+        }
+    }
+    Ok(found)
+}
+
+/// The challenges against the node that no item answers, in the order of the items' spellings.
+pub(crate) fn open_challenges<'a, P: Program>(
+    alloc: Global,
+    directory: &Directory,
+    kept: &'a [Checked<P>],
+    node: NodeId,
+) -> Result<Vec<&'a Item>, Memory>
+    requires { AreKept directory.now P.means kept.now }
+    ensures members { IfOk result (λ found. (x : Piece) → Contains (map (λ i. i.now) found.items) x ↔ (Has (set_of kept.now) x × IsUnanswered directory.now (set_of kept.now) node x.fields)) }
+    ensures ascending { IfOk result (λ found. IsStrictlySortedBy by_bytes (map (λ i. i.now) found.items)) }
+{
+    unanswered_of(alloc, kept, node)
+}

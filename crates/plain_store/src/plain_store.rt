@@ -1,0 +1,153 @@
+//! The plain store.
+
+ghost use Rattle.std.specs.Prelude.{◌≡◌, IfErr, IfOk, OnErr, OnOk, Ok, false, not};
+ghost use Rattle.evidence_item.specs.Checking.{IsChecked};
+ghost use Rattle.evidence_set.specs.ItemSets.{Has, contains, insert};
+ghost use Rattle.evidence.specs.Contents.{with_items};
+
+use crate::convicting::proof;
+use crate::importing::import;
+use crate::including::includes;
+use crate::indicating::indication;
+use crate::listing::{count, export, item_at};
+use crate::merging::merge;
+use crate::opening::open_challenges;
+use crate::taking::take;
+use authenticators::{AuthenticatorStore, Directory, NodeId};
+use containers::ImportFault;
+use evidence::{AskFault, Evidence, NewStoreRefused, TakeRefused, UnknownNode};
+use evidence_item::{Checked, Item};
+use evidence_set::Indication;
+use outcome::Memory;
+use proofs::Proof;
+use replay_verifier::Program;
+use std::alloc::Global;
+use std::marker::Model;
+
+/// A store that keeps its items in one list, ascending by their spellings, each with its verdict and with what checking found of
+/// it, and beside them the set of the statements that they hold. A contract sees the directory and the set of the items.
+///
+/// A question looks at what is kept of the node alone: at its statements, its segments and the challenges against it.
+#[derive(Drop)]
+pub struct PlainStore<P: Program> {
+    alloc: Global,
+    directory: Directory,
+    items: Vec<Checked<P>>,
+    statements: AuthenticatorStore,
+}
+
+impl<P: Program> Model for PlainStore<P> {
+    ghost use Rattle.std.specs.Coded.{codes};
+    ghost use Rattle.evidence.specs.Contents.{Contents, items_code};
+    ghost use Rattle.kept_evidence.specs.Kept.{IsStore, set_of};
+
+    ghost Value = { Contents };
+
+    ghost coded = { Prim.hlevel (codes, items_code) };
+
+    ghost view = { λ s. record { directory = s.directory; items = set_of s.items.items } };
+
+    ghost invariant = { λ s. IsStore s.directory P.means s.items.items s.statements };
+}
+
+impl<P: Program> Evidence<P> for PlainStore<P> {
+    ghost contents = { λ s. s };
+
+    /// It takes no memory.
+    fn new(alloc: Global, directory: Directory) -> Result<PlainStore<P>, NewStoreRefused> {
+        Ok(PlainStore {
+            alloc,
+            directory,
+            items: Vec::new(alloc),
+            statements: AuthenticatorStore::new(alloc),
+        })
+    }
+
+    fn directory(&self) -> &Directory {
+        &self.directory
+    }
+
+    fn count(&self) -> u64 {
+        count(&self.items)
+    }
+
+    fn item_at(&self, n: u64) -> Result<Option<Checked<P>>, Memory> {
+        item_at(self.alloc, &self.items, n)
+    }
+
+    fn take(&mut self, checked: Checked<P>) -> Result<bool, TakeRefused<P>>
+        requires { IsChecked self.old.directory P.means checked }
+        ensures told { IfOk result (λ new. new ≡ not (contains self.old.items checked.item)) }
+        ensures taken { OnOk result (self.new ≡ with_items self.old (insert self.old.items checked.item)) }
+        ensures held { Has self.old.items checked.item → result ≡ Ok false }
+        ensures given_back { IfErr result (λ refused. (refused.0.item ≡ checked.item) × (refused.0.verdict ≡ checked.verdict) × IsChecked self.old.directory P.means refused.0) }
+        ensures refused { OnErr result (self.new ≡ self.old) }
+    {
+        take(
+            self.alloc,
+            &self.directory,
+            &mut self.items,
+            &mut self.statements,
+            checked,
+        )
+    }
+
+    fn merge(&mut self, other: &PlainStore<P>) -> Result<u64, Memory> {
+        merge(
+            self.alloc,
+            &self.directory,
+            &mut self.items,
+            &mut self.statements,
+            &other.items,
+        )
+    }
+
+    fn indication(&self, node: NodeId) -> Result<Indication, UnknownNode> {
+        if !self.directory.contains(node) {
+            return Err(UnknownNode);
+        }
+        Ok(indication(&self.directory, &self.items, &self.statements, node))
+    }
+
+    fn includes(&self, other: &PlainStore<P>) -> bool {
+        includes(&self.items, &other.items)
+    }
+
+    fn proof(&self, node: NodeId) -> Result<Option<Proof>, AskFault> {
+        if !self.directory.contains(node) {
+            return Err(AskFault::UnknownNode);
+        }
+        let found = proof(
+            self.alloc,
+            &self.directory,
+            &self.items,
+            &self.statements,
+            node,
+        )?;
+        Ok(found)
+    }
+
+    fn open_challenges(&self, node: NodeId) -> Result<Vec<&Item>, AskFault> {
+        if !self.directory.contains(node) {
+            return Err(AskFault::UnknownNode);
+        }
+        let found = open_challenges(self.alloc, &self.directory, &self.items, node)?;
+        Ok(found)
+    }
+
+    fn export(&self) -> Result<Vec<u8>, Memory> {
+        export(self.alloc, &self.items)
+    }
+
+    fn import(&mut self, program: &P, bytes: &[u8]) -> Result<u64, ImportFault> {
+        let new = import(
+            self.alloc,
+            program,
+            &self.directory,
+            &mut self.items,
+            &mut self.statements,
+            bytes,
+        )?;
+        Ok(new)
+    }
+}
