@@ -23,16 +23,21 @@ fn public_of(alloc: Global, node: u8, number: u8) -> Result<[u8; 56], Fail> {
     Ok(key.public_key().to_bytes())
 }
 
-/// Node 1's statement of the number 5 and a hash of equal bytes, signed by its key of this number with a C of equal bytes, behind its length.
+/// Node 1's statement of the number 5 and a hash of equal bytes, signed by its key of this number with a C of equal bytes, behind its length: a
+/// signature by key 1 stands behind that number.
 fn item(alloc: Global, number: u8, hash: u8, c: u8) -> Result<Vec<u8>, Fail> {
     let mut statement = [hash; 40];
     statement[..8].copy_from_slice(&[0, 0, 0, 0, 0, 0, 0, 5]);
     let mut key = key_of(alloc, 1, number)?;
     let signature = key.sign(alloc, &statement, [c; 32])?;
-    let more = number.min(1);
-    let mut item = [0, 0, 0x05, 0x3d + more, 1, 0, 0, 0, 1].to_vec(alloc)?;
+    let (len, signature_len) = if number == 0 {
+        (0x3d, 0x0c)
+    } else {
+        (0x3e, 0x0d)
+    };
+    let mut item = [0, 0, 0x05, len, 1, 0, 0, 0, 1].to_vec(alloc)?;
     item.extend_from_slice(&statement)?;
-    item.extend_from_slice(&[0, 0, 0x05, 0x0c + more])?;
+    item.extend_from_slice(&[0, 0, 0x05, signature_len])?;
     if number > 0 {
         item.push(number)?;
     }
