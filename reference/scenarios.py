@@ -54,7 +54,7 @@ class Player(Node):
         """What it signed last, and another hash of that number, which its first key signs, made once more."""
         seq, digest, signature = self.statements[-1]
         other = sha256(b"fork")
-        second = Key(self.number, 4).sign(u64(seq) + other, bytes([0xFF]) * 32)
+        second = Key(self.number, self.ots_type).sign(u64(seq) + other, bytes([0xFF]) * 32)
         return [u8(1) + u32(self.number) + u64(seq) + it + text(by) for it, by in ((digest, signature), (other, second))]
 
 

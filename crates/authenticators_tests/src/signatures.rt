@@ -125,7 +125,9 @@ fn changed(alloc: Global, text: &str, change: Change) -> Result<Vec<u8>, Fail> {
         }
         Change::Before(byte) => text.insert(0, byte)?,
         Change::Without => {
-            let _ = text.remove(0);
+            if !text.is_empty() {
+                let _ = text.remove(0);
+            }
         }
     }
     Ok(text)

@@ -2,11 +2,12 @@
 
 mod signed;
 
-use crate::testing::{equivocation, no_statements, outcome, unsigned};
+use crate::testing::{equivocation, halves, no_statements, outcome, unsigned};
 use commands::fault::Fault;
 use commands::task::Task;
 use std::alloc::Global;
 use std::sync::Wait;
+use std::test::Fail;
 use std::thread::Threads;
 
 /// What is answered and written for an input.
@@ -65,4 +66,38 @@ fn refusals_are_told(rt: HostRuntime) {
         let shown = format!(in rt.alloc(); "{fault}").expect(&rt, "memory");
         assert!(rt; shown.as_str() == text);
     }
+}
+
+/// The number of the refusal of nodes 1 and 2 with this store; 0 where the nodes are told of.
+fn number_of<H: Threads + Wait + Sync>(rt: &H, alloc: Global, store: &[u8]) -> Result<u8, Fail> {
+    let (directory, _) = halves(no_statements(), 265);
+    let mut input = directory.to_vec(alloc)?;
+    input.extend_from_slice(store)?;
+    match outcome(rt, alloc, Task::Status, input.as_slice()).0 {
+        Ok(()) => Ok(0),
+        Err(fault) => Ok(fault.number()),
+    }
+}
+
+/// As many items as a number may say, an item and a signature as long as they may be, none of which is there, and what is longer.
+#[test]
+fn limits_are_told_before_what_is_cut_off(rt: HostRuntime) -> Result<(), Fail> {
+    let stores = [
+        ("505253544f524531ffffffffffffffff", 40),
+        ("505253544f524532ffffffffffffffff", 40),
+        ("505253544f52453200000000000000012000f49a", 40),
+        ("505253544f52453200000000000000012000f49b", 42),
+        (
+            "505253544f5245320000000000000001000000310100000001000000000000000500000000000000000000000000000000000000000000000000000000000000000000246d",
+            40,
+        ),
+        (
+            "505253544f5245320000000000000001000000310100000001000000000000000500000000000000000000000000000000000000000000000000000000000000000000246e",
+            42,
+        ),
+    ];
+    for (store, number) in stores {
+        assert!(rt; number_of(&rt, rt.alloc(), store.as_bytes())? == number);
+    }
+    Ok(())
 }

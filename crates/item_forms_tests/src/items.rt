@@ -65,17 +65,19 @@ fn a_statement_has_its_text(rt: HostRuntime) -> Result<(), Fail> {
 }
 
 /// The refusal of the text with this length of its signature, of which no byte is there.
-fn refusal_of_length(alloc: Global, len: [u8; 4]) -> u8 {
+fn refusal_of_length(alloc: Global, len: u16) -> u8 {
+    let [high, low] = len.to_be_bytes();
     let mut text = auth_text();
-    text[45..].copy_from_slice(&len);
+    text[47] = high;
+    text[48] = low;
     refusal(alloc, &text)
 }
 
 #[test]
 fn a_signature_that_is_read_has_a_greatest_length(rt: HostRuntime) -> Result<(), Fail> {
     let numbers = [
-        refusal_of_length(rt.alloc(), [0, 0, 0x24, 0x6d]),
-        refusal_of_length(rt.alloc(), [0, 0, 0x24, 0x6e]),
+        refusal_of_length(rt.alloc(), 0x246d),
+        refusal_of_length(rt.alloc(), 0x246e),
     ];
     assert!(rt; numbers == [40, 42]);
     Ok(())

@@ -1,5 +1,5 @@
 -- What every store keeps.
-use Rattle.std.proofs.Common.{◌≡◌, ℕ, List, [], sym, ap, subst}
+use Rattle.std.proofs.Common.{◌≡◌, List, [], sym, ap, subst}
 use Rattle.std.specs.List.Sorted.{IsStrictlySortedBy}
 use Rattle.authenticators.specs.declared.authenticator.Authenticator.{Authenticator}
 use Rattle.authenticators.specs.Directory.{Listing}

@@ -9,7 +9,9 @@ use log_chain::{
     ByteString, Entry, EntryList, FieldReader, FieldWriter, Hash, base_hash, chain_end, entry_hash,
     kind,
 };
-use proofs::{DecodeFault, Item, Outline, Parts, Proof, read_framed, write_framed};
+use proofs::{
+    BadTag, DecodeFault, Item, Outline, Parts, Proof, ProofFault, read_framed, write_framed,
+};
 use std::alloc::Global;
 use std::test::Fail;
 
@@ -291,6 +293,13 @@ fn other_items_make_no_proof(rt: HostRuntime) -> Result<(), Fail> {
         refusal_of_one(auth_of(alloc, 5, ZEROS)?),
     ];
     assert_eq!(rt; numbers, [41; 5]);
+    Ok(())
+}
+
+#[test]
+fn refusals_have_numbers_and_names(rt: HostRuntime) -> Result<(), Fail> {
+    assert!(rt; (BadTag.number(), ProofFault::NoContradiction.number()) == (41, 50));
+    assert!(rt; BadTag.name() == "BadTag" && ProofFault::Conforms.name() == "Conforms");
     Ok(())
 }
 

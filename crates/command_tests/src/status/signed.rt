@@ -7,41 +7,58 @@ use ref_programs::Tally;
 use std::alloc::Global;
 use std::test::Fail;
 
-/// The key of a node: its identifier and its seed end with the node's number.
-fn key_of(alloc: Global, node: u8) -> Result<SecretKey, Fail> {
-    let mut id = [0u8; 16];
-    id[15] = node;
-    let mut seed = [0u8; 32];
-    seed[31] = node;
+/// A key of a node, by its number, 0 or 1: its identifier and its seed end with the node's number, and each byte before that is the key's.
+fn key_of(alloc: Global, node: u8, number: u8) -> Result<SecretKey, Fail> {
+    let mut id = [number; 16];
+    id[12..].copy_from_slice(&[0, 0, 0, node]);
+    let mut seed = [number; 32];
+    seed[28..].copy_from_slice(&[0, 0, 0, node]);
     let key = SecretKey::make(alloc, LmsType::H5, OtsType::W8, id, seed)?;
     Ok(key)
 }
 
-/// Node 1's statement of the number 5 and a hash of equal bytes, signed with a C of equal bytes, behind its length.
-fn item(alloc: Global, key: &mut SecretKey, hash: u8, c: u8) -> Result<Vec<u8>, Fail> {
+/// What others know of it.
+fn public_of(alloc: Global, node: u8, number: u8) -> Result<[u8; 56], Fail> {
+    let key = key_of(alloc, node, number)?;
+    Ok(key.public_key().to_bytes())
+}
+
+/// Node 1's statement of the number 5 and a hash of equal bytes, signed by its key of this number with a C of equal bytes, behind its length: a
+/// signature by key 1 stands behind that number.
+fn item(alloc: Global, number: u8, hash: u8, c: u8) -> Result<Vec<u8>, Fail> {
     let mut statement = [hash; 40];
     statement[..8].copy_from_slice(&[0, 0, 0, 0, 0, 0, 0, 5]);
+    let mut key = key_of(alloc, 1, number)?;
     let signature = key.sign(alloc, &statement, [c; 32])?;
-    let mut item = [0, 0, 0x05, 0x3d, 1, 0, 0, 0, 1].to_vec(alloc)?;
+    let (len, signature_len) = if number == 0 {
+        (0x3d, 0x0c)
+    } else {
+        (0x3e, 0x0d)
+    };
+    let mut item = [0, 0, 0x05, len, 1, 0, 0, 0, 1].to_vec(alloc)?;
     item.extend_from_slice(&statement)?;
-    item.extend_from_slice(&[0, 0, 0x05, 0x0c])?;
+    item.extend_from_slice(&[0, 0, 0x05, signature_len])?;
+    if number > 0 {
+        item.push(number)?;
+    }
     item.extend_from_slice(&signature)?;
     Ok(item)
 }
 
-/// The input of two nodes and two items.
-fn input_of(
-    alloc: Global,
-    keys: [[u8; 56]; 2],
-    first: &[u8],
-    second: &[u8],
-) -> Result<Vec<u8>, Fail> {
-    let [one, two] = keys;
-    let mut directory = b"PRDIRECT\0\0\0\x02\0\0\0\x01".to_vec(alloc)?;
-    directory.extend_from_slice(&one)?;
-    directory.extend_from_slice(&[0, 0, 0, 2])?;
-    directory.extend_from_slice(&two)?;
-    let mut store = b"PRSTORE1\0\0\0\0\0\0\0\x02".to_vec(alloc)?;
+/// Node 1 with two keys, and node 2 with one.
+fn directory(alloc: Global) -> Result<Vec<u8>, Fail> {
+    let mut directory = b"PRDIREC2\0\0\0\x02\0\0\0\x01\x02".to_vec(alloc)?;
+    directory.extend_from_slice(&public_of(alloc, 1, 0)?)?;
+    directory.extend_from_slice(&public_of(alloc, 1, 1)?)?;
+    directory.extend_from_slice(&[0, 0, 0, 2, 1])?;
+    directory.extend_from_slice(&public_of(alloc, 2, 0)?)?;
+    Ok(directory)
+}
+
+/// The input of these nodes and two items.
+fn input_of(alloc: Global, first: &[u8], second: &[u8]) -> Result<Vec<u8>, Fail> {
+    let directory = directory(alloc)?;
+    let mut store = b"PRSTORE2\0\0\0\0\0\0\0\x02".to_vec(alloc)?;
     store.extend_from_slice(first)?;
     store.extend_from_slice(second)?;
     let mut text = hex::encode(alloc, directory)?;
@@ -51,14 +68,11 @@ fn input_of(
     Ok(input)
 }
 
-/// What is written of node 1's two statements of the number 5 with these hashes.
-fn report_of(alloc: Global, hashes: [u8; 2]) -> Result<Vec<u8>, Fail> {
-    let mut key = key_of(alloc, 1)?;
-    let other = key_of(alloc, 2)?;
-    let first = item(alloc, &mut key, hashes[0], 0)?;
-    let second = item(alloc, &mut key, hashes[1], 1)?;
-    let keys = [key.public_key().to_bytes(), other.public_key().to_bytes()];
-    let input = input_of(alloc, keys, &first, &second)?;
+/// What is written of two statements of node 1: the first is of the hash 1 and by key 0, the second of this hash and by the key of this number.
+fn report_of(alloc: Global, hash: u8, number: u8) -> Result<Vec<u8>, Fail> {
+    let first = item(alloc, 0, 1, 0)?;
+    let second = item(alloc, number, hash, 1)?;
+    let input = input_of(alloc, &first, &second)?;
     let mut reader = CountedReader::new(input.as_slice());
     let mut writer = CountedWriter::new(Vec::new(alloc));
     run(alloc, &Tally, &mut reader, &mut writer)?;
@@ -67,14 +81,23 @@ fn report_of(alloc: Global, hashes: [u8; 2]) -> Result<Vec<u8>, Fail> {
 
 #[test]
 fn two_hashes_of_one_number_expose_their_node(rt: HostRuntime) -> Result<(), Fail> {
-    let report = report_of(rt.alloc(), [1, 2])?;
+    let report = report_of(rt.alloc(), 2, 0)?;
     assert!(rt; report.as_slice() == b"1 exposed\n2 trusted\n".as_slice());
     Ok(())
 }
 
 #[test]
 fn two_signatures_of_one_hash_expose_nobody(rt: HostRuntime) -> Result<(), Fail> {
-    let report = report_of(rt.alloc(), [1, 1])?;
+    let report = report_of(rt.alloc(), 1, 0)?;
     assert!(rt; report.as_slice() == b"1 trusted\n2 trusted\n".as_slice());
+    Ok(())
+}
+
+#[test]
+fn two_keys_sign_for_one_node(rt: HostRuntime) -> Result<(), Fail> {
+    let alike = report_of(rt.alloc(), 1, 1)?;
+    let apart = report_of(rt.alloc(), 2, 1)?;
+    assert!(rt; alike.as_slice() == b"1 trusted\n2 trusted\n".as_slice());
+    assert!(rt; apart.as_slice() == b"1 exposed\n2 trusted\n".as_slice());
     Ok(())
 }
