@@ -1,11 +1,13 @@
 //! What a store says of a node that sent a message, and of its receiver, whose segment quotes it as it was sent and otherwise.
 
+ghost use Rattle.std.specs.Prelude.{◌≡◌};
+
 use crate::calls::{make_key, new_store, node_of, take};
 use accuracy::exposes;
 use authenticators::{Directory, NodeId, statement_text};
 use commitment::{Message, Node};
 use evidence_item::Item;
-use evidence_store::{Evidence, Indication};
+use evidence_store::{Evidence, Indication, PlainStore};
 use lms_sign::SecretKey;
 use log_chain::{ByteString, Entry, Hash, base_hash, chain_end, kind};
 use ref_programs::Tally;
@@ -52,27 +54,37 @@ fn quote_of(alloc: Global, message: &Message) -> Result<Vec<u8>, Fail> {
     Ok(content)
 }
 
-/// A log of node 2: the hash before it, the kind and the content of its first entry, and which byte of the quote of node 1's message
-/// in its second one is changed, if there is one.
+/// How node 2's segment begins.
 #[derive(Clone, Copy)]
-struct Log<'a> {
-    prev: Hash,
-    kind: u8,
-    content: &'a [u8],
-    place: Option<usize>,
+enum Start {
+    /// With INIT.
+    Init,
+    /// With a CHECKPOINT of the total 0, after zeros.
+    Checkpoint,
 }
 
-/// The content of its second entry.
-fn changed_quote(
-    alloc: Global,
-    message: &Message,
-    place: Option<usize>,
-) -> Result<ByteString, Fail> {
-    let mut quote = quote_of(alloc, message)?;
-    if let Some(place) = place {
-        change(&mut quote, place);
+impl Start {
+    /// The hash before the first entry.
+    fn prev(self) -> Hash {
+        match self {
+            Start::Init => base_hash(),
+            Start::Checkpoint => Hash([0; 32]),
+        }
     }
-    Ok(ByteString::from_vec(quote))
+
+    /// The first entry.
+    fn entry(self, alloc: Global) -> Result<Entry, Fail> {
+        let (kind, content) = match self {
+            Start::Init => (kind::INIT, [0, 0, 0, 2].as_slice()),
+            Start::Checkpoint => (kind::CHECKPOINT, [0; 8].as_slice()),
+        };
+        let content = ByteString::from_slice(alloc, content)?;
+        Ok(Entry {
+            seq: 1,
+            kind,
+            content,
+        })
+    }
 }
 
 /// Changes the byte at the place, if there is one.
@@ -82,27 +94,43 @@ fn change(text: &mut [u8], place: usize) {
     }
 }
 
-fn entries_of(alloc: Global, message: &Message, log: Log<'_>) -> Result<Vec<Entry>, Fail> {
-    let mut entries = Vec::new(alloc);
-    entries.push(Entry {
-        seq: 1,
-        kind: log.kind,
-        content: ByteString::from_slice(alloc, log.content)?,
-    })?;
-    entries.push(Entry {
+/// The second entry: a RECV that quotes the message with the byte at the place changed, if one is.
+fn receipt_of(alloc: Global, message: &Message, place: Option<usize>) -> Result<Entry, Fail> {
+    let mut quote = quote_of(alloc, message)?;
+    if let Some(place) = place {
+        change(&mut quote, place);
+    }
+    Ok(Entry {
         seq: 2,
         kind: kind::RECV,
-        content: changed_quote(alloc, message, log.place)?,
-    })?;
+        content: ByteString::from_vec(quote),
+    })
+}
+
+fn entries_of(
+    alloc: Global,
+    message: &Message,
+    start: Start,
+    place: Option<usize>,
+) -> Result<Vec<Entry>, Fail> {
+    let mut entries = Vec::new(alloc);
+    entries.push(start.entry(alloc)?)?;
+    entries.push(receipt_of(alloc, message, place)?)?;
     Ok(entries)
 }
 
-/// Node 2's segment of that log.
-fn segment(alloc: Global, nodes: &mut Nodes, log: Log<'_>) -> Result<Box<Item>, Fail> {
-    let entries = entries_of(alloc, &nodes.message, log)?;
-    let hash = chain_end(log.prev, &entries);
+/// Node 2's segment of these two entries.
+fn segment(
+    alloc: Global,
+    nodes: &mut Nodes,
+    start: Start,
+    place: Option<usize>,
+) -> Result<Box<Item>, Fail> {
+    let prev = start.prev();
+    let entries = entries_of(alloc, &nodes.message, start, place)?;
+    let hash = chain_end(prev, &entries);
     let sig = nodes.two.sign(alloc, &statement_text(2, hash), [9; 32])?;
-    let item = Item::segment(NodeId(2), log.prev, entries, ByteString::from_vec(sig))?;
+    let item = Item::segment(NodeId(2), prev, entries, ByteString::from_vec(sig))?;
     Ok(Box::new(alloc, item)?)
 }
 
@@ -114,42 +142,27 @@ struct Said {
     exposes: bool,
 }
 
+/// The same of a store under the node's directory.
+fn said_by(store: &PlainStore<Tally>, node: &Node<Tally>) -> Result<Said, Fail>
+    requires { store.now.directory ≡ node.now.directory }
+{
+    let one = store.indication(NodeId(1))?;
+    let two = store.indication(NodeId(2))?;
+    let exposes = exposes(store, node);
+    Ok(Said { one, two, exposes })
+}
+
 /// The same of a store that has taken that segment alone.
-fn said_of(alloc: Global, nodes: &mut Nodes, log: Log<'_>) -> Result<Said, Fail> {
-    let item = segment(alloc, nodes, log)?;
-    let mut store = new_store(alloc, &nodes.one)?;
-    take(alloc, &mut store, item)?;
-    Ok(Said {
-        one: store.indication(NodeId(1))?,
-        two: store.indication(NodeId(2))?,
-        exposes: exposes(&*store, &nodes.one),
-    })
-}
-
-/// The same where the byte of the quote is changed, behind INIT.
-fn said_of_quote(alloc: Global, nodes: &mut Nodes, place: Option<usize>) -> Result<Said, Fail> {
-    let log = Log {
-        prev: base_hash(),
-        kind: kind::INIT,
-        content: &[0, 0, 0, 2],
-        place,
-    };
-    said_of(alloc, nodes, log)
-}
-
-/// The same behind a CHECKPOINT of the total 0, after zeros.
-fn said_behind_checkpoint(
+fn said_of(
     alloc: Global,
     nodes: &mut Nodes,
+    start: Start,
     place: Option<usize>,
 ) -> Result<Said, Fail> {
-    let log = Log {
-        prev: Hash([0; 32]),
-        kind: kind::CHECKPOINT,
-        content: &[0; 8],
-        place,
-    };
-    said_of(alloc, nodes, log)
+    let item = segment(alloc, nodes, start, place)?;
+    let mut store = new_store(alloc, &nodes.one)?;
+    take(alloc, &mut store, item)?;
+    said_by(&store, &nodes.one)
 }
 
 /// The same where the message is quoted as it was sent, with another number, with another hash before it and with the last byte of
@@ -158,11 +171,11 @@ fn said_of_quotes(alloc: Global) -> Result<[Said; 5], Fail> {
     let mut nodes = make_nodes(alloc)?;
     // The sender in 4 bytes, the number in 8, the hash in 32, the signature's length in 4, and the signature of 2,348.
     Ok([
-        said_of_quote(alloc, &mut nodes, None)?,
-        said_of_quote(alloc, &mut nodes, Some(11))?,
-        said_of_quote(alloc, &mut nodes, Some(43))?,
-        said_of_quote(alloc, &mut nodes, Some(2395))?,
-        said_behind_checkpoint(alloc, &mut nodes, Some(11))?,
+        said_of(alloc, &mut nodes, Start::Init, None)?,
+        said_of(alloc, &mut nodes, Start::Init, Some(11))?,
+        said_of(alloc, &mut nodes, Start::Init, Some(43))?,
+        said_of(alloc, &mut nodes, Start::Init, Some(2395))?,
+        said_of(alloc, &mut nodes, Start::Checkpoint, Some(11))?,
     ])
 }
 

@@ -80,7 +80,8 @@ fn change(text: &mut [u8], place: usize) {
 fn receipt_behind(
     alloc: Global,
     message: &Message,
-    first: (u8, &[u8]),
+    kind: u8,
+    content: &[u8],
     place: Option<usize>,
 ) -> Result<Vec<Entry>, Fail> {
     let mut quote = quote_of(alloc, message)?;
@@ -88,8 +89,7 @@ fn receipt_behind(
         change(&mut quote, place);
     }
     let mut entries = Vec::new(alloc);
-    let content = ByteString::from_slice(alloc, first.1)?;
-    entries.push(entry_of(1, first.0, content))?;
+    entries.push(entry_of(1, kind, ByteString::from_slice(alloc, content)?))?;
     entries.push(entry_of(2, kind::RECV, ByteString::from_vec(quote)))?;
     Ok(entries)
 }
@@ -100,8 +100,7 @@ fn verdict_on_quote(
     receiver: &mut Receiver,
     place: Option<usize>,
 ) -> Result<Option<Verdict>, Fail> {
-    let init = (kind::INIT, [0, 0, 0, 2].as_slice());
-    let entries = receipt_behind(alloc, &receiver.message, init, place)?;
+    let entries = receipt_behind(alloc, &receiver.message, kind::INIT, &[0, 0, 0, 2], place)?;
     verdict_on(alloc, receiver, base_hash(), entries)
 }
 
@@ -111,8 +110,7 @@ fn verdict_behind_checkpoint(
     receiver: &mut Receiver,
     place: Option<usize>,
 ) -> Result<Option<Verdict>, Fail> {
-    let checkpoint = (kind::CHECKPOINT, [0; 8].as_slice());
-    let entries = receipt_behind(alloc, &receiver.message, checkpoint, place)?;
+    let entries = receipt_behind(alloc, &receiver.message, kind::CHECKPOINT, &[0; 8], place)?;
     verdict_on(alloc, receiver, ZEROS, entries)
 }
 
@@ -147,11 +145,11 @@ fn a_message_is_quoted_as_it_was_sent(rt: HostRuntime) -> Result<(), Fail> {
 fn log_with_two(
     alloc: Global,
     message: &Message,
-    between: (u8, &[u8]),
+    kind: u8,
+    content: &[u8],
 ) -> Result<Vec<Entry>, Fail> {
-    let mut entries = receipt_behind(alloc, message, (kind::INIT, &[0, 0, 0, 2]), None)?;
-    let content = ByteString::from_slice(alloc, between.1)?;
-    entries.push(entry_of(3, between.0, content))?;
+    let mut entries = receipt_behind(alloc, message, kind::INIT, &[0, 0, 0, 2], None)?;
+    entries.push(entry_of(3, kind, ByteString::from_slice(alloc, content)?))?;
     let again = ByteString::from_vec(quote_of(alloc, message)?);
     entries.push(entry_of(4, kind::RECV, again))?;
     Ok(entries)
@@ -161,8 +159,8 @@ fn log_with_two(
 fn verdicts_on_two(alloc: Global) -> Result<[Option<Verdict>; 2], Fail> {
     let mut receiver = make_receiver(alloc)?;
     let answer = [0, 0, 0, 1, b'T', 0, 0, 0, 0, 0, 0, 0, 5];
-    let answered = log_with_two(alloc, &receiver.message, (kind::SEND, &answer))?;
-    let unanswered = log_with_two(alloc, &receiver.message, (kind::TIMER, &[0; 8]))?;
+    let answered = log_with_two(alloc, &receiver.message, kind::SEND, &answer)?;
+    let unanswered = log_with_two(alloc, &receiver.message, kind::TIMER, &[0; 8])?;
     Ok([
         verdict_on(alloc, &mut receiver, base_hash(), answered)?,
         verdict_on(alloc, &mut receiver, base_hash(), unanswered)?,

@@ -11,11 +11,16 @@ use std::test::Fail;
 
 /// The key (H5, W8) of node 1 whose identifier and seed end in the node's number, and have this byte before it.
 fn key_of(alloc: Global, byte: u8) -> Result<Box<SecretKey>, Fail> {
-    let number = [0, 0, 0, 1];
     let mut id = [byte; 16];
-    id[12..].copy_from_slice(&number);
+    id[12] = 0;
+    id[13] = 0;
+    id[14] = 0;
+    id[15] = 1;
     let mut seed = [byte; 32];
-    seed[28..].copy_from_slice(&number);
+    seed[28] = 0;
+    seed[29] = 0;
+    seed[30] = 0;
+    seed[31] = 1;
     let key = SecretKey::make(alloc, LmsType::H5, OtsType::W8, id, seed)?;
     Ok(Box::new(alloc, key)?)
 }
