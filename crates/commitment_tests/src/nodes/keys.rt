@@ -221,6 +221,23 @@ fn a_used_key_is_given_back(rt: HostRuntime) -> Result<(), Fail> {
     Ok(())
 }
 
+/// The line by which node 2 refuses a key of node 1.
+fn line_of_refusal(alloc: Global) -> Result<String, Fail> {
+    let directory = directory_of_keys(alloc)?;
+    let mut node = begin_in(alloc, directory, 2, key_of(alloc, 2)?, 1)?;
+    match node.next_key(make_key(alloc, 1, 0, false)?) {
+        Ok(()) => Err("a key of another node")?,
+        Err(refused) => Ok(format!(in alloc; "{refused}")?),
+    }
+}
+
+#[test]
+fn a_refused_key_has_a_line(rt: HostRuntime) -> Result<(), Fail> {
+    let want = "the key is none of the node's, was used by it before, or has signed already";
+    assert!(rt; line_of_refusal(rt.alloc())?.as_str() == want);
+    Ok(())
+}
+
 /// The number of the refusal of a node that begins by this key in the directory of keys; none where it begins, or where the key is
 /// not given back.
 fn begin_refusal(
