@@ -1,0 +1,63 @@
+-- How a reading goes on, and when memory may run out on the way.
+use Rattle.std.specs.Prelude.{◌≡◌, ◌<◌, ◌⊎◌, ℕ, List, [], ◌∷◌, ◌++◌, Result, Ok, Err, length}
+use Rattle.item_forms.specs.declared.forms.Fields.{Fields}
+use Rattle.item_forms.specs.Spelling.{spelling}
+use Rattle.evidence_item.specs.Checking.{Checked}
+use Rattle.containers.specs.declared.fault.Cause.{Cause}
+use Rattle.containers.specs.declared.fault.Cause.TheVariants as cause
+use Rattle.containers.specs.declared.part.Left.{Left}
+use Rattle.containers.specs.declared.part.Left.TheVariants as left
+use Rattle.containers.specs.declared.progress.Progress.{Progress}
+use Rattle.containers.specs.Refusals.{IsOfItems}
+use Rattle.containers.specs.Stages.{State, go_on}
+use Rattle.containers.specs.CheckedItems.{fields_of}
+use Rattle.containers.specs.within.Parts.{IsHeldOn, IsTaken}
+use Rattle.containers.specs.within.Seen.{IsParted, Stands, StandsWith, last_text, seen, with_more}
+
+abbrev pub Reads : Type 0
+Reads = List ℕ → List ℕ → Result Fields Cause
+
+-- What is left is behind the part, or is a body that is cut off.
+abbrev pub Leaves : Left → (List ℕ → Type 0) → (List ℕ → Type 0) → Type 0
+Leaves (left.Behind bytes) Goes Ends = Goes bytes.now
+Leaves (left.CutOff bytes) Goes Ends = Ends bytes.now
+
+-- ---- one item
+
+-- The item of the text, which is read behind the others, is the last of the new ones.
+pub record IsOneMore (reads : Reads) (old : List Checked) (text : List ℕ) (new : List Checked) : Type 0 where
+  pub item : Checked
+  pub new_is : new ≡ old ++ item ∷ []
+  pub read : reads (last_text (fields_of old)) text ≡ Ok item.item.fields
+  pub spelled : spelling item.item.fields ≡ text
+
+-- What is wrong with the text is at most a signature.
+abbrev pub IsOfSignatures : Result Fields Cause → Type 0
+IsOfSignatures expected = (c : Cause) → expected ≡ Err c → c ≡ cause.BadSignature
+
+-- Bytes of an item: it is read, or all of them are held; or they are of a body that is cut off, behind its whole length.
+abbrev pub TakesItem : {P : Type 0} → Reads → ℕ → Progress P → List ℕ → Progress P → Left → Type 0
+TakesItem reads n old rest new x = Leaves x
+    (λ behind. (IsTaken reads n (seen old) rest (seen new) behind ⊎ (IsHeldOn (seen old) rest (seen new) behind × (behind ≡ []))) × IsParted new.left new.front.items new.body.items)
+    (λ body. IsHeldOn (seen old) rest (seen new) body × IsParted new.left new.front.items (new.body.items ++ body))
+
+-- ---- parts
+
+-- A part was read, or all of the rest is held: the reading goes on from there with fewer bytes.
+pub record GoesOn {P : Type 0} (magic : List ℕ) (reads : Reads) (old : Progress P) (rest : List ℕ) (new : Progress P) (behind : List ℕ) : Type 0 where
+  pub same : go_on magic reads (seen old) rest ≡ go_on magic reads (seen new) behind
+  pub stands : Stands magic new
+  pub falls : length behind < length rest
+
+-- The bytes are of a body that is cut off: they only join those that are held.
+pub record EndsOn {P : Type 0} (magic : List ℕ) (reads : Reads) (old : Progress P) (rest : List ℕ) (new : Progress P) (body : List ℕ) : Type 0 where
+  pub same : go_on magic reads (seen old) rest ≡ Ok (with_more (seen new) body)
+  pub stands : StandsWith magic new body
+
+-- Where the bytes lead, whatever the items are.
+abbrev pub LeadsAlike : {P : Type 0} → List ℕ → Progress P → List ℕ → Progress P → List ℕ → Type 0
+LeadsAlike magic old rest new behind = (reads : Reads) → go_on magic reads (seen old) rest ≡ go_on magic reads (seen new) behind
+
+-- The bytes lead alike whatever the items are; or they have an item, so that no fault stands whatever the items are.
+abbrev pub LeadsOrReads : {P : Type 0} → List ℕ → Progress P → List ℕ → Progress P → List ℕ → Type 0
+LeadsOrReads magic old rest new behind = LeadsAlike magic old rest new behind ⊎ IsOfItems (λ reads. go_on magic reads (seen old) rest)

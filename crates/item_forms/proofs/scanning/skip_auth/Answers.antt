@@ -1,0 +1,7 @@
+use Rattle.std.proofs.Common.{refl}
+use Rattle.item_forms.specs.Reading.{auth_at}
+use Rattle.item_forms.proofs.scanning.skip_auth.Goals as goal
+
+pub returns-clause-skips : goal.returns-clause-skips
+unfolding auth_at
+returns-clause-skips c = (record { node = c.in_ok-_node._node; seq = c.in_ok-_seq._seq; hash = c.in_ok-_hash._hash; sig = c.in_ok-_sig._sig.now }, rw (c.in_ok-_node.ensures, c.in_ok-_seq.ensures, c.in_ok-_hash.ensures, c.in_ok-_sig.ensures) refl)
