@@ -4,11 +4,10 @@ use Rattle.item_forms.specs.declared.forms.Fields.{Fields}
 use Rattle.item_forms.specs.Spelling.{spelling}
 use Rattle.evidence_item.specs.Checking.{Checked}
 use Rattle.containers.specs.declared.fault.Cause.{Cause}
-use Rattle.containers.specs.declared.fault.Cause.TheVariants as cause
 use Rattle.containers.specs.declared.part.Left.{Left}
 use Rattle.containers.specs.declared.part.Left.TheVariants as left
 use Rattle.containers.specs.declared.progress.Progress.{Progress}
-use Rattle.containers.specs.Refusals.{IsOfItems}
+use Rattle.containers.specs.Refusals.{IsOfChecking, IsOfItems}
 use Rattle.containers.specs.Stages.{State, go_on}
 use Rattle.containers.specs.CheckedItems.{fields_of}
 use Rattle.containers.specs.within.Parts.{IsHeldOn, IsTaken}
@@ -31,9 +30,9 @@ pub record IsOneMore (reads : Reads) (old : List Checked) (text : List ℕ) (new
   pub read : reads (last_text (fields_of old)) text ≡ Ok item.item.fields
   pub spelled : spelling item.item.fields ≡ text
 
--- What is wrong with the text is at most a signature.
-abbrev pub IsOfSignatures : Result Fields Cause → Type 0
-IsOfSignatures expected = (c : Cause) → expected ≡ Err c → c ≡ cause.BadSignature
+-- The item is read: at most it is not valid.
+abbrev pub IsRead : Result Fields Cause → Type 0
+IsRead expected = (c : Cause) → expected ≡ Err c → IsOfChecking c
 
 -- Bytes of an item: it is read, or all of them are held; or they are of a body that is cut off, behind its whole length.
 abbrev pub TakesItem : {P : Type 0} → Reads → ℕ → Progress P → List ℕ → Progress P → Left → Type 0
