@@ -10,7 +10,7 @@ use Rattle.containers.specs.declared.fault.Cause.TheVariants as cause
 use Rattle.containers.specs.declared.fault.ImportFault.{ImportFault}
 use Rattle.containers.specs.Refusals.{IsBehindFront, IsOfChecking, IsOfItems, fault_at}
 use Rattle.containers.specs.Stages.{State, waits, len_of, items_on, reads_on, go_on}
-use Rattle.containers.specs.within.Going.{IsRead, Reads}
+use Rattle.containers.specs.within.Going.{IsRead, Reads, at_end}
 use Rattle.containers.specs.within.Parts.{IsCut, IsHeldOn, IsTaken, IsWhole}
 use Rattle.containers.specs.within.Resting.{IsResting, Rests}
 use Rattle.containers.proofs.Steps.{short, too_long, cut, behind, whole, none_held, over}
@@ -54,7 +54,7 @@ taken_goes {A} magic reads n old rest new after stage lt t =
 
 rests_empty : {A : Type 0} (magic : List ℕ) (n : ℕ) (last : List ℕ) (items : List A) → Rests magic (Some n) last items []
 rests_empty magic zero last items = refl
-rests_empty magic (suc n) last items long = absurd (omega arith)
+rests_empty magic (suc n) last items = λ long. absurd (omega arith)
 
 pub taken_rests : {A : Type 0} (magic : List ℕ) (reads : List ℕ → List ℕ → Result A Cause) (n : ℕ) (old : State A) (rest : List ℕ) (new : State A) (after : List ℕ) → IsTaken reads n old rest new after → IsResting magic new
 taken_rests magic reads n old rest new after t = rw t.new_is (rests_empty magic (n - 1) (drop 4 t.text) _)
@@ -73,14 +73,24 @@ taken_falls reads n old rest new after is_cut t =
 
 -- ---- what is wrong whatever the items are
 
+abbrev failed : ImportFault → Result (State Fields) ImportFault
+failed f = Err f
+
+fault-inj : (f g : ImportFault) → failed f ≡ failed g → f ≡ g
+fault-inj f g e = cc
+
+two_faults : (k : ℕ) (f : ImportFault) → failed (fault_at k cause.BadTag) ≡ failed f → failed (fault_at k cause.Trailing) ≡ failed f → ⊥
+two_faults k f a b =
+    let wrong : cause.BadTag ≡ cause.Trailing = ap (λ (x : ImportFault). x.cause) (fault-inj (fault_at k cause.BadTag) f a) ∙ sym (ap (λ (x : ImportFault). x.cause) (fault-inj (fault_at k cause.Trailing) f b)) in
+    absurd cc
+
 pub whole_of_items : (magic : List ℕ) (n : ℕ) (old : State Fields) (rest text after : List ℕ) → old.left ≡ Some n → 0 < n → IsWhole text → text ++ after ≡ old.held ++ rest → IsOfItems (λ reads. go_on magic reads old rest)
 whole_of_items magic n old rest text after stage lt w moved f all =
     let one : Reads = λ last t. Err cause.BadTag in
     let other : Reads = λ last t. Err cause.Trailing in
     let a = sym (opened magic one old n rest text after stage lt w moved) ∙ all one in
     let b = sym (opened magic other old n rest text after stage lt w moved) ∙ all other in
-    let wrong = a ∙ sym b in
-    absurd cc
+    two_faults (length old.items) f a b
 
 pub cut_of_items : (magic : List ℕ) (n : ℕ) (old : State Fields) (rest : List ℕ) → old.left ≡ Some n → 0 < n → IsCut (old.held ++ rest) → IsOfItems (λ reads. go_on magic reads old rest)
 cut_of_items magic n old rest stage lt is_cut f all =
@@ -91,34 +101,36 @@ cut_of_items magic n old rest stage lt is_cut f all =
 -- ---- faults of later items
 
 abbrev Falls : Reads → ℕ → Type 0
-Falls reads n = (last : List ℕ) (items : List Fields) (bytes : List ℕ) (f : ImportFault) → items_on reads n last items bytes ≡ Err f → length items ≤ f.item
+Falls reads n = (last : List ℕ) (items : List Fields) (bytes : List ℕ) (f : ImportFault) → at_end (items_on reads n last items bytes) ≡ Err f → length items ≤ f.item
 
-abbrev faulted : ImportFault → Result (State Fields) ImportFault
+abbrev faulted : ImportFault → Result (List Fields) ImportFault
 faulted f = Err f
 
 at_fault : (k : ℕ) (c : Cause) (f : ImportFault) → faulted (fault_at k c) ≡ faulted f → k ≤ f.item
 at_fault k c f e = let same : k ≡ f.item = cc in omega (arith, same)
 
 behind_falls : (reads : Reads) (n : ℕ) → Falls reads n → (items : List Fields) (text rest : List ℕ) (r : Result Fields Cause) (f : ImportFault)
-    → (told_as (fault_at (length items)) r >>= λ item. items_on reads n text (items ++ item ∷ []) rest) ≡ Err f → length items ≤ f.item
+    → at_end (told_as (fault_at (length items)) r >>= λ item. items_on reads n text (items ++ item ∷ []) rest) ≡ Err f → length items ≤ f.item
 behind_falls reads n falls items text rest (Ok item) f e = let later = falls text (items ++ item ∷ []) rest f e in omega (arith, later, length-append items (item ∷ []))
 behind_falls reads n falls items text rest (Err c) f e = at_fault (length items) c f e
 
 none_falls : (reads : Reads) → Falls reads zero
-none_falls reads last items [] f e = let wrong = sym (none_held reads zero last items) ∙ e in absurd cc
-none_falls reads last items (b ∷ bytes) f e = at_fault (length items) cause.Trailing f (sym (over reads last items b bytes) ∙ e)
+none_falls reads last items [] f e = let wrong = sym (ap at_end (none_held reads zero last items)) ∙ e in absurd cc
+none_falls reads last items (b ∷ bytes) f e = at_fault (length items) cause.Trailing f (sym (ap at_end (over reads last items b bytes)) ∙ e)
 
 one_falls : (reads : Reads) (n : ℕ) → Falls reads n → Falls reads (suc n)
 one_falls reads n falls last items bytes f e =
     elim (cases_lt (length bytes) 4) [
-      | inl lt ↦ let wrong = sym (short reads n last items bytes lt) ∙ e in absurd cc
+      | inl lt ↦ at_fault (length items) cause.Truncated f (sym (ap at_end (short reads n last items bytes lt)) ∙ e)
       | inr le ↦
           elim (cases_lt LONGEST_ITEM (len_of bytes)) [
-            | inl past ↦ at_fault (length items) cause.TooLong f (sym (too_long reads n last items bytes le past) ∙ e)
+            | inl past ↦ at_fault (length items) cause.TooLong f (sym (ap at_end (too_long reads n last items bytes le past)) ∙ e)
             | inr within ↦
                 elim (cases_lt (length (drop 4 bytes)) (len_of bytes)) [
-                  | inl lt ↦ let wrong = sym (cut reads n last items bytes le within lt) ∙ e in absurd cc
-                  | inr long ↦ behind_falls reads n falls items (take (len_of bytes) (drop 4 bytes)) (drop (len_of bytes) (drop 4 bytes)) (reads last (take (len_of bytes) (drop 4 bytes))) f (sym (whole reads n last items bytes le within long) ∙ e)
+                  | inl lt ↦ at_fault (length items) cause.Truncated f (sym (ap at_end (cut reads n last items bytes le within lt)) ∙ e)
+                  | inr long ↦
+                      let text : List ℕ = take (len_of bytes) (drop 4 bytes) in
+                      behind_falls reads n falls items text (drop (len_of bytes) (drop 4 bytes)) (reads last text) f (sym (ap at_end (whole reads n last items bytes le within long)) ∙ e)
                 ]
           ]
     ]
@@ -128,7 +140,7 @@ items_fall reads zero = none_falls reads
 items_fall reads (suc n) = one_falls reads n (items_fall reads n)
 
 read_behind : (reads : Reads) (n : ℕ) (items : List Fields) (text rest : List ℕ) (r : Result Fields Cause) → (length items ≡ 0 → IsRead r)
-    → IsBehindFront (told_as (fault_at (length items)) r >>= λ item. items_on reads n text (items ++ item ∷ []) rest)
+    → IsBehindFront (at_end (told_as (fault_at (length items)) r >>= λ item. items_on reads n text (items ++ item ∷ []) rest))
 read_behind reads n items text rest (Ok item) first f e zeroth =
     let later = items_fall reads n text (items ++ item ∷ []) rest f e in
     absurd (omega (arith, later, zeroth, length-append items (item ∷ [])))
@@ -140,6 +152,6 @@ read_behind reads n items text rest (Err c) first f e zeroth =
 
 -- Where the first item is read, or the item is a later one, nothing is wrong in front.
 pub item_behind : (magic : List ℕ) (reads : Reads) (n : ℕ) (old : State Fields) (rest text after : List ℕ) → old.left ≡ Some n → 0 < n → IsWhole text → text ++ after ≡ old.held ++ rest → (length old.items ≡ 0 → IsRead (reads old.last (drop 4 text)))
-    → IsBehindFront (go_on magic reads old rest)
+    → IsBehindFront (at_end (go_on magic reads old rest))
 item_behind magic reads n old rest text after stage lt w moved first f e =
-    read_behind reads (n - 1) old.items (drop 4 text) after (reads old.last (drop 4 text)) first f (sym (opened magic reads old n rest text after stage lt w moved) ∙ e)
+    read_behind reads (n - 1) old.items (drop 4 text) after (reads old.last (drop 4 text)) first f (sym (ap at_end (opened magic reads old n rest text after stage lt w moved)) ∙ e)

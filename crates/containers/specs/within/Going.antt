@@ -1,5 +1,6 @@
 -- How a reading goes on, and when memory may run out on the way.
 use Rattle.std.specs.Prelude.{◌≡◌, ◌<◌, ◌⊎◌, ℕ, List, [], ◌∷◌, ◌++◌, Result, Ok, Err, length}
+use Rattle.outcome.specs.Outcome.{◌>>=◌, told_as}
 use Rattle.item_forms.specs.declared.forms.Fields.{Fields}
 use Rattle.item_forms.specs.Spelling.{spelling}
 use Rattle.evidence_item.specs.Checking.{Checked}
@@ -8,7 +9,9 @@ use Rattle.containers.specs.declared.part.Left.{Left}
 use Rattle.containers.specs.declared.part.Left.TheVariants as left
 use Rattle.containers.specs.declared.progress.Progress.{Progress}
 use Rattle.containers.specs.Refusals.{IsOfChecking, IsOfItems}
-use Rattle.containers.specs.Stages.{State, go_on}
+use Rattle.containers.specs.declared.fault.ImportFault.{ImportFault}
+use Rattle.containers.specs.Container.{Faulty, as_fault}
+use Rattle.containers.specs.Stages.{State, closed, go_on}
 use Rattle.containers.specs.CheckedItems.{fields_of}
 use Rattle.containers.specs.within.Parts.{IsHeldOn, IsTaken}
 use Rattle.containers.specs.within.Seen.{IsParted, Stands, StandsWith, last_text, seen, with_more}
@@ -20,6 +23,10 @@ Reads = List ℕ → List ℕ → Result Fields Cause
 abbrev pub Leaves : Left → (List ℕ → Type 0) → (List ℕ → Type 0) → Type 0
 Leaves (left.Behind bytes) Goes Ends = Goes bytes.now
 Leaves (left.CutOff bytes) Goes Ends = Ends bytes.now
+
+-- What the end of the text makes of where a reading stands.
+abbrev pub at_end : {A : Type 0} → Result (State A) ImportFault → Result (List A) ImportFault
+at_end r = told_as as_fault (told_as Faulty r >>= λ s. closed s)
 
 -- ---- one item
 
@@ -35,10 +42,10 @@ abbrev pub IsRead : Result Fields Cause → Type 0
 IsRead expected = (c : Cause) → expected ≡ Err c → IsOfChecking c
 
 -- Bytes of an item: it is read, or all of them are held; or they are of a body that is cut off, behind its whole length.
-abbrev pub TakesItem : {P : Type 0} → Reads → ℕ → Progress P → List ℕ → Progress P → Left → Type 0
+abbrev pub TakesItem : {P : Type 0} → Reads → ℕ → State Fields → List ℕ → Progress P → Left → Type 0
 TakesItem reads n old rest new x = Leaves x
-    (λ behind. (IsTaken reads n (seen old) rest (seen new) behind ⊎ (IsHeldOn (seen old) rest (seen new) behind × (behind ≡ []))) × IsParted new.left new.front.items new.body.items)
-    (λ body. IsHeldOn (seen old) rest (seen new) body × IsParted new.left new.front.items (new.body.items ++ body))
+    (λ behind. (IsTaken reads n old rest (seen new) behind ⊎ (IsHeldOn old rest (seen new) behind × (behind ≡ []))) × IsParted new.left new.front.items new.body.items)
+    (λ body. IsHeldOn old rest (seen new) body × IsParted new.left new.front.items (new.body.items ++ body))
 
 -- ---- parts
 
