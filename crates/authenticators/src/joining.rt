@@ -85,7 +85,7 @@ fn insert_each(held: &mut Vec<Authenticator>, mut statements: Vec<Authenticator>
     }
 }
 
-/// Moves what is held from this place on behind what was moved before, the last first.
+/// Moves what is held from this place on, the last first, behind what was moved before.
 fn move_from(held: &mut Vec<Authenticator>, place: usize, moved: &mut Vec<Authenticator>)
     requires inside { place ≤ vec_len held.old }
     requires room { vec_len held.old + vec_len moved.old ≤ vec_capacity moved.old }
@@ -102,8 +102,8 @@ fn move_from(held: &mut Vec<Authenticator>, place: usize, moved: &mut Vec<Authen
     }
 }
 
-/// Puts a statement that is below all that were moved behind what is held and below it, unless it is held: what is above it is moved,
-/// and then the statement itself.
+/// Puts a statement, which is below all that were moved, into its place: what is held and above it is moved, and then the statement
+/// itself. One that is held already is let go.
 fn put(held: &mut Vec<Authenticator>, statement: Authenticator, moved: &mut Vec<Authenticator>)
     requires ascending { IsAscending (with_moved held.old.items moved.old.items) }
     requires below { AreAbove statement moved.old.items }
