@@ -126,7 +126,7 @@ struct Heard {
 /// Whether the item acknowledges this message.
 fn acknowledges(item: &Item, message: &Message) -> bool {
     match item.form() {
-        Form::Ack(ack) => ack.message.is_same(message),
+        Form::Ack(ack) => ack.message == *message,
         _ => false,
     }
 }

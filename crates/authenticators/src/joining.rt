@@ -1,0 +1,145 @@
+//! Many statements put into a set at once.
+
+ghost use Rattle.std.specs.Prelude.{◌≡◌, ◌↔◌, ◌+◌, ◌<◌, ◌≤◌, ◌⊎◌, [], ◌++◌, Contains, IfErr, IfOk, OnErr, OnOk, drop, not, reverse, take, vec_capacity, vec_len};
+ghost use Rattle.std.specs.List.{filter};
+ghost use Rattle.authenticators.specs.declared.authenticator.Authenticator.{Authenticator as Statement};
+ghost use Rattle.authenticators.specs.StatementSet.{IsAscending, IsUnion};
+ghost use Rattle.authenticators.specs.within.Joins.{AreAbove, AreFrom, IsPlaceOf, is_held, with_moved};
+
+use crate::authenticator::Authenticator;
+use crate::authenticator_store::insert;
+use outcome::Memory;
+
+/// Up to so many new statements are put into a set one by one, and more of them all at once.
+const FEW: usize = 16;
+
+/// Where a statement stands among those that are held, or the place that it would have.
+fn place_of(held: &[Authenticator], statement: &Authenticator) -> Result<usize, usize>
+    requires { IsAscending held.now }
+    ensures there { IfOk result (λ i. Contains held.now statement.now) }
+    ensures place { IfErr result (λ i. IsPlaceOf statement.now held.now i) }
+{
+    held.binary_search(statement)
+}
+
+/// Whether the statement is held.
+fn is_held(held: &[Authenticator], statement: &Authenticator) -> bool
+    requires { IsAscending held.now }
+    ensures { result ≡ is_held held.now statement.now }
+{
+    place_of(held, statement).is_ok()
+}
+
+/// Sorts the statements, each of them once.
+fn sort(statements: &mut Vec<Authenticator>)
+    ensures ascending { IsAscending statements.new.items }
+    ensures same { (x : Statement) → Contains statements.new.items x ↔ Contains statements.old.items x }
+{
+    statements.sort_unstable();
+    statements.dedup();
+}
+
+/// Takes away the statements that are held.
+fn drop_held(held: &[Authenticator], statements: &mut Vec<Authenticator>)
+    requires { IsAscending held.now }
+    ensures { statements.new.items ≡ filter (λ (x : Statement). not (is_held held.now x)) statements.old.items }
+{
+    statements.retain(
+        |statement|
+            requires { IsAscending held.now }
+        { !is_held(held, statement) },
+    );
+}
+
+/// Puts all of the statements among those that are held. Where a growth is refused, what is held stays as it was.
+pub(crate) fn insert_all(
+    held: &mut Vec<Authenticator>,
+    mut statements: Vec<Authenticator>,
+) -> Result<(), Memory>
+    requires { IsAscending held.old.items }
+    ensures added { OnOk result (IsUnion held.old.items statements.items held.new.items) }
+    ensures unchanged { OnErr result (held.new.items ≡ held.old.items) }
+    ensures ascending { IsAscending held.new.items }
+{
+    sort(&mut statements);
+    drop_held(held, &mut statements);
+    held.reserve(statements.len())?;
+    if statements.len() <= FEW {
+        insert_each(held, statements);
+        return Ok(());
+    }
+    let moved = Vec::with_capacity(*held.allocator(), held.len() + statements.len())?;
+    join(held, statements, moved);
+    Ok(())
+}
+
+/// Inserts one statement after the other. There is room for all of them.
+fn insert_each(held: &mut Vec<Authenticator>, mut statements: Vec<Authenticator>)
+    requires ascending { IsAscending held.old.items }
+    requires room { vec_len held.old + vec_len statements ≤ vec_capacity held.old }
+    ensures added { IsUnion held.old.items statements.items held.new.items }
+    ensures ascending { IsAscending held.new.items }
+{
+    while let Some(statement) = statements.pop() {
+        let _ = insert(held, statement);
+    }
+}
+
+/// Moves what is held from this place on, the last first, behind what was moved before.
+fn move_from(held: &mut Vec<Authenticator>, place: usize, moved: &mut Vec<Authenticator>)
+    requires inside { place ≤ vec_len held.old }
+    requires room { vec_len held.old + vec_len moved.old ≤ vec_capacity moved.old }
+    ensures held { held.new.items ≡ take place held.old.items }
+    ensures moved { moved.new.items ≡ moved.old.items ++ reverse (drop place held.old.items) }
+    ensures len { vec_len held.new + vec_len moved.new ≡ vec_len held.old + vec_len moved.old }
+    ensures held_capacity { vec_capacity held.new ≡ vec_capacity held.old }
+    ensures moved_capacity { vec_capacity moved.new ≡ vec_capacity moved.old }
+{
+    while held.len() > place {
+        if let Some(last) = held.pop() {
+            moved.push_reserved(last);
+        }
+    }
+}
+
+/// Puts a statement, which is below all that were moved, into its place: what is held and above it is moved, and then the statement
+/// itself. One that is held already is let go.
+fn put(held: &mut Vec<Authenticator>, statement: Authenticator, moved: &mut Vec<Authenticator>)
+    requires ascending { IsAscending (with_moved held.old.items moved.old.items) }
+    requires below { AreAbove statement moved.old.items }
+    requires room { vec_len held.old + vec_len moved.old < vec_capacity moved.old }
+    ensures ascending { IsAscending (with_moved held.new.items moved.new.items) }
+    ensures added { (x : Statement) → Contains (with_moved held.new.items moved.new.items) x ↔ (Contains (with_moved held.old.items moved.old.items) x ⊎ (x ≡ statement)) }
+    ensures from { AreFrom statement moved.new.items }
+    ensures len { vec_len held.new + vec_len moved.new ≤ vec_len held.old + vec_len moved.old + 1 }
+    ensures held_capacity { vec_capacity held.new ≡ vec_capacity held.old }
+    ensures moved_capacity { vec_capacity moved.new ≡ vec_capacity moved.old }
+{
+    let Err(place) = place_of(held, &statement) else {
+        return;
+    };
+    move_from(held, place, moved);
+    moved.push_reserved(statement);
+}
+
+/// Joins ascending statements with those that are held, the greatest first: what is above a statement is moved to `moved`, which is
+/// empty at first, and all that was moved comes back in the end. There is room for all of them in both.
+fn join(
+    held: &mut Vec<Authenticator>,
+    mut statements: Vec<Authenticator>,
+    mut moved: Vec<Authenticator>,
+)
+    requires held { IsAscending held.old.items }
+    requires statements { IsAscending statements.items }
+    requires empty { moved.items ≡ [] }
+    requires room { vec_len held.old + vec_len statements ≤ vec_capacity held.old }
+    requires moving { vec_len held.old + vec_len statements ≤ vec_capacity moved }
+    ensures added { IsUnion held.old.items statements.items held.new.items }
+    ensures ascending { IsAscending held.new.items }
+{
+    while let Some(statement) = statements.pop() {
+        put(held, statement, &mut moved);
+    }
+    moved.reverse();
+    let _ = held.append(&mut moved);
+}
