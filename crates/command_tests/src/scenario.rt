@@ -71,8 +71,8 @@ fn a_spent_key_ends_the_run(rt: HostRuntime) -> Result<(), Fail> {
     Ok(())
 }
 
-/// Node 1's timer ticks 17 times, these lines come before the last time, and node 2 shows its log. Each time takes two leaves of both nodes: node
-/// 1 signs its message and that it received the answer, node 2 that it received the message and the answer.
+/// Node 1's timer ticks 17 times, these lines come before the last time, and node 2 shows its log. Each time takes two leaves of
+/// both nodes: node 1 signs its message and that it received the answer, node 2 that it received the message and the answer.
 fn seventeen_ticks(alloc: Global, lines: &[u8]) -> Result<Vec<u8>, AllocError> {
     let mut text = Vec::from_slice(alloc, b"witnesses 1\nnode 1 honest\nnode 2 honest\n")?;
     push_ticks(&mut text, 16, lines)?;

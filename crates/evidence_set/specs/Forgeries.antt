@@ -23,9 +23,9 @@ pub record Forged (ds : Listing) (E : Items) (j : ℕ) (signed : List Stamp) : T
 
 -- ---- laws, which `laws` proves
 
--- A statement of the node that is held and was not signed is a forgery, and where the items are valid the node's key verifies it;
--- there is none where each was signed, as where the set is empty or has but another signature of what was signed, and a statement of
--- another node is none; and more items take none back.
+-- A statement of the node that is held and was not signed is a forgery, and where the items are valid one of the node's keys
+-- verifies it; there is none where each was signed, as where the set is empty or has but another signature of what was signed,
+-- and a statement of another node is none; and more items take none back.
 pub record ForgeriesAreUnsigned : Type 0 where
   pub found : (ds : Listing) (E : Items) (j : ℕ) (signed : List Stamp) (a : Authenticator)
       → IsHeld ds E j a → ¬ (Contains signed (stamp a)) → Forged ds E j signed

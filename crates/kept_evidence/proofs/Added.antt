@@ -12,10 +12,10 @@ use Rattle.replay_verifier.specs.Meaning.{Meaning}
 use Rattle.item_forms.specs.Pieces.{Piece, by_bytes}
 use Rattle.evidence_item.specs.Checking.{Checked}
 use Rattle.evidence_set.specs.Held.{authenticators_of}
-use Rattle.evidence_set.specs.ItemSets.{Has, Join, count, listed}
+use Rattle.evidence_set.specs.ItemSets.{Has, Join, count, listed, pieces, set_of}
 use Rattle.evidence_set.proofs.Joins.{joins, least_upper_bounds}
 use Rattle.evidence_set.proofs.SetLists.{sets_are_lists}
-use Rattle.kept_evidence.specs.Kept.{AreHeldOf, AreKept, IsAscending, IsStore, Keeps, by_item, is_kept, pieces, set_of}
+use Rattle.kept_evidence.specs.Kept.{AreHeldOf, AreKept, IsAscending, IsStore, Keeps, by_item, is_kept}
 use Rattle.kept_evidence.specs.Telling.{told_statements}
 use Rattle.kept_evidence.proofs.Bridge.{set_has}
 use Rattle.kept_evidence.proofs.Members.{of_some, passes, passing, some_of}

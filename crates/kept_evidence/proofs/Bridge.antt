@@ -8,11 +8,11 @@ use Rattle.item_forms.specs.declared.forms.Fields.{Fields}
 use Rattle.item_forms.specs.Pieces.{Piece}
 use Rattle.evidence_item.specs.Checking.{Checked}
 use Rattle.evidence_set.specs.Held.{Holds, IsHeld}
-use Rattle.evidence_set.specs.ItemSets.{Has, SomeItem, none}
+use Rattle.evidence_set.specs.ItemSets.{Has, SomeItem, none, pieces, set_of}
 use Rattle.evidence_set.proofs.Joins.{as_expected}
 use Rattle.evidence_set.proofs.SetLists.{sets_are_lists}
 use Rattle.evidence_set.proofs.WhatIsHeld.{lists_what_is_held}
-use Rattle.kept_evidence.specs.Kept.{AreHeldOf, Keeps, SomeKept, pieces, set_of}
+use Rattle.kept_evidence.specs.Kept.{AreHeldOf, Keeps, SomeKept}
 use Rattle.kept_evidence.proofs.Members.{first, here_or_later, later, none_here}
 
 -- ---- items

@@ -16,7 +16,8 @@ use Rattle.proofs.specs.Contradictions.{contradicts}
 use Rattle.proofs.proofs.Contradicting.{contradicts-decides}
 use Rattle.evidence_item.specs.Checking.{Checked, IsOwnVerdict}
 use Rattle.evidence_set.specs.Indications.{Denies, DoesNotConform, HasSegment, IsExposed, SaysTwo}
-use Rattle.kept_evidence.specs.Kept.{IsStore, set_of}
+use Rattle.evidence_set.specs.ItemSets.{set_of}
+use Rattle.kept_evidence.specs.Kept.{IsStore}
 use Rattle.kept_evidence.specs.Telling.{AreTwo, IsDenial, IsDeviation, IsKeptOf, IsSegmentOf, IsUnexposed, denies, deviates}
 use Rattle.kept_evidence.proofs.Bridge.{is_held, some_item}
 

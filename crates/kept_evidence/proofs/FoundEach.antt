@@ -8,7 +8,8 @@ use Rattle.authenticators.specs.Directory.{Listing}
 use Rattle.replay_verifier.specs.Meaning.{Meaning}
 use Rattle.item_forms.specs.Pieces.{Piece}
 use Rattle.evidence_item.specs.Checking.{Checked, IsChecked}
-use Rattle.kept_evidence.specs.Kept.{IsWhole, pieces}
+use Rattle.evidence_set.specs.ItemSets.{pieces}
+use Rattle.kept_evidence.specs.Kept.{IsWhole}
 
 -- an item in the place of an equal one
 same_pieces : (xs : List Checked) (i : ℕ) (c d : Checked) → i < length xs → c.item ≡ (get_or xs i d).item → pieces (set xs i c) ≡ pieces xs

@@ -13,7 +13,8 @@ use Rattle.evidence_item.specs.Checking.{Checked}
 use Rattle.containers.specs.CheckedItems.{checked_of, fields_of as checked_fields}
 use Rattle.containers.specs.Container.{import_of}
 use Rattle.evidence_set.specs.Exports.{IsTextOf, SetsHaveOneText, fields_of, set_text}
-use Rattle.kept_evidence.specs.Kept.{AreKept, IsAscending, IsWhole, by_item, pieces, set_of}
+use Rattle.evidence_set.specs.ItemSets.{pieces, set_of}
+use Rattle.kept_evidence.specs.Kept.{AreKept, IsAscending, IsWhole, by_item}
 
 -- the list ascends as its items do
 ascends : (kept : List Checked) → IsStrictlySortedBy by_bytes (pieces kept) → IsAscending kept

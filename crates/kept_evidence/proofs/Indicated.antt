@@ -18,11 +18,11 @@ use Rattle.evidence_item.specs.declared.findings.Findings.{Findings}
 use Rattle.evidence_item.specs.Checking.{Checked, findings_of}
 use Rattle.evidence_set.specs.Challenges.{Answers, answers, answers_send, is_against, is_of_number, is_receipt_of}
 use Rattle.evidence_set.specs.Indications.{IsExposed, IsUnanswered}
-use Rattle.evidence_set.specs.ItemSets.{SomeItem}
+use Rattle.evidence_set.specs.ItemSets.{SomeItem, set_of}
 use Rattle.evidence_set.proofs.AnswerTests.{answers_decide}
 use Rattle.kept_evidence.specs.declared.exposure.Exposure.{Exposure}
 use Rattle.kept_evidence.specs.declared.exposure.Exposure.TheVariants as exposure
-use Rattle.kept_evidence.specs.Kept.{AreKept, HasHashes, HasHashesFor, IsStore, found_hashes, set_of}
+use Rattle.kept_evidence.specs.Kept.{AreKept, HasHashes, HasHashesFor, IsStore, found_hashes}
 use Rattle.kept_evidence.specs.Telling.{IsUnexposed, Shows, found_quotes, is_answered, is_told_receipt, is_unanswered, told_answers, told_receipt, told_send}
 use Rattle.kept_evidence.proofs.Answered.{some_passes, one_suffices}
 use Rattle.kept_evidence.proofs.Bridge.{some_item}

@@ -8,8 +8,8 @@ use Rattle.item_forms.specs.Spelling.{spelling}
 use Rattle.containers.specs.Container.{container_text}
 use Rattle.evidence_item.specs.Checking.{Checked}
 use Rattle.evidence_set.specs.Exports.{export_of, magic}
-use Rattle.evidence_set.specs.ItemSets.{IsWithin, listed}
-use Rattle.kept_evidence.specs.Kept.{IsAscending, Keeps, is_kept, pieces, set_of}
+use Rattle.evidence_set.specs.ItemSets.{IsWithin, listed, pieces, set_of}
+use Rattle.kept_evidence.specs.Kept.{IsAscending, Keeps, is_kept}
 use Rattle.kept_evidence.proofs.Added.{listed_is}
 use Rattle.kept_evidence.proofs.Bridge.{set_has}
 use Rattle.kept_evidence.proofs.Members.{first, here_or_later, later, none_here}

@@ -9,9 +9,9 @@ use Rattle.replay_verifier.specs.Meaning.{Meaning}
 use Rattle.item_forms.specs.Pieces.{Piece}
 use Rattle.evidence_item.specs.Checking.{Checked}
 use Rattle.evidence_set.specs.Held.{authenticators_of}
-use Rattle.evidence_set.specs.ItemSets.{contains, insert}
+use Rattle.evidence_set.specs.ItemSets.{contains, insert, set_of}
 use Rattle.evidence_set.proofs.Joins.{as_expected, least_upper_bounds}
-use Rattle.kept_evidence.specs.Kept.{AreHeldOf, IsAscending, IsStore, IsWhole, Keeps, set_of}
+use Rattle.kept_evidence.specs.Kept.{AreHeldOf, IsAscending, IsStore, IsWhole, Keeps}
 use Rattle.kept_evidence.specs.Telling.{told_statements}
 use Rattle.kept_evidence.proofs.Bridge.{set_has}
 use Rattle.kept_evidence.proofs.ToldStatements.{told_is}

@@ -7,7 +7,8 @@ ghost use Rattle.containers.specs.CheckedItems.{checked_of};
 ghost use Rattle.containers.specs.Container.{import_of};
 ghost use Rattle.containers.specs.Refusals.{Refuses};
 ghost use Rattle.evidence_set.specs.Exports.{magic_of, set_text};
-ghost use Rattle.kept_evidence.specs.Kept.{AreKept, IsWhole, pieces, set_of};
+ghost use Rattle.evidence_set.specs.ItemSets.{pieces, set_of};
+ghost use Rattle.kept_evidence.specs.Kept.{AreKept, IsWhole};
 
 use crate::findings::find;
 use authenticators::Directory;

@@ -8,10 +8,10 @@ use Rattle.authenticators.specs.Directory.{Listing}
 use Rattle.item_forms.specs.Pieces.{Piece, by_bytes}
 use Rattle.evidence_item.specs.Checking.{Checked}
 use Rattle.evidence_set.specs.Indications.{IsUnanswered}
-use Rattle.evidence_set.specs.ItemSets.{Has, none}
+use Rattle.evidence_set.specs.ItemSets.{Has, none, pieces, set_of}
 use Rattle.evidence_set.proofs.Joins.{as_expected}
 use Rattle.evidence_set.proofs.SetLists.{sets_are_lists}
-use Rattle.kept_evidence.specs.Kept.{IsAscending, pieces, set_of}
+use Rattle.kept_evidence.specs.Kept.{IsAscending}
 use Rattle.kept_evidence.specs.Telling.{is_unanswered}
 use Rattle.kept_evidence.proofs.Added.{pieces_ascend}
 use Rattle.kept_evidence.proofs.Members.{passes, passing}

@@ -8,9 +8,9 @@ use Rattle.item_forms.specs.Pieces.{Piece}
 use Rattle.evidence_item.specs.Checking.{Checked}
 use Rattle.evidence_item.specs.Validity.{IsValid}
 use Rattle.evidence_set.specs.Exports.{AreValid}
-use Rattle.evidence_set.specs.ItemSets.{Items, Join}
+use Rattle.evidence_set.specs.ItemSets.{Items, Join, set_of}
 use Rattle.evidence.specs.Contents.{Contents, with_items}
-use Rattle.kept_evidence.specs.Kept.{AreKept, IsStore, set_of}
+use Rattle.kept_evidence.specs.Kept.{AreKept, IsStore}
 use Rattle.kept_evidence.proofs.Bridge.{set_has}
 use Rattle.kept_evidence.proofs.Members.{none_here}
 

@@ -3,7 +3,8 @@
 ghost use Rattle.std.specs.Prelude.{◌↔◌, IfOk, IfSome, IsSome};
 ghost use Rattle.proofs.specs.Convicting.{Convicts};
 ghost use Rattle.evidence_set.specs.Indications.{IsExposed};
-ghost use Rattle.kept_evidence.specs.Kept.{IsStore, set_of};
+ghost use Rattle.evidence_set.specs.ItemSets.{set_of};
+ghost use Rattle.kept_evidence.specs.Kept.{IsStore};
 
 use crate::exposure::exposure_of;
 use authenticators::{AuthenticatorStore, Directory, NodeId};

@@ -5,8 +5,8 @@ ghost use Rattle.containers.specs.CheckedItems.{checked_of};
 ghost use Rattle.containers.specs.Container.{import_of};
 ghost use Rattle.containers.specs.Refusals.{Refuses};
 ghost use Rattle.evidence_set.specs.Exports.{magic_of, set_text};
-ghost use Rattle.evidence_set.specs.ItemSets.{Items, Join, count};
-ghost use Rattle.kept_evidence.specs.Kept.{IsStore, set_of};
+ghost use Rattle.evidence_set.specs.ItemSets.{Items, Join, count, set_of};
+ghost use Rattle.kept_evidence.specs.Kept.{IsStore};
 
 use crate::joining::drop_kept;
 use crate::merging::add_all;

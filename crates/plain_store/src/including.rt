@@ -3,8 +3,8 @@
 ghost use Rattle.std.specs.Prelude.{◌≡◌, ◌↔◌, IsTrue};
 ghost use Rattle.std.specs.List.{list_all};
 ghost use Rattle.evidence_item.specs.Checking.{Checked as TheChecked};
-ghost use Rattle.evidence_set.specs.ItemSets.{IsWithin};
-ghost use Rattle.kept_evidence.specs.Kept.{IsAscending, is_kept, set_of};
+ghost use Rattle.evidence_set.specs.ItemSets.{IsWithin, set_of};
+ghost use Rattle.kept_evidence.specs.Kept.{IsAscending, is_kept};
 
 use crate::placing::keeps;
 use evidence_item::Checked;

@@ -2,8 +2,8 @@
 
 ghost use Rattle.std.specs.Prelude.{◌↔◌, IsTrue};
 ghost use Rattle.evidence_set.specs.Indications.{IsExposed, IsIndication, IsUnanswered};
-ghost use Rattle.evidence_set.specs.ItemSets.{SomeItem};
-ghost use Rattle.kept_evidence.specs.Kept.{AreKept, IsStore, set_of};
+ghost use Rattle.evidence_set.specs.ItemSets.{SomeItem, set_of};
+ghost use Rattle.kept_evidence.specs.Kept.{AreKept, IsStore};
 
 use crate::exposure::exposure_of;
 use crate::suspicion;

@@ -3,8 +3,8 @@
 ghost use Rattle.std.specs.Prelude.{◌≡◌, IfOk, option_map, slice_get};
 ghost use Rattle.evidence_item.specs.Checking.{Checked as TheChecked};
 ghost use Rattle.evidence_set.specs.Exports.{export_of};
-ghost use Rattle.evidence_set.specs.ItemSets.{count, listed};
-ghost use Rattle.kept_evidence.specs.Kept.{IsAscending, set_of};
+ghost use Rattle.evidence_set.specs.ItemSets.{count, listed, set_of};
+ghost use Rattle.kept_evidence.specs.Kept.{IsAscending};
 
 use containers::write_all;
 use evidence_item::Checked;

@@ -4,8 +4,8 @@ ghost use Rattle.std.specs.Prelude.{◌≡◌, ◌+◌, IfOk, OnErr, OnOk, lengt
 ghost use Rattle.std.specs.List.{flat_map};
 ghost use Rattle.item_forms.specs.Pieces.{Piece};
 ghost use Rattle.evidence_item.specs.Checking.{Checked as TheChecked};
-ghost use Rattle.evidence_set.specs.ItemSets.{Join, count};
-ghost use Rattle.kept_evidence.specs.Kept.{AreKept, IsStore, Keeps, set_of};
+ghost use Rattle.evidence_set.specs.ItemSets.{Join, count, set_of};
+ghost use Rattle.kept_evidence.specs.Kept.{AreKept, IsStore, Keeps};
 ghost use Rattle.kept_evidence.specs.Telling.{told_statements};
 
 use crate::joining::{copies_of_missing, join};

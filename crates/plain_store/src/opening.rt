@@ -6,8 +6,8 @@ ghost use Rattle.std.specs.List.Sorted.{IsStrictlySortedBy};
 ghost use Rattle.item_forms.specs.Pieces.{Piece, by_bytes};
 ghost use Rattle.evidence_item.specs.Checking.{Checked as TheChecked};
 ghost use Rattle.evidence_set.specs.Indications.{IsUnanswered};
-ghost use Rattle.evidence_set.specs.ItemSets.{Has};
-ghost use Rattle.kept_evidence.specs.Kept.{AreKept, HasHashes, IsAscending, pieces, set_of};
+ghost use Rattle.evidence_set.specs.ItemSets.{Has, pieces, set_of};
+ghost use Rattle.kept_evidence.specs.Kept.{AreKept, HasHashes, IsAscending};
 ghost use Rattle.kept_evidence.specs.Telling.{is_unanswered};
 
 use crate::suspicion::is_unanswered;

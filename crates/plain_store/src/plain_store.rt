@@ -2,7 +2,7 @@
 
 ghost use Rattle.std.specs.Prelude.{◌≡◌, IfErr, IfOk, OnErr, OnOk, Ok, false, not};
 ghost use Rattle.evidence_item.specs.Checking.{IsChecked};
-ghost use Rattle.evidence_set.specs.ItemSets.{Has, contains, insert};
+ghost use Rattle.evidence_set.specs.ItemSets.{Has, contains, insert, set_of};
 ghost use Rattle.evidence.specs.Contents.{with_items};
 
 use crate::convicting::proof;
@@ -39,7 +39,7 @@ pub struct PlainStore<P: Program> {
 impl<P: Program> Model for PlainStore<P> {
     ghost use Rattle.std.specs.Coded.{codes};
     ghost use Rattle.evidence.specs.Contents.{Contents, items_code};
-    ghost use Rattle.kept_evidence.specs.Kept.{IsStore, set_of};
+    ghost use Rattle.kept_evidence.specs.Kept.{IsStore};
 
     ghost Value = { Contents };
 

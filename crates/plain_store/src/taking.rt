@@ -2,9 +2,9 @@
 
 ghost use Rattle.std.specs.Prelude.{◌≡◌, ◌<◌, false, not, IfErr, IfOk, OnErr, OnOk, Ok, vec_capacity, vec_len};
 ghost use Rattle.evidence_item.specs.Checking.{IsChecked};
-ghost use Rattle.evidence_set.specs.ItemSets.{Has, contains, insert};
+ghost use Rattle.evidence_set.specs.ItemSets.{Has, contains, insert, set_of};
 ghost use Rattle.authenticators.specs.StatementSet.{IsUnion};
-ghost use Rattle.kept_evidence.specs.Kept.{IsStore, IsWhole, set_of};
+ghost use Rattle.kept_evidence.specs.Kept.{IsStore, IsWhole};
 ghost use Rattle.kept_evidence.specs.Telling.{told_statements};
 
 use crate::placing::{place_of, put};

@@ -7,7 +7,8 @@ use ref_programs::Tally;
 use std::alloc::Global;
 use std::test::Fail;
 
-/// A key of a node, by its number, 0 or 1: its identifier and its seed end with the node's number, and each byte before that is the key's.
+/// A key of a node, by its number, 0 or 1: its identifier and its seed end with the node's number, and each byte before that is
+/// the key's.
 fn key_of(alloc: Global, node: u8, number: u8) -> Result<SecretKey, Fail> {
     let mut id = [number; 16];
     id[12..].copy_from_slice(&[0, 0, 0, node]);
@@ -23,8 +24,8 @@ fn public_of(alloc: Global, node: u8, number: u8) -> Result<[u8; 56], Fail> {
     Ok(key.public_key().to_bytes())
 }
 
-/// Node 1's statement of the number 5 and a hash of equal bytes, signed by its key of this number with a C of equal bytes, behind its length: a
-/// signature by key 1 stands behind that number.
+/// Node 1's statement of the number 5 and a hash of equal bytes, signed by its key of this number with a C of equal bytes, behind
+/// its length: a signature by key 1 stands behind that number.
 fn item(alloc: Global, number: u8, hash: u8, c: u8) -> Result<Vec<u8>, Fail> {
     let mut statement = [hash; 40];
     statement[..8].copy_from_slice(&[0, 0, 0, 0, 0, 0, 0, 5]);
@@ -68,7 +69,8 @@ fn input_of(alloc: Global, first: &[u8], second: &[u8]) -> Result<Vec<u8>, Fail>
     Ok(input)
 }
 
-/// What is written of two statements of node 1: the first is of the hash 1 and by key 0, the second of this hash and by the key of this number.
+/// What is written of two statements of node 1: the first is of the hash 1 and by key 0, the second of this hash and by the key
+/// of this number.
 fn report_of(alloc: Global, hash: u8, number: u8) -> Result<Vec<u8>, Fail> {
     let first = item(alloc, 0, 1, 0)?;
     let second = item(alloc, number, hash, 1)?;

@@ -1,7 +1,8 @@
 use Rattle.std.proofs.Common.{◌≡◌, take}
 use Rattle.std.specs.List.{All}
 use Rattle.evidence_item.specs.Checking.{IsChecked}
-use Rattle.kept_evidence.specs.Kept.{IsWhole, pieces}
+use Rattle.evidence_set.specs.ItemSets.{pieces}
+use Rattle.kept_evidence.specs.Kept.{IsWhole}
 use Rattle.kept_evidence.proofs.importing.find_each.Given as goal
 
 abbrev pub invariant-loop-checked : goal.invariant-loop-checked

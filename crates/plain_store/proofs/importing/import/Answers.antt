@@ -1,5 +1,5 @@
+use Rattle.evidence_set.specs.ItemSets.{set_of}
 use Rattle.std.proofs.Common.{◌∙◌, arith}
-use Rattle.kept_evidence.specs.Kept.{set_of}
 use Rattle.kept_evidence.proofs.Added.{counted, missing_apart, missing_joins, missing_kept}
 use Rattle.plain_store.proofs.importing.import.Goals as goal
 

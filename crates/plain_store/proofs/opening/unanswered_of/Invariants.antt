@@ -1,7 +1,7 @@
+use Rattle.evidence_set.specs.ItemSets.{pieces}
 use Rattle.std.proofs.Common.{◌≡◌, map, take}
 use Rattle.std.specs.List.{filter}
 use Rattle.item_forms.specs.Pieces.{Piece}
-use Rattle.kept_evidence.specs.Kept.{pieces}
 use Rattle.kept_evidence.specs.Telling.{is_unanswered}
 use Rattle.plain_store.proofs.opening.unanswered_of.Given as goal
 

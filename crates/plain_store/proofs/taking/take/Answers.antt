@@ -1,6 +1,6 @@
+use Rattle.evidence_set.specs.ItemSets.{set_of}
 use Rattle.std.proofs.Common.{◌≡◌, Bool, false, Result, Ok, Err, OnOk, is_err, sym}
 use Rattle.evidence_set.proofs.SetLists.{sets_count}
-use Rattle.kept_evidence.specs.Kept.{set_of}
 use Rattle.kept_evidence.proofs.Bridge.{set_has}
 use Rattle.kept_evidence.proofs.Places.{not_kept}
 use Rattle.kept_evidence.proofs.Taken.{is_new, not_new, set_grows, store_grows}

@@ -1,8 +1,7 @@
 use Rattle.std.proofs.Common.{◌≡◌, ap, subst, ◌∙◌}
 use Rattle.std.specs.Prelude.{◌↔◌, IsTrue}
-use Rattle.evidence_set.specs.ItemSets.{IsWithin, Items}
+use Rattle.evidence_set.specs.ItemSets.{IsWithin, Items, set_of}
 use Rattle.evidence.specs.Contents.{Contents}
-use Rattle.kept_evidence.specs.Kept.{set_of}
 use Rattle.plain_store.proofs.plain_store.PlainStoreEvidence.includes.Goals as goal
 
 pub returns : goal.returns

@@ -1,8 +1,8 @@
+use Rattle.evidence_set.specs.ItemSets.{set_of}
 use Rattle.std.proofs.Common.{List, subst}
 use Rattle.evidence_item.specs.Checking.{Checked}
 use Rattle.evidence_set.specs.Indications.{IsIndication}
 use Rattle.evidence.specs.Contents.{Contents}
-use Rattle.kept_evidence.specs.Kept.{set_of}
 use Rattle.plain_store.proofs.plain_store.PlainStoreEvidence.indication.Goals as goal
 
 pub returns-clause-told : goal.returns-clause-told

@@ -5,9 +5,8 @@ use Rattle.authenticators.specs.Directory.{Listing}
 use Rattle.item_forms.specs.Pieces.{Piece}
 use Rattle.evidence_item.specs.Checking.{Checked}
 use Rattle.evidence_set.specs.Indications.{IsUnanswered}
-use Rattle.evidence_set.specs.ItemSets.{Has, Items}
+use Rattle.evidence_set.specs.ItemSets.{Has, Items, set_of}
 use Rattle.evidence.specs.Contents.{Contents}
-use Rattle.kept_evidence.specs.Kept.{set_of}
 use Rattle.plain_store.proofs.plain_store.PlainStoreEvidence.open_challenges.Goals as goal
 
 pub returns-clause-members : goal.returns-clause-members

@@ -1,9 +1,9 @@
+use Rattle.evidence_set.specs.ItemSets.{set_of}
 use Rattle.std.proofs.Common.{List, subst}
 use Rattle.std.specs.Prelude.{◌↔◌, IsSome}
 use Rattle.evidence_item.specs.Checking.{Checked}
 use Rattle.evidence_set.specs.Indications.{IsExposed}
 use Rattle.evidence.specs.Contents.{Contents}
-use Rattle.kept_evidence.specs.Kept.{set_of}
 use Rattle.plain_store.proofs.plain_store.PlainStoreEvidence.proof.Goals as goal
 
 pub returns-clause-some : goal.returns-clause-some
