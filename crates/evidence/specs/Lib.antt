@@ -1,2 +1,4 @@
 pub mod Contents
+pub mod Importing
 pub mod Refusals
+pub mod within

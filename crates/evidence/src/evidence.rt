@@ -1,22 +1,24 @@
 //! What a store of evidence does, however it is kept.
 
 ghost use Rattle.std.specs.Prelude.{◌≡◌, ◌+◌, ◌↔◌, false, not, IfErr, IfOk, IfSome, IsSome, IsTrue, IsErr, OnErr, OnOk, Ok, Err, is_some, slice_get, map, option_map};
-ghost use Rattle.std.specs.List.{Contains};
+ghost use Rattle.std.specs.List.{All, Contains};
 ghost use Rattle.std.specs.List.Sorted.{IsStrictlySortedBy};
 ghost use Rattle.authenticators.specs.Directory.{is_listed};
 ghost use Rattle.item_forms.specs.Pieces.{Piece, by_bytes};
 ghost use Rattle.evidence_item.specs.Checking.{Checked as TheChecked, IsChecked};
 ghost use Rattle.proofs.specs.Convicting.{Convicts};
-ghost use Rattle.containers.specs.CheckedItems.{checked_of};
-ghost use Rattle.containers.specs.Container.{import_of};
-ghost use Rattle.containers.specs.Refusals.{Refuses};
+ghost use Rattle.containers.specs.declared.fault.Cause.TheVariants as cause;
+ghost use Rattle.containers.specs.Refusals.{IsBehindFront, Refuses};
 ghost use Rattle.evidence_set.specs.Indications.{IsExposed, IsIndication, IsUnanswered};
 ghost use Rattle.evidence_set.specs.Exports.{AreValid, export_of, magic_of, set_text};
-ghost use Rattle.evidence_set.specs.ItemSets.{Has, IsWithin, Items, Join, contains, count, insert, listed, none};
+ghost use Rattle.evidence_set.specs.ItemSets.{Has, IsWithin, Items, Join, contains, count, insert, listed, none, pieces, set_of};
 ghost use Rattle.evidence.specs.Contents.{Contents, with_items};
+ghost use Rattle.evidence.specs.Importing.{import_set};
 ghost use Rattle.evidence.specs.declared.fault.AskFault.TheVariants as ask;
 
+use crate::adding::add;
 use crate::fault::{AskFault, NewStoreRefused, TakeRefused, UnknownNode};
+use crate::set_text::items_of;
 use authenticators::{Directory, NodeId};
 use containers::ImportFault;
 use evidence_item::{Checked, Item};
@@ -102,16 +104,35 @@ pub trait Evidence<P: Program>: Drop {
     fn export(&self) -> Result<Vec<u8>, Memory>
         ensures { IfOk result (λ text. text.items ≡ export_of (contents self.now).items) };
 
+    /// The allocator from which the store grows.
+    fn allocator(&self) -> Global;
+
+    /// Adds items that were checked under the store's directory and ascend by their spellings, and answers how many are new: all of
+    /// them are added, or, with `Memory`, none. It verifies no signature, and of an item that keeps what checking found it hashes no
+    /// content.
+    fn take_all(&mut self, items: Vec<Checked<P>>) -> Result<u64, Memory>
+        requires checked { All (IsChecked (contents self.old).directory P.means) items.items }
+        requires ascending { IsStrictlySortedBy by_bytes (pieces items.items) }
+        ensures told { IfOk result (λ new. count (contents self.old).items + new ≡ count (contents self.new).items) }
+        ensures joined { OnOk result (contents self.new ≡ with_items (contents self.old) (Join (contents self.old).items (set_of items.items))) }
+        ensures refused { OnErr result (contents self.new ≡ contents self.old) };
+
     /// Reads the text of a set, behind `PRSTORE2` or `PRSTORE1`, checks its items, and adds them: all, or none. It answers how many are
     /// new.
     ///
     /// The first of these is told, at the first item that shows it: `Truncated` (40) and `BadMagic` (60) in the header; `Truncated` of
     /// an item's length, `TooLong` (42) of it, `Truncated` of its bytes, its own fault of reading (40 to 43), `NotAscending` (61), its
-    /// fault of checking (44 to 49); and `Trailing` (43) at the count. `Memory` may come in place of any of them, or of the answer.
-    /// The count in the header is not believed: no room is made before its items are there.
-    fn import(&mut self, program: &P, bytes: &[u8]) -> Result<u64, ImportFault>
+    /// fault of checking (44 to 49); and `Trailing` (43) at the count. `Memory` may come in place of any of them, or of the answer, but
+    /// not before the first item was read: what is wrong with the header or with the first item's text is told, whether there is
+    /// memory or not. The count in the header is not believed: no room is made before its items are there.
+    final fn import(&mut self, program: &P, bytes: &[u8]) -> Result<u64, ImportFault>
         ensures told { IfOk result (λ new. count (contents self.old).items + new ≡ count (contents self.new).items) }
         ensures joined { OnOk result ((added : Items) × (bytes.now ≡ set_text (magic_of bytes.now) added) × (contents self.new ≡ with_items (contents self.old) (Join (contents self.old).items added))) }
-        ensures fault { IfErr result (λ f. Refuses f (import_of (magic_of bytes.now) (checked_of (contents self.old).directory) bytes.now)) }
-        ensures refused { OnErr result (contents self.new ≡ contents self.old) };
+        ensures fault { IfErr result (λ f. Refuses f (import_set (contents self.old).directory bytes.now)) }
+        ensures memory { IfErr result (λ f. f.cause ≡ cause.Memory → IsBehindFront (import_set (contents self.old).directory bytes.now)) }
+        ensures refused { OnErr result (contents self.new ≡ contents self.old) }
+    {
+        let items = items_of(self.allocator(), program, self.directory(), bytes)?;
+        add(self, items)
+    }
 }

@@ -8,6 +8,12 @@
 
 pub use evidence::Evidence;
 pub use fault::{AskFault, NewStoreRefused, TakeRefused, UnknownNode};
+pub use importer::Importer;
+pub use set_text::MAGIC;
 
+mod adding;
 mod evidence;
 mod fault;
+mod importer;
+mod set_text;
+mod stage;

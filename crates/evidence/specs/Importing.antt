@@ -1,0 +1,30 @@
+-- Reading the text of a set in pieces, as contracts see it.
+use Rattle.std.specs.Prelude.{ℕ, ◌≡◌, List, ◌++◌, Result}
+use Rattle.outcome.specs.Outcome.{◌>>=◌}
+use Rattle.authenticators.specs.Directory.{Listing}
+use Rattle.item_forms.specs.declared.forms.Fields.{Fields}
+use Rattle.containers.specs.declared.fault.Cause.{Cause}
+use Rattle.containers.specs.declared.fault.ImportFault.{ImportFault}
+use Rattle.containers.specs.CheckedItems.{checked_of}
+use Rattle.containers.specs.Container.{container_of, import_of, kept_on}
+use Rattle.evidence_set.specs.Exports.{magic_of}
+
+-- The directory under which items are checked; and the pieces so far, joined, or the fault by which they were refused.
+pub record Importing : Type 0 where
+  pub directory : Listing
+  pub fed : Result (List ℕ) ImportFault
+
+-- One piece more: it goes on as long as the text so far is the text of a set, or is only cut off. `reads` is the reading of one item.
+abbrev pub fed_by : (List ℕ → List ℕ → Result Fields Cause) → List ℕ → Result (List ℕ) ImportFault → Result (List ℕ) ImportFault
+fed_by reads piece fed = fed >>= λ text. kept_on (text ++ piece) (container_of (magic_of (text ++ piece)) reads (text ++ piece))
+
+-- The items of the text of a set under a directory, or the fault that the caller is told.
+abbrev pub import_set : Listing → List ℕ → Result (List Fields) ImportFault
+import_set ds text = import_of (magic_of text) (checked_of ds) text
+
+-- What the end makes of the pieces under a directory.
+abbrev pub imported_under : Listing → Result (List ℕ) ImportFault → Result (List Fields) ImportFault
+imported_under ds fed = fed >>= λ text. import_set ds text
+
+abbrev pub imported : Importing → Result (List Fields) ImportFault
+imported i = imported_under i.directory i.fed

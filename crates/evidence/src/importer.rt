@@ -1,0 +1,100 @@
+//! Reading the text of a set that comes in pieces.
+
+ghost use Rattle.std.specs.Prelude.{◌≡◌, ◌+◌, [], IfErr, IfOk, OnErr, OnOk, Ok, Err, List, ℕ};
+ghost use Rattle.containers.specs.declared.fault.Cause.TheVariants as cause;
+ghost use Rattle.containers.specs.declared.fault.ImportFault.{ImportFault as TheFault};
+ghost use Rattle.containers.specs.CheckedItems.{checked_of};
+ghost use Rattle.containers.specs.Feeding.{Feeds};
+ghost use Rattle.containers.specs.Refusals.{IsOfItems, Refuses};
+ghost use Rattle.evidence_set.specs.Exports.{magic_of, set_text};
+ghost use Rattle.evidence_set.specs.ItemSets.{Items, Join, count};
+ghost use Rattle.evidence.specs.Contents.{with_items};
+ghost use Rattle.evidence.specs.Importing.{fed_by, imported};
+
+use crate::adding::add;
+use crate::evidence::Evidence;
+use crate::fault::NewStoreRefused;
+use crate::stage::{Head, Stage, feed, finish};
+use authenticators::Directory;
+use containers::ImportFault;
+use replay_verifier::Program;
+use std::alloc::Global;
+use std::marker::Model;
+
+/// Reads the text of a set that comes in pieces, and checks each item as soon as its bytes are there; at the end of the text a store
+/// takes all of its items, or none. It keeps the items that were read and the bytes of the one under way.
+///
+/// A contract sees the directory, and the pieces so far, joined, or the fault by which they were refused.
+#[derive(Drop)]
+pub struct Importer<P: Program> {
+    alloc: Global,
+    directory: Directory,
+    stage: Stage<P>,
+}
+
+impl<P: Program> Model for Importer<P> {
+    ghost use Rattle.std.specs.Coded.{codes};
+    ghost use Rattle.evidence.specs.Importing.{Importing};
+    ghost use Rattle.evidence.specs.within.Stages.{IsStage, fed_of};
+
+    ghost Value = { Importing };
+
+    ghost coded = { Prim.hlevel (codes) };
+
+    ghost view = { λ i. record { directory = i.directory; fed = fed_of i.stage } };
+
+    ghost invariant = { λ i. IsStage i.directory P.means i.stage };
+}
+
+impl<P: Program> Importer<P> {
+    /// An importer that was fed nothing. Its items are checked under the directory. It takes no memory.
+    pub fn new(alloc: Global, directory: Directory) -> Result<Importer<P>, NewStoreRefused>
+        ensures { IfOk result (λ i. i ≡ record { directory = directory; fed = Ok [] }) }
+        ensures given_back { IfErr result (λ refused. refused.0 ≡ directory) }
+    {
+        Ok(Importer {
+            alloc,
+            directory,
+            stage: Stage::Head(Head::new()),
+        })
+    }
+
+    /// The next piece, of any length.
+    ///
+    /// It is refused as soon as the pieces so far show a fault, whatever follows: with that of [`Evidence::import`] of the text so far
+    /// which is no cut-off. A text that is only cut off goes on. `Memory` may come in place of a fault, but of none that the bytes show
+    /// whatever their items are: `BadMagic` (60), and in front of the first item `TooLong` (42) and `Trailing` (43). After a refusal
+    /// each later call answers the same fault.
+    pub fn feed(&mut self, program: &P, piece: &[u8]) -> Result<(), ImportFault>
+        ensures directory { self.new.directory ≡ self.old.directory }
+        ensures fed { Feeds result (fed_by (checked_of self.old.directory) piece.now self.old.fed) self.new.fed }
+        ensures again { (f : TheFault) → self.old.fed ≡ Err f → (result ≡ Err f) × (self.new.fed ≡ Err f) }
+        ensures memory { IfOk self.old.fed (λ text. IfErr result (λ f. f.cause ≡ cause.Memory → IsOfItems (λ reads. fed_by reads piece.now self.old.fed))) }
+    {
+        feed(
+            self.alloc,
+            program,
+            &self.directory,
+            &mut self.stage,
+            piece,
+        )
+    }
+
+    /// The end of the text: the store, which is of the same directory, takes its items, all or none. It answers how many are new.
+    ///
+    /// `Truncated` (40) where the text is cut off: at item 0 in the header, else at the item under way. After a refusal of `feed` it
+    /// answers the same fault. `Memory` may come in place of the answer, and of no fault. Each item was checked as it was read, so the
+    /// program is not asked again.
+    pub fn finish<S: Evidence<P>>(self, _program: &P, store: &mut S) -> Result<u64, ImportFault>
+        requires { (S.contents store.old).directory ≡ self.directory }
+        ensures told { IfOk result (λ new. count (S.contents store.old).items + new ≡ count (S.contents store.new).items) }
+        ensures joined { OnOk result ((text : List ℕ) × (added : Items) × (self.fed ≡ Ok text) × (text ≡ set_text (magic_of text) added) × (S.contents store.new ≡ with_items (S.contents store.old) (Join (S.contents store.old).items added))) }
+        ensures fault { IfErr result (λ f. Refuses f (imported self)) }
+        // A fault is told, whether there is memory or not.
+        ensures exact { (f : TheFault) → imported self ≡ Err f → result ≡ Err f }
+        ensures refused { OnErr result (S.contents store.new ≡ S.contents store.old) }
+    {
+        let items = finish(self.stage)?;
+        add(store, items)
+    }
+}
