@@ -49,7 +49,7 @@ impl<P: Program> Model for Importer<P> {
 impl<P: Program> Importer<P> {
     /// An importer that was fed nothing. Its items are checked under the directory. It takes no memory.
     pub fn new(alloc: Global, directory: Directory) -> Result<Importer<P>, NewStoreRefused>
-        ensures { IfOk result (λ i. i ≡ record { directory = directory; fed = Ok [] }) }
+        ensures begun { IfOk result (λ i. i ≡ record { directory = directory; fed = Ok [] }) }
         ensures given_back { IfErr result (λ refused. refused.0 ≡ directory) }
     {
         Ok(Importer {

@@ -1,6 +1,6 @@
 //! The text of a set, and the eight bytes by which it is known.
 
-ghost use Rattle.std.specs.Prelude.{◌≡◌, IfErr, IfOk};
+ghost use Rattle.std.specs.Prelude.{◌≡◌, IfErr, IfOk, IsOk, OnOk};
 ghost use Rattle.std.specs.List.{All};
 ghost use Rattle.std.specs.List.Sorted.{IsStrictlySortedBy};
 ghost use Rattle.item_forms.specs.Pieces.{by_bytes};
@@ -46,6 +46,7 @@ pub(crate) fn items_of<P: Program>(
     ensures checked { IfOk result (λ items. All (IsChecked directory.now P.means) items.items) }
     ensures ascending { IfOk result (λ items. IsStrictlySortedBy by_bytes (pieces items.items)) }
     ensures text { IfOk result (λ items. bytes.now ≡ set_text (magic_of bytes.now) (set_of items.items)) }
+    ensures read { OnOk result (IsOk (import_set directory.now bytes.now)) }
     ensures fault { IfErr result (λ f. Refuses f (import_set directory.now bytes.now)) }
     ensures memory { IfErr result (λ f. f.cause ≡ cause.Memory → IsBehindFront (import_set directory.now bytes.now)) }
 {

@@ -1,11 +1,11 @@
 pub mod Added
 pub mod Answered
+mod Ascending
 pub mod Bridge
 pub mod Convicted
 pub mod Exposures
 mod FoundEach
 pub mod Grouped
-mod Imported
 pub mod Indicated
 pub mod Listed
 pub mod Members

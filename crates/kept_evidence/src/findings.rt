@@ -1,8 +1,12 @@
 //! What checking found of the items that are kept.
 
 ghost use Rattle.std.specs.Prelude.{◌≡◌, OnOk, option_copied};
+ghost use Rattle.std.specs.List.{All};
+ghost use Rattle.std.specs.List.Sorted.{IsStrictlySortedBy};
+ghost use Rattle.item_forms.specs.Pieces.{by_bytes};
 ghost use Rattle.evidence_item.specs.Checking.{IsChecked};
-ghost use Rattle.kept_evidence.specs.Kept.{IsWhole, found_hashes};
+ghost use Rattle.evidence_set.specs.ItemSets.{pieces};
+ghost use Rattle.kept_evidence.specs.Kept.{AreKept, IsWhole, found_hashes};
 ghost use Rattle.kept_evidence.specs.Telling.{found_quotes};
 
 use authenticators::Directory;
@@ -45,4 +49,35 @@ pub(crate) fn find<P: Program>(
     ensures whole { OnOk result (IsWhole directory.now P.means checked.new) }
 {
     checked.find(alloc, directory)
+}
+
+/// Finds of each item what was not found yet.
+fn find_all<P: Program>(
+    alloc: Global,
+    directory: &Directory,
+    items: &mut Vec<Checked<P>>,
+) -> Result<(), Memory>
+    requires { All (IsChecked directory.now P.means) items.old.items }
+    ensures pieces { OnOk result (pieces items.new.items ≡ pieces items.old.items) }
+    ensures whole { OnOk result (All (IsWhole directory.now P.means) items.new.items) }
+{
+    for checked in items.iter_mut() {
+        find(alloc, directory, checked)?;
+    }
+    Ok(())
+}
+
+/// Finds of each item of a list that ascends what was not found yet, so that a store can keep them.
+pub fn find_each<P: Program>(
+    alloc: Global,
+    directory: &Directory,
+    items: &mut Vec<Checked<P>>,
+) -> Result<(), Memory>
+    requires checked { All (IsChecked directory.now P.means) items.old.items }
+    requires ascending { IsStrictlySortedBy by_bytes (pieces items.old.items) }
+    ensures pieces { OnOk result (pieces items.new.items ≡ pieces items.old.items) }
+    ensures kept { OnOk result (AreKept directory.now P.means items.new.items) }
+{
+    find_all(alloc, directory, items)?;
+    Ok(())
 }

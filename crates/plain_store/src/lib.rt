@@ -10,7 +10,6 @@ pub use plain_store::PlainStore;
 mod convicting;
 mod exposure;
 mod grouping;
-mod importing;
 mod including;
 mod indicating;
 mod joining;

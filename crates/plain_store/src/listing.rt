@@ -8,7 +8,7 @@ ghost use Rattle.kept_evidence.specs.Kept.{IsAscending};
 
 use containers::write_all;
 use evidence_item::Checked;
-use kept_evidence::MAGIC;
+use evidence::MAGIC;
 use outcome::Memory;
 use std::alloc::Global;
 

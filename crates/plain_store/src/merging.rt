@@ -1,17 +1,18 @@
 //! Adding many checked items at once.
 
 ghost use Rattle.std.specs.Prelude.{◌≡◌, ◌+◌, IfOk, OnErr, OnOk, length};
-ghost use Rattle.std.specs.List.{flat_map};
-ghost use Rattle.item_forms.specs.Pieces.{Piece};
-ghost use Rattle.evidence_item.specs.Checking.{Checked as TheChecked};
-ghost use Rattle.evidence_set.specs.ItemSets.{Join, count, set_of};
+ghost use Rattle.std.specs.List.{All, flat_map};
+ghost use Rattle.std.specs.List.Sorted.{IsStrictlySortedBy};
+ghost use Rattle.item_forms.specs.Pieces.{Piece, by_bytes};
+ghost use Rattle.evidence_item.specs.Checking.{Checked as TheChecked, IsChecked};
+ghost use Rattle.evidence_set.specs.ItemSets.{Join, count, pieces, set_of};
 ghost use Rattle.kept_evidence.specs.Kept.{AreKept, IsStore, Keeps};
 ghost use Rattle.kept_evidence.specs.Telling.{told_statements};
 
-use crate::joining::{copies_of_missing, join};
+use crate::joining::{copies_of_missing, drop_kept, join};
 use authenticators::{Authenticator, AuthenticatorStore, Directory};
 use evidence_item::Checked;
-use kept_evidence::write_statements;
+use kept_evidence::{find_each, write_statements};
 use outcome::Memory;
 use replay_verifier::Program;
 use std::alloc::Global;
@@ -68,5 +69,28 @@ pub(crate) fn merge<P: Program>(
     let copies = copies_of_missing(alloc, kept, others)?;
     let new = copies.len() as u64;
     add_all(alloc, directory, kept, held, copies)?;
+    Ok(new)
+}
+
+/// Adds items that ascend, and answers how many are new: all of them, or, with `Memory`, none.
+pub(crate) fn take_all<P: Program>(
+    alloc: Global,
+    directory: &Directory,
+    kept: &mut Vec<Checked<P>>,
+    held: &mut AuthenticatorStore,
+    mut items: Vec<Checked<P>>,
+) -> Result<u64, Memory>
+    requires store { IsStore directory.now P.means kept.old.items held.old }
+    requires checked { All (IsChecked directory.now P.means) items.items }
+    requires ascending { IsStrictlySortedBy by_bytes (pieces items.items) }
+    ensures store { IsStore directory.now P.means kept.new.items held.new }
+    ensures told { IfOk result (λ new. count (set_of kept.old.items) + new ≡ count (set_of kept.new.items)) }
+    ensures joined { OnOk result (set_of kept.new.items ≡ Join (set_of kept.old.items) (set_of items.items)) }
+    ensures refused { OnErr result (kept.new.items ≡ kept.old.items) }
+{
+    find_each(alloc, directory, &mut items)?;
+    drop_kept(kept, &mut items);
+    let new = items.len() as u64;
+    add_all(alloc, directory, kept, held, items)?;
     Ok(new)
 }

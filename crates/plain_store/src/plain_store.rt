@@ -6,15 +6,13 @@ ghost use Rattle.evidence_set.specs.ItemSets.{Has, contains, insert, set_of};
 ghost use Rattle.evidence.specs.Contents.{with_items};
 
 use crate::convicting::proof;
-use crate::importing::import;
 use crate::including::includes;
 use crate::indicating::indication;
 use crate::listing::{count, export, item_at};
-use crate::merging::merge;
+use crate::merging::{merge, take_all};
 use crate::opening::open_challenges;
 use crate::taking::take;
 use authenticators::{AuthenticatorStore, Directory, NodeId};
-use containers::ImportFault;
 use evidence::{AskFault, Evidence, NewStoreRefused, TakeRefused, UnknownNode};
 use evidence_item::{Checked, Item};
 use evidence_set::Indication;
@@ -139,15 +137,17 @@ impl<P: Program> Evidence<P> for PlainStore<P> {
         export(self.alloc, &self.items)
     }
 
-    fn import(&mut self, program: &P, bytes: &[u8]) -> Result<u64, ImportFault> {
-        let new = import(
+    fn allocator(&self) -> Global {
+        self.alloc
+    }
+
+    fn take_all(&mut self, items: Vec<Checked<P>>) -> Result<u64, Memory> {
+        take_all(
             self.alloc,
-            program,
             &self.directory,
             &mut self.items,
             &mut self.statements,
-            bytes,
-        )?;
-        Ok(new)
+            items,
+        )
     }
 }

@@ -1,5 +1,5 @@
 -- How an importer keeps what it was fed.
-use Rattle.std.specs.Prelude.{◌≡◌, ◌<◌, ◌⊎◌, ℕ, List, ◌++◌, length, IfOk, Result, Ok, Err}
+use Rattle.std.specs.Prelude.{◌≡◌, ◌<◌, ◌⊎◌, ℕ, List, ◌++◌, length, IfOk, IsOk, Result, Ok, Err}
 use Rattle.authenticators.specs.Directory.{Listing}
 use Rattle.replay_verifier.specs.Meaning.{Meaning}
 use Rattle.containers.specs.declared.fault.ImportFault.{ImportFault}
@@ -47,3 +47,15 @@ abbrev pub IsBegun : {P : Type 0} → List ℕ → Stage P → Type 0
 IsBegun head (stage.Head h) = ⊥
 IsBegun head (stage.Items reading) = IsKnown head × (reading.magic ≡ head) × (reading.fed ≡ Ok head)
 IsBegun head (stage.Refused f) = (¬ IsKnown head) × (f ≡ fault_at 0 cause.BadMagic)
+
+-- The head has not eight bytes.
+abbrev pub IsOpen : {P : Type 0} → Stage P → Type 0
+IsOpen (stage.Head head) = length head.items < 8
+IsOpen (stage.Items reading) = Unit {0}
+IsOpen (stage.Refused f) = Unit {0}
+
+-- What was fed is a text that goes on, or begins with other bytes.
+abbrev pub GoesOn : {P : Type 0} → Stage P → Type 0
+GoesOn (stage.Head head) = Unit {0}
+GoesOn (stage.Items reading) = IsOk reading.fed
+GoesOn (stage.Refused f) = f.cause ≡ cause.BadMagic

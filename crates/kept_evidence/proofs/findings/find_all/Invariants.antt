@@ -3,7 +3,7 @@ use Rattle.std.specs.List.{All}
 use Rattle.evidence_item.specs.Checking.{IsChecked}
 use Rattle.evidence_set.specs.ItemSets.{pieces}
 use Rattle.kept_evidence.specs.Kept.{IsWhole}
-use Rattle.kept_evidence.proofs.importing.find_each.Given as goal
+use Rattle.kept_evidence.proofs.findings.find_all.Given as goal
 
 abbrev pub invariant-loop-checked : goal.invariant-loop-checked
 invariant-loop-checked g l =

@@ -1,6 +1,6 @@
 use Rattle.std.proofs.Common.{◌∙◌, arith}
 use Rattle.kept_evidence.proofs.FoundEach.{all_of, one_more}
-use Rattle.kept_evidence.proofs.importing.find_each.Goals as goal
+use Rattle.kept_evidence.proofs.findings.find_all.Goals as goal
 
 pub loop-checked-preserved : goal.loop-checked-preserved
 loop-checked-preserved g c =
