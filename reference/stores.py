@@ -48,9 +48,9 @@ class Keys:
         sent = entry_hash(ZEROS, seq, SEND, u32(receiver) + payload)
         return Message(sender, receiver, seq, ZEROS, self.sign(sender, seq, sent), payload)
 
-    def ack(self, message):
-        received = entry_hash(ZEROS, 11, RECV, message.quote())
-        return u8(5) + spelled(message) + u64(11) + ZEROS + text(self.sign(message.receiver, 11, received))
+    def ack(self, message, seq=11):
+        received = entry_hash(ZEROS, seq, RECV, message.quote())
+        return u8(5) + spelled(message) + u64(seq) + ZEROS + text(self.sign(message.receiver, seq, received))
 
     def receiving(self, message, change):
         content = message.quote()
@@ -70,15 +70,18 @@ class Keys:
         """The same from a CHECKPOINT on."""
         return self.segment(2, ZEROS, [(7, CHECKPOINT, u64(0)), (8, RECV, changed(message, changes).quote())])
 
-    def statement(self, place):
-        digest = end_of(sha256(), LOG[:place])
-        return u64(place) + digest + text(self.sign(2, place, digest))
-
-    def audit(self, place):
-        return u8(3) + u32(2) + u8(1) + self.statement(place) + self.statement(6)
+    def audit(self, *statements):
+        """The challenge to node 2 to show its log up to a statement, from another one on or from its beginning."""
+        signed = [u64(seq) + digest + text(self.sign(2, seq, digest)) for seq, digest in statements]
+        return u8(3) + u32(2) + u8(len(signed) - 1) + b"".join(signed)
 
 
 LOG = [(1, INIT, u32(2)), (2, TIMER, u64(10)), (3, CHECKPOINT, u64(0)), (4, TIMER, u64(20)), (5, TIMER, u64(30)), (6, CHECKPOINT, u64(0))]
+
+
+def logged(place):
+    """Node 2's statement on its entry at the place."""
+    return place, end_of(sha256(), LOG[:place])
 
 
 SENT = [(1, INIT, u32(1)), (2, TIMER, u64(10)), (3, SEND, u32(2) + b"A" + u64(10))]
@@ -217,11 +220,13 @@ def cases():
     yield demand_and_receipt(1), OPEN_AND_SECOND
     k = Keys()
     # a demand from the second entry on, a part that begins behind that, and the whole log
-    audit, part, whole = k.audit(2), k.log_from(3), k.log_from(1)
+    audit, part, whole = k.audit(logged(2), logged(6)), k.log_from(3), k.log_from(1)
     yield [audit, part], OPEN
     yield [audit, part, whole], NOTHING
     yield from of_two_keys()
     yield from of_one_number()
+    yield from of_beginnings()
+    yield from of_statements()
 
 
 def of_two_keys():
@@ -259,6 +264,47 @@ def of_one_number():
     yield [k.received(first, later, again)], SECOND
     yield [k.received(first, second)], BOTH
     yield [k.received(first, later)], NOTHING
+
+
+def of_beginnings():
+    """A demand for the log from its beginning on."""
+    k = Keys()
+    audit, part, whole = k.audit(logged(6)), k.log_from(3), k.log_from(1)
+    other = k.segment(2, sha256(), [(1, INIT, u32(2)), (6, TIMER, u64(10))])
+    # a part that begins with a CHECKPOINT has the entry, and shows no beginning; another log has a beginning, and not the entry
+    yield [audit], OPEN
+    yield [audit, part], OPEN
+    yield [audit, other], OPEN_AND_SECOND
+    yield [audit, part, whole], NOTHING
+
+
+def holders():
+    """Items that hold a statement of node 2 on the number 4, each with its keys, and what a store says once something contradicts that."""
+    k = Keys()
+    # a demand for the log, as its end and as its beginning; and one for the whole log
+    yield k, k.audit((1, ONES), (4, ONES)), OPEN_AND_SECOND
+    k = Keys()
+    yield k, k.audit((4, ONES), (9, ONES)), OPEN_AND_SECOND
+    k = Keys()
+    yield k, k.audit((4, ONES)), OPEN_AND_SECOND
+    # a demand to acknowledge node 2's message, which node 1 does not, and an acknowledgement of it
+    k = Keys()
+    yield k, demand(k.message(2, 4, b"X")), "1 suspected 1 - 2 exposed 0 2"
+    k = Keys()
+    yield k, k.ack(k.message(2, 4, b"X")), SECOND
+    # node 2's acknowledgement of a message
+    k = Keys()
+    yield k, k.ack(k.message(1, 7, b"hello"), 4), SECOND
+    # a segment's end
+    k = Keys()
+    yield k, k.segment(2, ZEROS, [(4, CHECKPOINT, u64(0))]), SECOND
+
+
+def of_statements():
+    """What holds a statement, beside another one on its number, and beside a segment that has another entry there."""
+    for k, item, said in holders():
+        yield [item, k.auth(2, 4, TWOS)], said
+        yield [item, k.log_from(3)], said
 
 
 def store(first, second, said):

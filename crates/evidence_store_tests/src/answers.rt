@@ -1,9 +1,13 @@
 //! A demand to acknowledge a message, and items beside it, which answer it or do not.
 
-use crate::samples::{Nodes, Said, Signer, Start, make_nodes, new_store, said_by, take, turned};
+use crate::samples::{
+    Nodes, Said, Signer, Start, Store, make_nodes, new_store, said_by, take, turned,
+};
 use commitment::Message;
 use evidence_item::Item;
 use evidence_set::Indication;
+use evidence_store::Evidence;
+use ref_programs::Tally;
 use std::alloc::Global;
 use std::test::Fail;
 
@@ -75,14 +79,18 @@ fn demand(alloc: Global, one: &mut Signer) -> Result<Box<Item>, Fail> {
 }
 
 /// What a store says that has the demand, and what stands beside it.
-fn said(alloc: Global, nodes: &mut Nodes, beside: Beside) -> Result<Said, Fail> {
-    let mut store = new_store(alloc, &nodes.directory)?;
+fn said<S: Evidence<Tally>>(
+    alloc: Global,
+    nodes: &mut Nodes,
+    beside: Beside,
+) -> Result<Said, Fail> {
+    let mut store: Box<S> = new_store(alloc, &nodes.directory)?;
     let item = demand(alloc, &mut nodes.one)?;
-    take(alloc, &mut store, item)?;
+    take::<S>(alloc, &mut store, item)?;
     if let Some(item) = item_of(alloc, nodes, beside)? {
-        take(alloc, &mut store, item)?;
+        take::<S>(alloc, &mut store, item)?;
     }
-    said_by(&store)
+    said_by::<S>(&store)
 }
 
 const OPEN: Said = Said {
@@ -131,7 +139,8 @@ fn what_answers_a_demand(rt: HostRuntime) -> Result<(), Fail> {
         (Beside::Receipt(other), SIGNED_TWO),
         (Beside::FalseReceipt(DEMANDED), LOGGED_FALSELY),
     ] {
-        assert_eq!(rt; said(rt.alloc(), &mut nodes, beside)?, expected);
+        let said = said::<Store<Tally>>(rt.alloc(), &mut nodes, beside)?;
+        assert_eq!(rt; said, expected);
     }
     Ok(())
 }

@@ -6,8 +6,16 @@ mod answers;
 #[cfg(test)]
 mod calls;
 #[cfg(test)]
+mod demands;
+#[cfg(test)]
+mod merges;
+#[cfg(test)]
+mod programs;
+#[cfg(test)]
 mod receipts;
 #[cfg(test)]
 mod samples;
+#[cfg(test)]
+mod statements;
 #[cfg(test)]
 mod texts;

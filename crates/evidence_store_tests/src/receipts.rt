@@ -1,7 +1,7 @@
 //! What node 1 sends as a node does, in node 2's log: as it was sent, and otherwise.
 
 use crate::samples::{
-    Nodes, Start, Store, entry, key_of, make_nodes, new_store, receipt, said_by, take, turned,
+    Nodes, Start, Store, entry, key_of, make_nodes, new_store, receipt, said_by, take_copy, turned,
 };
 use authenticators::NodeId;
 use commitment::{Message, Node};
@@ -95,7 +95,11 @@ struct Seen {
 }
 
 /// Takes the segment, and tells what is said of it.
-fn seen_with(alloc: Global, store: &mut Store, segment: Box<Item>) -> Result<Seen, Fail> {
+fn seen_with<S: Evidence<Tally>>(
+    alloc: Global,
+    store: &mut S,
+    segment: Box<Item>,
+) -> Result<Seen, Fail> {
     let checked = check_item(alloc, &Tally, store.directory(), Box::into_inner(segment))?;
     let verdict = checked.verdict().copied();
     store.take(checked)?;
@@ -108,15 +112,18 @@ fn seen_with(alloc: Global, store: &mut Store, segment: Box<Item>) -> Result<See
 }
 
 /// The same beside node 1's own log.
-fn seen_beside_log(alloc: Global, on: &Sent, segment: Box<Item>) -> Result<Seen, Fail> {
-    let mut store = new_store(alloc, &on.nodes.directory)?;
-    let log = on.log.try_clone(alloc)?;
-    take(alloc, &mut store, Box::new(alloc, log)?)?;
-    seen_with(alloc, &mut store, segment)
+fn seen_beside_log<S: Evidence<Tally>>(
+    alloc: Global,
+    on: &Sent,
+    segment: Box<Item>,
+) -> Result<Seen, Fail> {
+    let mut store: Box<S> = new_store(alloc, &on.nodes.directory)?;
+    take_copy::<S>(alloc, &mut store, &on.log)?;
+    seen_with::<S>(alloc, &mut store, segment)
 }
 
 /// What is seen where node 2 receives the message so.
-fn seen_of_quote(
+fn seen_of_quote<S: Evidence<Tally>>(
     alloc: Global,
     on: &mut Sent,
     start: Start,
@@ -124,7 +131,7 @@ fn seen_of_quote(
 ) -> Result<Seen, Fail> {
     let message = copy_with(alloc, &on.message, change)?;
     let segment = on.nodes.two.receiving(alloc, start, &message)?;
-    seen_beside_log(alloc, on, segment)
+    seen_beside_log::<S>(alloc, on, segment)
 }
 
 const CONFORMING: Seen = Seen {
@@ -174,7 +181,7 @@ fn a_message_is_quoted_as_it_was_sent(rt: HostRuntime) -> Result<(), Fail> {
         ),
     ] {
         assert_eq!(rt;
-            seen_of_quote(rt.alloc(), &mut on, start, change)?,
+            seen_of_quote::<Store<Tally>>(rt.alloc(), &mut on, start, change)?,
             expected
         );
     }
@@ -196,10 +203,15 @@ fn received_twice(
 }
 
 /// What is seen of that.
-fn seen_of_two(alloc: Global, on: &mut Sent, kind: u8, content: &[u8]) -> Result<Seen, Fail> {
+fn seen_of_two<S: Evidence<Tally>>(
+    alloc: Global,
+    on: &mut Sent,
+    kind: u8,
+    content: &[u8],
+) -> Result<Seen, Fail> {
     let entries = received_twice(alloc, &on.message, kind, content)?;
     let segment = on.nodes.two.segment(alloc, Start::Init, entries)?;
-    seen_beside_log(alloc, on, segment)
+    seen_beside_log::<S>(alloc, on, segment)
 }
 
 /// Between the two receipts node 2 sends its total to node 1, as is awaited; or its timer ticks.
@@ -207,8 +219,8 @@ fn seen_of_two(alloc: Global, on: &mut Sent, kind: u8, content: &[u8]) -> Result
 fn a_message_is_received_once(rt: HostRuntime) -> Result<(), Fail> {
     let total = [0, 0, 0, 1, b'T', 0, 0, 0, 0, 0, 0, 0, 5];
     let mut on = send_one(rt.alloc())?;
-    let sent = seen_of_two(rt.alloc(), &mut on, SEND, &total)?;
-    let ticked = seen_of_two(rt.alloc(), &mut on, TIMER, &[0; 8])?;
+    let sent = seen_of_two::<Store<Tally>>(rt.alloc(), &mut on, SEND, &total)?;
+    let ticked = seen_of_two::<Store<Tally>>(rt.alloc(), &mut on, TIMER, &[0; 8])?;
     assert_eq!(rt; sent, deviating(3, Reason::DuplicateReceipt));
     assert_eq!(rt; ticked, deviating(2, Reason::MissingOutput));
     Ok(())

@@ -1,19 +1,20 @@
 //! For the tests: the nodes 1 and 2 with their keys, items that they sign, and what a store says of both.
 
-use authenticators::{Directory, NodeId, statement_text};
+use authenticators::{Authenticator, Directory, NodeId, statement_text};
 use commitment::Message;
 use evidence_item::{Item, check_item};
 use evidence_set::Indication;
-use evidence_store::{Evidence, PlainStore};
+use evidence_store::Evidence;
+use item_forms::Statement;
 use lms_sign::{LmsType, OtsType, SecretKey};
-use log_chain::kind::{CHECKPOINT, INIT, RECV};
+use log_chain::kind::{CHECKPOINT, INIT, RECV, TIMER};
 use log_chain::{ByteString, Entry, Hash, base_hash, chain_end};
 use ref_programs::Tally;
 use std::alloc::Global;
 use std::test::Fail;
 
-/// A store of nodes that run Tally.
-pub(crate) type Store = PlainStore<Tally>;
+/// The store that the tests are put to. Each scene asks only that it is a store of evidence.
+pub(crate) type Store<P> = evidence_store::PlainStore<P>;
 
 pub(crate) const ZEROS: Hash = Hash([0; 32]);
 
@@ -63,16 +64,32 @@ pub(crate) fn make_nodes(alloc: Global) -> Result<Nodes, Fail> {
 }
 
 /// A store under the directory, without items.
-pub(crate) fn new_store(alloc: Global, directory: &Directory) -> Result<Box<Store>, Fail> {
-    let store = PlainStore::new(alloc, directory.try_clone()?)?;
+pub(crate) fn new_store<S: Evidence<Tally>>(
+    alloc: Global,
+    directory: &Directory,
+) -> Result<Box<S>, Fail> {
+    let store = S::new(alloc, directory.try_clone()?)?;
     Ok(Box::new(alloc, store)?)
 }
 
-/// Takes the item, which is valid.
-pub(crate) fn take(alloc: Global, store: &mut Store, item: Box<Item>) -> Result<(), Fail> {
+/// Takes the item, which is valid, and tells whether it is new.
+pub(crate) fn take<S: Evidence<Tally>>(
+    alloc: Global,
+    store: &mut S,
+    item: Box<Item>,
+) -> Result<bool, Fail> {
     let checked = check_item(alloc, &Tally, store.directory(), Box::into_inner(item))?;
-    store.take(checked)?;
-    Ok(())
+    Ok(store.take(checked)?)
+}
+
+/// The same of a copy of the item.
+pub(crate) fn take_copy<S: Evidence<Tally>>(
+    alloc: Global,
+    store: &mut S,
+    item: &Item,
+) -> Result<bool, Fail> {
+    let copy = item.try_clone(alloc)?;
+    take(alloc, store, Box::new(alloc, copy)?)
 }
 
 /// What a store says of both nodes, and how many challenges to node 2 it has that are not answered.
@@ -83,7 +100,7 @@ pub(crate) struct Said {
     pub(crate) open: usize,
 }
 
-pub(crate) fn said_by(store: &Store) -> Result<Said, Fail> {
+pub(crate) fn said_by<S: Evidence<Tally>>(store: &S) -> Result<Said, Fail> {
     Ok(Said {
         one: store.indication(NodeId(1))?,
         two: store.indication(NodeId(2))?,
@@ -129,6 +146,43 @@ pub(crate) fn receipt(alloc: Global, seq: u64, message: &Message) -> Result<Entr
     })
 }
 
+/// An entry of node 2's log.
+#[derive(Clone, Copy)]
+struct Logged {
+    seq: u64,
+    kind: u8,
+    content: &'static [u8],
+}
+
+const fn log_entry(seq: u64, kind: u8, content: &'static [u8]) -> Logged {
+    Logged { seq, kind, content }
+}
+
+/// The entries of node 2's log from one number to another, of six: its timer ticks three times, and behind the first and the last
+/// tick it makes a checkpoint. No message is due.
+fn entries_of_log(alloc: Global, from: u64, to: u64) -> Result<Vec<Entry>, Fail> {
+    let mut entries = Vec::new(alloc);
+    for it in [
+        log_entry(1, INIT, &[0, 0, 0, 2]),
+        log_entry(2, TIMER, &[0, 0, 0, 0, 0, 0, 0, 10]),
+        log_entry(3, CHECKPOINT, &[0; 8]),
+        log_entry(4, TIMER, &[0, 0, 0, 0, 0, 0, 0, 20]),
+        log_entry(5, TIMER, &[0, 0, 0, 0, 0, 0, 0, 30]),
+        log_entry(6, CHECKPOINT, &[0; 8]),
+    ] {
+        if from <= it.seq && it.seq <= to {
+            entries.push(entry(alloc, it.seq, it.kind, it.content)?)?;
+        }
+    }
+    Ok(entries)
+}
+
+/// The hash of an entry of node 2's log, by its number; of 0 the hash before the first.
+fn hash_in_log(alloc: Global, seq: u64) -> Result<Hash, Fail> {
+    let entries = entries_of_log(alloc, 1, seq)?;
+    Ok(chain_end(base_hash(), &entries))
+}
+
 /// Where a segment of node 2 begins.
 #[derive(Clone, Copy)]
 pub(crate) enum Start {
@@ -156,6 +210,44 @@ impl Signer {
     ) -> Result<ByteString, Fail> {
         let sig = self.key.sign(alloc, &statement_text(seq, hash), [c; 32])?;
         Ok(ByteString::from_vec(sig))
+    }
+
+    /// The statement that the entry with this number has this hash.
+    pub(crate) fn statement(
+        &mut self,
+        alloc: Global,
+        seq: u64,
+        hash: Hash,
+        c: u8,
+    ) -> Result<Box<Item>, Fail> {
+        let item = Item::auth(Authenticator {
+            node: self.node,
+            seq,
+            hash,
+            sig: self.sign(alloc, seq, hash, c)?,
+        })?;
+        Ok(Box::new(alloc, item)?)
+    }
+
+    /// The statement on an entry of node 2's log, which this node signs.
+    fn logged(&mut self, alloc: Global, seq: u64) -> Result<Statement, Fail> {
+        let hash = hash_in_log(alloc, seq)?;
+        Ok(Statement {
+            seq,
+            hash,
+            sig: self.sign(alloc, seq, hash, 9)?,
+        })
+    }
+
+    /// The demand to show the log up to its sixth entry, from the one with this number on, or from its beginning.
+    pub(crate) fn audit(&mut self, alloc: Global, from: Option<u64>) -> Result<Box<Item>, Fail> {
+        let first = match from {
+            Some(seq) => Some(self.logged(alloc, seq)?),
+            None => None,
+        };
+        let last = self.logged(alloc, 6)?;
+        let item = Item::audit(self.node, first, last)?;
+        Ok(Box::new(alloc, item)?)
     }
 
     /// The message to node 2 with this number, after 32 zero bytes. Its signature has a C of one byte 32 times over.
@@ -206,10 +298,22 @@ impl Signer {
         for entry in more {
             entries.push(entry)?;
         }
+        self.part(alloc, prev, entries)
+    }
+
+    /// The segment of these entries, behind this hash.
+    fn part(&mut self, alloc: Global, prev: Hash, entries: Vec<Entry>) -> Result<Box<Item>, Fail> {
         let seq = entries.last().map_or(0, |entry| entry.seq);
         let sig = self.sign(alloc, seq, chain_end(prev, &entries), 9)?;
         let item = Item::segment(self.node, prev, entries, sig)?;
         Ok(Box::new(alloc, item)?)
+    }
+
+    /// Node 2's log, from the entry with this number on.
+    pub(crate) fn log_from(&mut self, alloc: Global, seq: u64) -> Result<Box<Item>, Fail> {
+        let prev = hash_in_log(alloc, seq.saturating_sub(1))?;
+        let entries = entries_of_log(alloc, seq, 6)?;
+        self.part(alloc, prev, entries)
     }
 
     /// The segment that begins so and receives the message.

@@ -1,26 +1,12 @@
 //! The text of two items, which is read under the magic of today and under the one of before.
 
-use crate::samples::{Nodes, Signer, Store, make_nodes, new_store, take};
-use authenticators::{Authenticator, Directory, NodeId};
-use evidence_item::Item;
+use crate::samples::{Nodes, Store, make_nodes, new_store, take};
+use authenticators::Directory;
 use evidence_store::Evidence;
 use log_chain::Hash;
 use ref_programs::Tally;
 use std::alloc::Global;
 use std::test::Fail;
-
-/// Node 1's statement that entry 5 has a hash of this byte 32 times over.
-fn statement(alloc: Global, one: &mut Signer, byte: u8) -> Result<Box<Item>, Fail> {
-    let hash = Hash([byte; 32]);
-    let sig = one.sign(alloc, 5, hash, 9)?;
-    let item = Item::auth(Authenticator {
-        node: NodeId(1),
-        seq: 5,
-        hash,
-        sig,
-    })?;
-    Ok(Box::new(alloc, item)?)
-}
 
 /// The text of two items, and the directory under which they are valid.
 #[derive(Drop)]
@@ -29,19 +15,19 @@ struct Text {
     text: Vec<u8>,
 }
 
-fn export_of_two(alloc: Global, nodes: &mut Nodes) -> Result<Vec<u8>, Fail> {
-    let mut store = new_store(alloc, &nodes.directory)?;
-    let first = statement(alloc, &mut nodes.one, 1)?;
-    let second = statement(alloc, &mut nodes.one, 2)?;
-    take(alloc, &mut store, first)?;
-    take(alloc, &mut store, second)?;
+fn export_of_two<S: Evidence<Tally>>(alloc: Global, nodes: &mut Nodes) -> Result<Vec<u8>, Fail> {
+    let mut store: Box<S> = new_store(alloc, &nodes.directory)?;
+    let first = nodes.one.statement(alloc, 5, Hash([1; 32]), 9)?;
+    let second = nodes.one.statement(alloc, 5, Hash([2; 32]), 9)?;
+    take::<S>(alloc, &mut store, first)?;
+    take::<S>(alloc, &mut store, second)?;
     Ok(store.export()?)
 }
 
 /// The text of two statements of node 1.
-fn text_of_two(alloc: Global) -> Result<Text, Fail> {
+fn text_of_two<S: Evidence<Tally>>(alloc: Global) -> Result<Text, Fail> {
     let mut nodes = make_nodes(alloc)?;
-    let text = export_of_two(alloc, &mut nodes)?;
+    let text = export_of_two::<S>(alloc, &mut nodes)?;
     Ok(Text {
         directory: nodes.directory,
         text,
@@ -64,7 +50,7 @@ struct Told {
     is_written: bool,
 }
 
-fn told_by(store: &mut Store, text: &[u8], written: &[u8]) -> Result<Told, Fail> {
+fn told_by<S: Evidence<Tally>>(store: &mut S, text: &[u8], written: &[u8]) -> Result<Told, Fail> {
     let refusal = match store.import(&Tally, text) {
         Ok(_) => 0,
         Err(fault) => fault.cause.number(),
@@ -77,11 +63,15 @@ fn told_by(store: &mut Store, text: &[u8], written: &[u8]) -> Result<Told, Fail>
 }
 
 /// What is made of the text of two items behind this magic, which is to be written behind that of today.
-fn read_behind(alloc: Global, on: &Text, magic: &[u8; 8]) -> Result<Told, Fail> {
+fn read_behind<S: Evidence<Tally>>(
+    alloc: Global,
+    on: &Text,
+    magic: &[u8; 8],
+) -> Result<Told, Fail> {
     let given = behind(alloc, magic, &on.text)?;
     let written = behind(alloc, b"PRSTORE2", &on.text)?;
-    let mut store = new_store(alloc, &on.directory)?;
-    told_by(&mut store, &given, &written)
+    let mut store: Box<S> = new_store(alloc, &on.directory)?;
+    told_by::<S>(&mut store, &given, &written)
 }
 
 const READ: Told = Told {
@@ -98,7 +88,7 @@ const REFUSED: Told = Told {
 
 #[test]
 fn both_magics_are_read_and_one_is_written(rt: HostRuntime) -> Result<(), Fail> {
-    let on = text_of_two(rt.alloc())?;
+    let on = text_of_two::<Store<Tally>>(rt.alloc())?;
     for (magic, expected) in [
         (b"PRSTORE1", READ),
         (b"PRSTORE2", READ),
@@ -106,7 +96,8 @@ fn both_magics_are_read_and_one_is_written(rt: HostRuntime) -> Result<(), Fail> 
         (b"PRSTORE3", REFUSED),
         (b"PRPACK01", REFUSED),
     ] {
-        assert_eq!(rt; read_behind(rt.alloc(), &on, magic)?, expected);
+        let told = read_behind::<Store<Tally>>(rt.alloc(), &on, magic)?;
+        assert_eq!(rt; told, expected);
     }
     Ok(())
 }

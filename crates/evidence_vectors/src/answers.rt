@@ -5,7 +5,7 @@ ghost use Rattle.std.specs.Prelude.{◌≡◌, IsTrue};
 use crate::filling::store_of;
 use anyhow::{Result, bail};
 use authenticators::{Directory, NodeId};
-use evidence_store::{Evidence, Item, PlainStore};
+use evidence_store::{Evidence, Item};
 use proofs::{Proof, check_proof};
 use ref_programs::Tally;
 use sha2::{Digest, Sha256};
@@ -31,13 +31,13 @@ fn line_of(rest: &str) -> Option<Line<'_>> {
 }
 
 /// The node that the proof convicts.
-fn convicted_by(alloc: Global, store: &PlainStore<Tally>, proof: &Proof) -> Result<String> {
+fn convicted_by<S: Evidence<Tally>>(alloc: Global, store: &S, proof: &Proof) -> Result<String> {
     let node = check_proof(alloc, &Tally, store.directory(), proof)?;
     Ok(format!(in alloc; "{node}")?)
 }
 
 /// Whom the store's proof of a fault of the node convicts, or `-` where there is no proof.
-fn convicted(alloc: Global, store: &PlainStore<Tally>, node: NodeId) -> Result<String> {
+fn convicted<S: Evidence<Tally>>(alloc: Global, store: &S, node: NodeId) -> Result<String> {
     let Some(proof) = store.proof(node)? else {
         return Ok(String::from_str(alloc, "-")?);
     };
@@ -45,7 +45,7 @@ fn convicted(alloc: Global, store: &PlainStore<Tally>, node: NodeId) -> Result<S
 }
 
 /// What the store says of one node.
-fn said_of(alloc: Global, store: &PlainStore<Tally>, node: NodeId) -> Result<String> {
+fn said_of<S: Evidence<Tally>>(alloc: Global, store: &S, node: NodeId) -> Result<String> {
     let indication = store.indication(node)?;
     let open = store.open_challenges(node)?.len();
     let convicted = convicted(alloc, store, node)?;
@@ -53,7 +53,7 @@ fn said_of(alloc: Global, store: &PlainStore<Tally>, node: NodeId) -> Result<Str
 }
 
 /// What the store answers: its count, what it says of each node, and the digest of its export.
-fn answer_of(alloc: Global, store: &PlainStore<Tally>) -> Result<String> {
+fn answer_of<S: Evidence<Tally>>(alloc: Global, store: &S) -> Result<String> {
     let count = store.count();
     let mut answer = format!(in alloc; "{count}")?;
     for node in store.directory().nodes() {
@@ -66,7 +66,7 @@ fn answer_of(alloc: Global, store: &PlainStore<Tally>) -> Result<String> {
 }
 
 /// The item at the place, where there is one.
-fn item_at(store: &PlainStore<Tally>, place: u64) -> Result<Option<Item>> {
+fn item_at<S: Evidence<Tally>>(store: &S, place: u64) -> Result<Option<Item>> {
     match store.item_at(place)? {
         Some(checked) => Ok(Some(checked.into_item())),
         None => Ok(None),
@@ -74,14 +74,14 @@ fn item_at(store: &PlainStore<Tally>, place: u64) -> Result<Option<Item>> {
 }
 
 /// Whether the item at the place is below the next one.
-fn rises(store: &PlainStore<Tally>, place: u64) -> Result<bool> {
+fn rises<S: Evidence<Tally>>(store: &S, place: u64) -> Result<bool> {
     let lower = item_at(store, place)?;
     let upper = item_at(store, place.saturating_add(1))?;
     Ok(lower.is_some() && lower < upper)
 }
 
 /// Whether the store has as many items as it counts, each above the one before.
-fn ascends(store: &PlainStore<Tally>) -> Result<bool> {
+fn ascends<S: Evidence<Tally>>(store: &S) -> Result<bool> {
     let count = store.count();
     for place in 1..count {
         if !rises(store, place - 1)? {
@@ -92,17 +92,17 @@ fn ascends(store: &PlainStore<Tally>) -> Result<bool> {
 }
 
 /// Whether the stores have one directory.
-fn share_directory(first: &PlainStore<Tally>, second: &PlainStore<Tally>) -> bool
-    ensures { IsTrue result → first.now.directory ≡ second.now.directory }
+fn share_directory<S: Evidence<Tally>>(first: &S, second: &S) -> bool
+    ensures { IsTrue result → (S.contents first.now).directory ≡ (S.contents second.now).directory }
 {
     *first.directory() == *second.directory()
 }
 
 /// Whether the first store answers so once it has merged the second, whose items it then includes.
-fn merges(
+fn merges<S: Evidence<Tally>>(
     alloc: Global,
-    first: &mut PlainStore<Tally>,
-    second: &PlainStore<Tally>,
+    first: &mut S,
+    second: &S,
     answer: &str,
 ) -> Result<bool> {
     if !share_directory(first, second) {
@@ -117,9 +117,9 @@ fn merges(
 }
 
 /// Whether the store answers so once it has imported the text.
-fn imports(
+fn imports<S: Evidence<Tally>>(
     alloc: Global,
-    store: &mut PlainStore<Tally>,
+    store: &mut S,
     text: &[u8],
     answer: &str,
 ) -> Result<bool> {
@@ -132,10 +132,10 @@ fn imports(
 }
 
 /// Whether both stores answer so, the first once it has merged the second, and the second once it has imported the first's text.
-fn both_answer(
+fn both_answer<S: Evidence<Tally>>(
     alloc: Global,
-    first: &mut PlainStore<Tally>,
-    second: &mut PlainStore<Tally>,
+    first: &mut S,
+    second: &mut S,
     answer: &str,
 ) -> Result<bool> {
     let text = first.export()?;
@@ -145,11 +145,15 @@ fn both_answer(
 }
 
 /// Whether the line's stores answer as it says.
-pub(crate) fn agrees(alloc: Global, directory: &Directory, rest: &str) -> Result<bool> {
+pub(crate) fn agrees<S: Evidence<Tally>>(
+    alloc: Global,
+    directory: &Directory,
+    rest: &str,
+) -> Result<bool> {
     let Some(line) = line_of(rest) else {
         return Ok(false);
     };
-    let mut first = store_of(alloc, directory, line.first)?;
-    let mut second = store_of(alloc, directory, line.second)?;
+    let mut first: S = store_of(alloc, directory, line.first)?;
+    let mut second: S = store_of(alloc, directory, line.second)?;
     both_answer(alloc, &mut first, &mut second, line.answer)
 }

@@ -3,7 +3,7 @@
 use crate::filling::store_of;
 use anyhow::Result;
 use authenticators::Directory;
-use evidence_store::{Evidence, PlainStore};
+use evidence_store::Evidence;
 use ref_programs::Tally;
 use std::alloc::Global;
 
@@ -27,8 +27,8 @@ fn line_of(rest: &str) -> Option<Line<'_>> {
 }
 
 /// Whether the store refuses the text at the item with the number, and is then as it was.
-fn refuses(
-    store: &mut PlainStore<Tally>,
+fn refuses<S: Evidence<Tally>>(
+    store: &mut S,
     before: &[u8],
     text: &[u8],
     item: u64,
@@ -42,8 +42,8 @@ fn refuses(
 }
 
 /// Whether each beginning of the text is refused as cut off, at the item whose end is missing.
-fn refuses_beginnings(
-    store: &mut PlainStore<Tally>,
+fn refuses_beginnings<S: Evidence<Tally>>(
+    store: &mut S,
     before: &[u8],
     text: &[u8],
     place: usize,
@@ -67,9 +67,9 @@ fn joined(alloc: Global, parts: &[&[u8]]) -> Result<Vec<u8>> {
 }
 
 /// Whether the text of two items is refused with a byte more, and with the items turned.
-fn refuses_others(
+fn refuses_others<S: Evidence<Tally>>(
     alloc: Global,
-    store: &mut PlainStore<Tally>,
+    store: &mut S,
     before: &[u8],
     text: &[u8],
     place: usize,
@@ -87,9 +87,9 @@ fn refuses_others(
 }
 
 /// Whether what is made of the text is refused.
-fn refuses_each(
+fn refuses_each<S: Evidence<Tally>>(
     alloc: Global,
-    store: &mut PlainStore<Tally>,
+    store: &mut S,
     text: &[u8],
     place: usize,
 ) -> Result<bool> {
@@ -101,11 +101,15 @@ fn refuses_each(
 }
 
 /// Whether what is made of the line's text is refused by a store that has the other items.
-pub(crate) fn agrees(alloc: Global, directory: &Directory, rest: &str) -> Result<bool> {
+pub(crate) fn agrees<S: Evidence<Tally>>(
+    alloc: Global,
+    directory: &Directory,
+    rest: &str,
+) -> Result<bool> {
     let Some(line) = line_of(rest) else {
         return Ok(false);
     };
-    let mut store = store_of(alloc, directory, line.items)?;
+    let mut store: S = store_of(alloc, directory, line.items)?;
     let text = hex::decode(alloc, line.digits)?;
     refuses_each(alloc, &mut store, &text, line.place)
 }

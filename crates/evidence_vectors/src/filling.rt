@@ -3,12 +3,12 @@
 use anyhow::{Result, bail};
 use authenticators::Directory;
 use evidence_item::{Item, check_item};
-use evidence_store::{Evidence, PlainStore};
+use evidence_store::Evidence;
 use ref_programs::Tally;
 use std::alloc::Global;
 
 /// Checks the item of the digits, and takes it.
-fn take(alloc: Global, store: &mut PlainStore<Tally>, digits: &str) -> Result<()> {
+fn take<S: Evidence<Tally>>(alloc: Global, store: &mut S, digits: &str) -> Result<()> {
     let bytes = hex::decode(alloc, digits)?;
     let item = Item::decode(alloc, &bytes)?;
     let checked = check_item(alloc, &Tally, store.directory(), item)?;
@@ -19,7 +19,7 @@ fn take(alloc: Global, store: &mut PlainStore<Tally>, digits: &str) -> Result<()
 }
 
 /// Takes the items in their order.
-fn take_each(alloc: Global, store: &mut PlainStore<Tally>, items: &str) -> Result<()> {
+fn take_each<S: Evidence<Tally>>(alloc: Global, store: &mut S, items: &str) -> Result<()> {
     if items == "-" {
         return Ok(());
     }
@@ -30,13 +30,13 @@ fn take_each(alloc: Global, store: &mut PlainStore<Tally>, items: &str) -> Resul
 }
 
 /// The store of a witness that took the items in this order.
-pub(crate) fn store_of(
+pub(crate) fn store_of<S: Evidence<Tally>>(
     alloc: Global,
     directory: &Directory,
     items: &str,
-) -> Result<PlainStore<Tally>> {
+) -> Result<S> {
     let directory = directory.try_clone()?;
-    let Ok(mut store) = PlainStore::new(alloc, directory) else {
+    let Ok(mut store) = S::new(alloc, directory) else {
         bail!("no store");
     };
     take_each(alloc, &mut store, items)?;

@@ -25,13 +25,16 @@ use ref_programs::{Relay, Tally};
 use std::alloc::Global;
 use std::io::{self, BufRead, BufReader};
 
+/// The store that the lines are put to. All else here asks only that it is one of evidence.
+type Store = evidence_store::PlainStore<Tally>;
+
 /// Whether the line is answered as it says.
 fn agrees(alloc: Global, directory: &Directory, word: &str, rest: &str) -> Result<bool> {
     match word {
         "tally" => items::agrees(alloc, &Tally, directory, rest),
         "relay" => items::agrees(alloc, &Relay, directory, rest),
-        "store" => answers::agrees(alloc, directory, rest),
-        "cuts" => cuts::agrees(alloc, directory, rest),
+        "store" => answers::agrees::<Store>(alloc, directory, rest),
+        "cuts" => cuts::agrees::<Store>(alloc, directory, rest),
         _ => bail!("no such line"),
     }
 }
