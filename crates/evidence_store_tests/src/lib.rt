@@ -10,6 +10,8 @@ mod demands;
 #[cfg(test)]
 mod merges;
 #[cfg(test)]
+mod pieces;
+#[cfg(test)]
 mod programs;
 #[cfg(test)]
 mod receipts;

@@ -10,9 +10,9 @@ use std::test::Fail;
 
 /// The text of two items, and the directory under which they are valid.
 #[derive(Drop)]
-struct Text {
-    directory: Box<Directory>,
-    text: Vec<u8>,
+pub(crate) struct Text {
+    pub(crate) directory: Box<Directory>,
+    pub(crate) text: Vec<u8>,
 }
 
 fn export_of_two<S: Evidence<Tally>>(alloc: Global, nodes: &mut Nodes) -> Result<Vec<u8>, Fail> {
@@ -25,7 +25,7 @@ fn export_of_two<S: Evidence<Tally>>(alloc: Global, nodes: &mut Nodes) -> Result
 }
 
 /// The text of two statements of node 1.
-fn text_of_two<S: Evidence<Tally>>(alloc: Global) -> Result<Text, Fail> {
+pub(crate) fn text_of_two<S: Evidence<Tally>>(alloc: Global) -> Result<Text, Fail> {
     let mut nodes = make_nodes(alloc)?;
     let text = export_of_two::<S>(alloc, &mut nodes)?;
     Ok(Text {

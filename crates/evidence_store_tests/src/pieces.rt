@@ -1,0 +1,114 @@
+//! The text of two items that comes in pieces.
+
+use crate::samples::{Store, new_store};
+use crate::texts::{Text, text_of_two};
+use evidence_store::{Evidence, Importer};
+use ref_programs::Tally;
+use std::alloc::Global;
+use std::test::Fail;
+
+/// What an importer and a store without items make of a text in pieces: the number of the refusal of a piece, or 0; that of the end,
+/// or 0; how many items the store then has; and whether it exports the text.
+#[derive(Clone, Copy, Debug, PartialEq, Eq)]
+struct Told {
+    fed: u8,
+    ended: u8,
+    count: u64,
+    is_written: bool,
+}
+
+/// Feeds the text in pieces of this length, and the last of what is left. The number of the refusal, or 0.
+fn feed(importer: &mut Importer<Tally>, text: &[u8], length: usize) -> u8 {
+    for piece in text.chunks(length.max(1)) {
+        if let Err(fault) = importer.feed(&Tally, piece) {
+            return fault.cause.number();
+        }
+    }
+    0
+}
+
+fn told_by<S: Evidence<Tally>>(
+    alloc: Global,
+    store: &mut S,
+    text: &[u8],
+    length: usize,
+) -> Result<(u8, u8), Fail> {
+    let directory = store.directory().try_clone()?;
+    let mut importer = Importer::new(alloc, directory)?;
+    let fed = feed(&mut importer, text, length);
+    let ended = match importer.finish(&Tally, store) {
+        Ok(_) => 0,
+        Err(fault) => fault.cause.number(),
+    };
+    Ok((fed, ended))
+}
+
+fn told<S: Evidence<Tally>>(
+    alloc: Global,
+    on: &Text,
+    text: &[u8],
+    length: usize,
+) -> Result<Told, Fail> {
+    let mut store: Box<S> = new_store(alloc, &on.directory)?;
+    let (fed, ended) = told_by::<S>(alloc, &mut store, text, length)?;
+    Ok(Told {
+        fed,
+        ended,
+        count: store.count(),
+        is_written: store.export()?.as_slice() == on.text.as_slice(),
+    })
+}
+
+const READ: Told = Told {
+    fed: 0,
+    ended: 0,
+    count: 2,
+    is_written: true,
+};
+
+const CUT_OFF: Told = Told {
+    fed: 0,
+    ended: 40,
+    count: 0,
+    is_written: false,
+};
+
+const OTHER_MAGIC: Told = Told {
+    fed: 60,
+    ended: 60,
+    count: 0,
+    is_written: false,
+};
+
+#[test]
+fn pieces_of_any_length_are_read_as_the_whole(rt: HostRuntime) -> Result<(), Fail> {
+    let on = text_of_two::<Store<Tally>>(rt.alloc())?;
+    for length in [1, 7, 4096] {
+        let told = told::<Store<Tally>>(rt.alloc(), &on, &on.text, length)?;
+        assert_eq!(rt; told, READ);
+    }
+    Ok(())
+}
+
+#[test]
+fn a_text_without_its_last_byte_is_cut_off_at_the_end(rt: HostRuntime) -> Result<(), Fail> {
+    let on = text_of_two::<Store<Tally>>(rt.alloc())?;
+    let [cut @ .., _] = on.text.as_slice() else {
+        return Err("no text")?;
+    };
+    for length in [1, 7, 4096] {
+        let told = told::<Store<Tally>>(rt.alloc(), &on, cut, length)?;
+        assert_eq!(rt; told, CUT_OFF);
+    }
+    Ok(())
+}
+
+#[test]
+fn a_refused_piece_stays_refused(rt: HostRuntime) -> Result<(), Fail> {
+    let on = text_of_two::<Store<Tally>>(rt.alloc())?;
+    for length in [1, 7, 4096] {
+        let told = told::<Store<Tally>>(rt.alloc(), &on, b"PRPACK01\0\0\0\0\0\0\0\0", length)?;
+        assert_eq!(rt; told, OTHER_MAGIC);
+    }
+    Ok(())
+}
