@@ -1,8 +1,11 @@
 //! The plain store.
 
-ghost use Rattle.std.specs.Prelude.{◌≡◌, IfErr, IfOk, OnErr, OnOk, Ok, false, not};
+ghost use Rattle.std.specs.Prelude.{◌≡◌, ◌+◌, IfErr, IfOk, OnErr, OnOk, Ok, false, not};
+ghost use Rattle.std.specs.List.{All};
+ghost use Rattle.std.specs.List.Sorted.{IsStrictlySortedBy};
+ghost use Rattle.item_forms.specs.Pieces.{by_bytes};
 ghost use Rattle.evidence_item.specs.Checking.{IsChecked};
-ghost use Rattle.evidence_set.specs.ItemSets.{Has, contains, insert, set_of};
+ghost use Rattle.evidence_set.specs.ItemSets.{Has, Join, contains, count, insert, pieces, set_of};
 ghost use Rattle.evidence.specs.Contents.{with_items};
 
 use crate::convicting::proof;
@@ -37,6 +40,7 @@ pub struct PlainStore<P: Program> {
 impl<P: Program> Model for PlainStore<P> {
     ghost use Rattle.std.specs.Coded.{codes};
     ghost use Rattle.evidence.specs.Contents.{Contents, items_code};
+    ghost use Rattle.evidence_set.specs.ItemSets.{set_of};
     ghost use Rattle.kept_evidence.specs.Kept.{IsStore};
 
     ghost Value = { Contents };
@@ -141,7 +145,13 @@ impl<P: Program> Evidence<P> for PlainStore<P> {
         self.alloc
     }
 
-    fn take_all(&mut self, items: Vec<Checked<P>>) -> Result<u64, Memory> {
+    fn take_all(&mut self, items: Vec<Checked<P>>) -> Result<u64, Memory>
+        requires checked { All (IsChecked self.old.directory P.means) items.items }
+        requires ascending { IsStrictlySortedBy by_bytes (pieces items.items) }
+        ensures told { IfOk result (λ new. count self.old.items + new ≡ count self.new.items) }
+        ensures joined { OnOk result (self.new ≡ with_items self.old (Join self.old.items (set_of items.items))) }
+        ensures refused { OnErr result (self.new ≡ self.old) }
+    {
         take_all(
             self.alloc,
             &self.directory,
