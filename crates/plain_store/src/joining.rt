@@ -2,9 +2,10 @@
 
 ghost use Rattle.std.specs.Prelude.{◌≡◌, ◌+◌, ◌≤◌, ◌↔◌, ◌⊎◌, Contains, IfOk, length, not, vec_capacity, vec_len};
 ghost use Rattle.std.specs.List.{filter};
+ghost use Rattle.std.specs.List.Sorted.{IsPermutation, IsSorted};
 ghost use Rattle.item_forms.specs.Pieces.{Piece};
 ghost use Rattle.evidence_item.specs.Checking.{Checked as TheChecked};
-ghost use Rattle.kept_evidence.specs.Kept.{IsAscending, Keeps, is_kept};
+ghost use Rattle.kept_evidence.specs.Kept.{IsAscending, Keeps, by_item, is_kept};
 
 use crate::placing::keeps;
 use evidence_item::Checked;
@@ -41,6 +42,18 @@ pub(crate) fn copies_of_missing<P>(
     Ok(copies)
 }
 
+/// Sorts the items. Two lists that ascend, one behind the other, it joins in linear time, by way of a buffer as long as both; where there
+/// is no memory for the buffer, it sorts them in place.
+fn sort<P>(items: &mut Vec<Checked<P>>)
+    ensures permutation { IsPermutation items.old.items items.new.items }
+    ensures len { vec_len items.new ≡ vec_len items.old }
+    ensures sorted { IsSorted by_item items.new.items }
+{
+    if items.sort_by(|a, b| a.item().cmp(b.item())).is_err() {
+        items.sort_unstable_by(|a, b| a.item().cmp(b.item()));
+    }
+}
+
 /// Puts more items, none of which is kept, into their places. There is room for all of them.
 pub(crate) fn join<P>(kept: &mut Vec<Checked<P>>, mut more: Vec<Checked<P>>)
     requires room { vec_len kept.old + vec_len more ≤ vec_capacity kept.old }
@@ -51,6 +64,9 @@ pub(crate) fn join<P>(kept: &mut Vec<Checked<P>>, mut more: Vec<Checked<P>>)
     ensures members { (c : TheChecked) → Contains kept.new.items c ↔ (Contains kept.old.items c ⊎ Contains more.items c) }
     ensures count { length kept.new.items ≡ length kept.old.items + length more.items }
 {
+    if more.is_empty() {
+        return;
+    }
     let _ = kept.append(&mut more);
-    kept.sort_unstable_by(|a, b| a.item().cmp(b.item()));
+    sort(kept);
 }

@@ -10,25 +10,28 @@ ghost use Rattle.evidence_set.specs.ItemSets.{Has, pieces, set_of};
 ghost use Rattle.kept_evidence.specs.Kept.{AreKept, HasHashes, IsAscending};
 ghost use Rattle.kept_evidence.specs.Telling.{is_unanswered};
 
+use crate::grouping::group_of;
 use crate::suspicion::is_unanswered;
 use authenticators::{Directory, NodeId};
 use evidence_item::{Checked, Item};
+use item_forms::Group;
 use outcome::Memory;
 use replay_verifier::Program;
 use std::alloc::Global;
 
-/// The items that are challenges against the node and that none answers, in order.
+/// Those of the items that are challenges against the node and that no item that is kept answers, in their order.
 fn unanswered_of<'a, P>(
     alloc: Global,
-    kept: &'a [Checked<P>],
+    kept: &[Checked<P>],
     node: NodeId,
+    items: &'a [Checked<P>],
 ) -> Result<Vec<&'a Item>, Memory>
     requires ascending { IsAscending kept.now }
     requires hashes { (c : TheChecked) → Contains kept.now c → HasHashes c }
-    ensures { IfOk result (λ found. map (λ i. i.now) found.items ≡ filter (λ (x : Piece). is_unanswered kept.now node x.fields) (pieces kept.now)) }
+    ensures { IfOk result (λ found. map (λ i. i.now) found.items ≡ filter (λ (x : Piece). is_unanswered kept.now node x.fields) (pieces items.now)) }
 {
     let mut found = Vec::new(alloc);
-    for checked in kept {
+    for checked in items {
         let item = checked.item();
         if is_unanswered(kept, node, item) {
             found.push(item)?;
@@ -37,7 +40,8 @@ fn unanswered_of<'a, P>(
     Ok(found)
 }
 
-/// The challenges against the node that no item answers, in the order of the items' spellings.
+/// The challenges against the node that no item answers, in the order of the items' spellings: audit challenges stand before send
+/// challenges.
 pub(crate) fn open_challenges<'a, P: Program>(
     alloc: Global,
     directory: &Directory,
@@ -48,5 +52,10 @@ pub(crate) fn open_challenges<'a, P: Program>(
     ensures members { IfOk result (λ found. (x : Piece) → Contains (map (λ i. i.now) found.items) x ↔ (Has (set_of kept.now) x × IsUnanswered directory.now (set_of kept.now) node x.fields)) }
     ensures ascending { IfOk result (λ found. IsStrictlySortedBy by_bytes (map (λ i. i.now) found.items)) }
 {
-    unanswered_of(alloc, kept, node)
+    let audits = group_of(kept, &Group::AuditChallenges(node));
+    let sends = group_of(kept, &Group::SendChallenges);
+    let mut found = unanswered_of(alloc, kept, node, audits)?;
+    let mut more = unanswered_of(alloc, kept, node, sends)?;
+    found.append(&mut more)?;
+    Ok(found)
 }

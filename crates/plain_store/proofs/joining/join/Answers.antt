@@ -1,8 +1,6 @@
-use Rattle.std.proofs.Common.{◌≡◌, Bool, true, false, ◌++◌, refl, sym, rules}
-use Rattle.std.specs.Ordering.{eq_by_cmp, is_lt}
+use Rattle.std.proofs.Common.{◌≡◌, Bool, true, false, ◌++◌, refl, sym}
+use Rattle.std.specs.Ordering.{eq_by_cmp}
 use Rattle.std.specs.List.{Contains}
-use Rattle.std.proofs.lemmas.Fn.{always_returns_same}
-use Rattle.std.proofs.lemmas.List.Sorted.{ranks_by}
 use Rattle.evidence_item.specs.Checking.{Checked}
 use Rattle.kept_evidence.specs.Kept.{by_item}
 use Rattle.kept_evidence.proofs.Merged.{members_together, sorted_together}
@@ -14,9 +12,8 @@ returns-clause-ascending g c =
     let kept = c.args.kept.now.items in
     let more = c.args.more.items in
     let appended : c.append.new.self.items ≡ kept ++ more = rw (c.append.ensures.succeeds c.requires.room) at c.append.ensures.items in
-    let moved = rw appended at c.sort_unstable_by.ensures.permutation in
-    let sorted = c.sort_unstable_by.ensures.sorted (λ x y. is_lt (by_item x y)) (ranks_by by_item_total (λ a. a)) (always_returns_same _ (λ a r. is_lt r ≡ is_lt (by_item a.0.now a.1.0.now)) _ (λ a r f' k. search rules)) in
-    sorted_together by_item by_item_total kept more c.sort_unstable_by.new.self.items c.requires.kept c.requires.more (λ x y in_kept in_more. apart x y in_kept in_more (eq_by_cmp by_item x y) refl) moved sorted
+    let moved = rw appended at c.sort.ensures.permutation in
+    sorted_together by_item by_item_total kept more c.sort.new.items.items c.requires.kept c.requires.more (λ x y in_kept in_more. apart x y in_kept in_more (eq_by_cmp by_item x y) refl) moved c.sort.ensures.sorted
   where
     apart : (x y : Checked) → Contains c.args.kept.now.items x → Contains c.args.more.items y → (b : Bool) → eq_by_cmp by_item x y ≡ b → eq_by_cmp by_item x y ≡ false
     apart x y in_kept in_more false e = e
@@ -27,4 +24,4 @@ returns-clause-members g c =
     let kept = c.args.kept.now.items in
     let more = c.args.more.items in
     let appended : c.append.new.self.items ≡ kept ++ more = rw (c.append.ensures.succeeds c.requires.room) at c.append.ensures.items in
-    members_together kept more c.sort_unstable_by.new.self.items (rw appended at c.sort_unstable_by.ensures.permutation)
+    members_together kept more c.sort.new.items.items (rw appended at c.sort.ensures.permutation)

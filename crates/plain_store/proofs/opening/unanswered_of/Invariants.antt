@@ -6,4 +6,4 @@ use Rattle.kept_evidence.specs.Telling.{is_unanswered}
 use Rattle.plain_store.proofs.opening.unanswered_of.Given as goal
 
 abbrev pub invariant-loop-checked : goal.invariant-loop-checked
-invariant-loop-checked g l = map (λ i. i.now) l.found.items ≡ filter (λ (x : Piece). is_unanswered l.kept l.node x.fields) (pieces (take l.checked-index l.kept))
+invariant-loop-checked g l = map (λ i. i.now) l.found.items ≡ filter (λ (x : Piece). is_unanswered l.kept l.node x.fields) (pieces (take l.checked-index l.items))
