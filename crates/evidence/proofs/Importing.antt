@@ -4,11 +4,11 @@ use Rattle.std.specs.Prelude.{IfErr, IfOk, IsOk, OnOk, nat_eq}
 use Rattle.std.specs.List.{All, starts_with}
 use Rattle.std.specs.List.Sorted.{IsStrictlySortedBy}
 use Rattle.std.specs.Str.{bytes_eq}
-use Rattle.std.proofs.lemmas.Bool.{le-ltb, lt-ltb}
+use Rattle.std.proofs.lemmas.Bool.{cases_lt, le-ltb, lt-ltb}
 use Rattle.std.proofs.lemmas.List.{length-append, take_at}
 use Rattle.std.proofs.lemmas.Slice.Eq.{bytes_eq-Decides}
 use Rattle.outcome.specs.Bytes.{IsBytes}
-use Rattle.outcome.specs.Outcome.{◌>>=◌}
+use Rattle.outcome.specs.Outcome.{◌>>=◌, told_as}
 use Rattle.outcome.proofs.Steps.{Ok-inj}
 use Rattle.authenticators.specs.Directory.{Listing}
 use Rattle.replay_verifier.specs.Meaning.{Meaning}
@@ -19,12 +19,13 @@ use Rattle.containers.specs.declared.fault.Cause.{Cause}
 use Rattle.containers.specs.declared.fault.Cause.TheVariants as cause
 use Rattle.containers.specs.declared.fault.ImportFault.{ImportFault}
 use Rattle.containers.specs.CheckedItems.{checked_of, fields_of as checked_fields}
-use Rattle.containers.specs.Container.{CutOff, Faulty, Refusal, container_of, fed_with, import_of, kept_on}
+use Rattle.containers.specs.Container.{CutOff, Faulty, Refusal, as_fault, container_of, fed_with, import_of, kept_on}
 use Rattle.containers.specs.Feeding.{AreItems, Feeding, Feeds, IsReadUnder, import_fed}
 use Rattle.containers.specs.Refusals.{IsBehindFront, IsOfItems, fault_at}
 use Rattle.evidence_set.specs.Exports.{IsTextOf, SetsHaveOneText, fields_of, magic, magic_of, old_magic, set_text}
 use Rattle.evidence_set.specs.ItemSets.{pieces, set_of}
-use Rattle.evidence.specs.Importing.{fed_by, import_set, imported_under}
+use Rattle.containers.proofs.Staying.{faults_stay}
+use Rattle.evidence.specs.Importing.{RefusedPiecesStay, fed_by, import_set, imported_under}
 use Rattle.evidence.specs.within.Stages.{BeginsWith, GoesOn, IsBegun, IsKnown, IsOpen, IsStage, Reads, fed_of}
 use Rattle.evidence.specs.declared.stage.Stage.{Stage}
 use Rattle.evidence.specs.declared.stage.Stage.TheVariants as stage
@@ -184,3 +185,32 @@ module _ {S : Type 0} (ds : Listing) (program : Meaning S) (r : Feeding) (known 
 pub ok_behind : {Y : Type 0} (r : Result Y ImportFault) → IsOk r → IsBehindFront r
 ok_behind (Ok y) is f e zeroth = absurd cc
 ok_behind (Err g) is f e zeroth = absurd cc
+
+-- ---- pieces that are refused
+
+-- what eight bytes and more are read as hangs on the first eight
+front_magic : (text more : List ℕ) → 8 ≤ length text → magic_of (text ++ more) ≡ magic_of text
+front_magic (a ∷ b ∷ c ∷ d ∷ e ∷ f ∷ g ∷ h ∷ text) more le = refl
+front_magic [] more le = absurd (omega arith)
+front_magic (a ∷ []) more le = absurd (omega arith)
+front_magic (a ∷ b ∷ []) more le = absurd (omega arith)
+front_magic (a ∷ b ∷ c ∷ []) more le = absurd (omega arith)
+front_magic (a ∷ b ∷ c ∷ d ∷ []) more le = absurd (omega arith)
+front_magic (a ∷ b ∷ c ∷ d ∷ e ∷ []) more le = absurd (omega arith)
+front_magic (a ∷ b ∷ c ∷ d ∷ e ∷ f ∷ []) more le = absurd (omega arith)
+front_magic (a ∷ b ∷ c ∷ d ∷ e ∷ f ∷ g ∷ []) more le = absurd (omega arith)
+
+-- a fault that is no cut-off
+kept_fault : {A : Type 0} (text : List ℕ) (r : Result (List A) Refusal) (f : ImportFault) → kept_on text r ≡ Err f → r ≡ Err (Faulty f)
+kept_fault text (Ok items) f e = absurd cc
+kept_fault text (Err (CutOff n)) f e = absurd cc
+kept_fault text (Err (Faulty g)) f e = let same : g ≡ f = cc in rw same refl
+
+pub refused_stay : RefusedPiecesStay
+refused_stay ds text more f e =
+    elim (cases_lt (length text) 8) [
+      | inl lt ↦ let wrong = sym (short_kept (checked_of ds) (magic_of text) text lt) ∙ e in absurd cc
+      | inr le ↦
+          ap (λ (m : List ℕ). import_of m (checked_of ds) (text ++ more)) (front_magic text more le)
+          ∙ ap (told_as as_fault) (faults_stay (magic_of text) (checked_of ds) f text more (kept_fault text (container_of (magic_of text) (checked_of ds) text) f e))
+    ]

@@ -1,5 +1,5 @@
 -- Reading the text of a set in pieces, as contracts see it.
-use Rattle.std.specs.Prelude.{ℕ, ◌≡◌, List, ◌++◌, Result}
+use Rattle.std.specs.Prelude.{ℕ, ◌≡◌, List, [], ◌++◌, Result, Ok, Err}
 use Rattle.outcome.specs.Outcome.{◌>>=◌}
 use Rattle.authenticators.specs.Directory.{Listing}
 use Rattle.item_forms.specs.declared.forms.Fields.{Fields}
@@ -28,3 +28,9 @@ imported_under ds fed = fed >>= λ text. import_set ds text
 
 abbrev pub imported : Importing → Result (List Fields) ImportFault
 imported i = imported_under i.directory i.fed
+
+-- ---- a law, which `laws` proves
+
+-- A fault of the pieces so far, joined, is the one of each text that begins with them.
+abbrev pub RefusedPiecesStay : Type 0
+RefusedPiecesStay = (ds : Listing) (pieces more : List ℕ) (f : ImportFault) → fed_by (checked_of ds) pieces (Ok []) ≡ Err f → import_set ds (pieces ++ more) ≡ Err f

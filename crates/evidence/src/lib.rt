@@ -15,5 +15,6 @@ mod adding;
 mod evidence;
 mod fault;
 mod importer;
+pub mod laws;
 mod set_text;
 mod stage;
