@@ -1,9 +1,9 @@
-//! Containers of two signed statements, as they are and with faults.
+//! Containers of two signed statements, as they are and with faults. `pieces` has those that come in pieces.
 
-ghost use Rattle.std.specs.Prelude.{◌<◌};
+mod pieces;
 
 use authenticators::{Authenticator, Directory, NodeId, statement_text};
-use containers::{Cause, ImportFault, Reading, read_all, write_all};
+use containers::{Cause, ImportFault, read_all, write_all};
 use evidence_item::Item;
 use lms_sign::{LmsType, OtsType, SecretKey};
 use log_chain::{ByteString, Hash};
@@ -224,6 +224,53 @@ fn an_item_has_a_greatest_length(rt: HostRuntime) -> Result<(), Fail> {
     Ok(())
 }
 
+/// The container of a statement, 50 bytes long with a signature of one byte, behind this length, and a byte more.
+fn statement_behind(len: u8) -> [u8; 71] {
+    let mut text = [0u8; 71];
+    text[..8].copy_from_slice(&MAGIC);
+    text[15] = 1;
+    text[19] = len;
+    text[20] = 1;
+    text[68] = 1;
+    text
+}
+
+/// Why such a text is refused under another magic, with a length above the limit, with a tag that there is not, with a length that
+/// cuts off the signature, with one that has a byte more, and with one that is cut off. All growth of memory is that of reading it.
+fn refusals_of_front(alloc: Global) -> [Option<ImportFault>; 6] {
+    let directory = Directory::new(alloc);
+    let mut other_magic = statement_behind(50);
+    other_magic[7] = b'1';
+    let mut long = statement_behind(50);
+    long[16] = 0x21;
+    let mut other_tag = statement_behind(50);
+    other_tag[20] = 6;
+    [
+        refusal(alloc, &directory, &other_magic),
+        refusal(alloc, &directory, &long),
+        refusal(alloc, &directory, &other_tag),
+        refusal(alloc, &directory, &statement_behind(49)),
+        refusal(alloc, &directory, &statement_behind(51)),
+        refusal(alloc, &directory, &statement_behind(52)),
+    ]
+}
+
+#[test]
+fn a_fault_of_the_front_is_told_without_memory(rt: HostRuntime) -> Result<(), Fail> {
+    assert_eq!(rt;
+        refusals_of_front(rt.alloc()),
+        [
+            at(0, Cause::BadMagic),
+            at(0, Cause::TooLong),
+            at(0, Cause::BadTag),
+            at(0, Cause::Truncated),
+            at(0, Cause::Trailing),
+            at(0, Cause::Truncated),
+        ]
+    );
+    Ok(())
+}
+
 /// Whether the text is told as cut off at so many bytes: at each of the first forty, and then at every hundredth.
 fn is_cut_off(alloc: Global) -> Result<bool, Fail> {
     let mut signer = make_signer(alloc)?;
@@ -246,64 +293,6 @@ fn a_container_that_is_cut_off_is_truncated(rt: HostRuntime) -> Result<(), Fail>
     Ok(())
 }
 
-/// How many items are read of a text that is fed in pieces of this size.
-fn count_in_pieces(
-    alloc: Global,
-    directory: &Directory,
-    text: &[u8],
-    size: usize,
-) -> Result<usize, ImportFault>
-    requires { 0 < size }
-{
-    let mut reading: Reading<Tally> = Reading::new(alloc, MAGIC);
-    for piece in text.chunks(size) {
-        reading.feed(&Tally, directory, piece)?;
-    }
-    let items = reading.finish()?;
-    Ok(items.len())
-}
-
-fn counts(alloc: Global) -> Result<[Result<usize, ImportFault>; 3], Fail> {
-    let mut signer = make_signer(alloc)?;
-    let text = container(alloc, &mut signer, [5, 6])?;
-    let directory = &signer.directory;
-    Ok([
-        count_in_pieces(alloc, directory, &text, 1),
-        count_in_pieces(alloc, directory, &text, 7),
-        count_in_pieces(alloc, directory, &text, 4096),
-    ])
-}
-
-#[test]
-fn pieces_are_read_as_the_whole(rt: HostRuntime) -> Result<(), Fail> {
-    assert_eq!(rt; counts(rt.alloc())?, [Ok(2), Ok(2), Ok(2)]);
-    Ok(())
-}
-
-/// The answers to a piece that is at fault, and to one more.
-fn answers(alloc: Global) -> Result<[Result<(), ImportFault>; 2], Fail> {
-    let signer = make_signer(alloc)?;
-    let mut reading: Reading<Tally> = Reading::new(alloc, MAGIC);
-    let first = reading.feed(&Tally, &signer.directory, b"PRPACK01");
-    let second = reading.feed(&Tally, &signer.directory, &[]);
-    Ok([first, second])
-}
-
-#[test]
-fn a_refusal_stays(rt: HostRuntime) -> Result<(), Fail> {
-    let bad = ImportFault {
-        item: 0,
-        cause: Cause::BadMagic,
-    };
-    assert_eq!(rt; answers(rt.alloc())?, [Err(bad), Err(bad)]);
-    let printed = format!(in rt.alloc(); "{bad}")?;
-    assert_eq!(rt;
-        printed.as_str(),
-        "item 0: the bytes do not begin as a container"
-    );
-    Ok(())
-}
-
 /// Whether what is read of a container is written as that container again.
 fn is_written_again(alloc: Global) -> Result<bool, Fail> {
     let mut signer = make_signer(alloc)?;
@@ -316,5 +305,19 @@ fn is_written_again(alloc: Global) -> Result<bool, Fail> {
 #[test]
 fn what_is_read_is_written_again(rt: HostRuntime) -> Result<(), Fail> {
     assert!(rt; is_written_again(rt.alloc())?);
+    Ok(())
+}
+
+#[test]
+fn a_fault_has_a_line(rt: HostRuntime) -> Result<(), Fail> {
+    let bad = ImportFault {
+        item: 0,
+        cause: Cause::BadMagic,
+    };
+    let printed = format!(in rt.alloc(); "{bad}")?;
+    assert_eq!(rt;
+        printed.as_str(),
+        "item 0: the bytes do not begin as a container"
+    );
     Ok(())
 }

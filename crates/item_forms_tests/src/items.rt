@@ -1,12 +1,13 @@
-//! Values from outside, and each public call once on its happy path. `ordering` has those on the order of items.
+//! Values from outside, and each public call once on its happy path. `ordering` has those on the order of items, `framing` those on
+//! items behind their lengths.
 
+mod framing;
 mod ordering;
 
 use item_forms::{
     Authenticator, ByteString, DecodeFault, Entry, Form, Hash, Item, Message, NodeId, Statement,
     TooLong,
 };
-use log_chain::{FieldReader, FieldWriter};
 use std::alloc::Global;
 use std::test::Fail;
 
@@ -19,11 +20,29 @@ fn auth_text() -> [u8; 49] {
     text
 }
 
-/// The number of the refusal, or 0 where the bytes are an item.
-fn refusal(alloc: Global, bytes: &[u8]) -> u8 {
+/// The number by which decoding refuses the bytes, or 0 where they are an item.
+fn decoding(alloc: Global, bytes: &[u8]) -> u8 {
     match Item::decode(alloc, bytes) {
         Ok(_) => 0,
         Err(fault) => fault.number(),
+    }
+}
+
+/// The same of going over them.
+fn scanning(bytes: &[u8]) -> u8 {
+    match Item::scan(bytes) {
+        Ok(()) => 0,
+        Err(fault) => fault.number(),
+    }
+}
+
+/// The number by which both refuse the bytes, or 0 where they are an item; 255 where the two tell different things.
+fn refusal(alloc: Global, bytes: &[u8]) -> u8 {
+    let number = decoding(alloc, bytes);
+    if scanning(bytes) == number {
+        number
+    } else {
+        255
     }
 }
 
@@ -61,6 +80,20 @@ fn refusals(alloc: Global) -> [u8; 4] {
 fn a_statement_has_its_text(rt: HostRuntime) -> Result<(), Fail> {
     assert!(rt; is_written_again(rt.alloc(), &auth_text())?);
     assert!(rt; refusals(rt.alloc()) == [43, 40, 41, 40]);
+    Ok(())
+}
+
+/// The refusal of the text with a signature of one byte and a byte more. All growth of memory is that of reading it.
+fn refusal_of_signed(alloc: Global) -> u8 {
+    let mut text = [0u8; 51];
+    text[..49].copy_from_slice(&auth_text());
+    text[48] = 1;
+    refusal(alloc, &text)
+}
+
+#[test]
+fn a_fault_is_told_without_memory(rt: HostRuntime) -> Result<(), Fail> {
+    assert!(rt; refusal_of_signed(rt.alloc()) == 43);
     Ok(())
 }
 
@@ -182,37 +215,6 @@ fn an_item_that_is_cut_off_is_truncated(rt: HostRuntime) -> Result<(), Fail> {
     Ok(())
 }
 
-/// Writes the item of the form and the number behind what is written.
-fn write(alloc: Global, writer: &mut FieldWriter, form: u8, seq: u32) -> Result<(), Fail> {
-    Ok(item(alloc, form, seq)?.encode_to(writer)?)
-}
-
-/// The text of the statement of number 1, and behind it that of the item of the form.
-fn two_texts(alloc: Global, form: u8) -> Result<Vec<u8>, Fail> {
-    let mut writer = FieldWriter::new(alloc);
-    write(alloc, &mut writer, 1, 1)?;
-    write(alloc, &mut writer, form, 5)?;
-    Ok(writer.finish())
-}
-
-fn is_next(alloc: Global, reader: &mut FieldReader, item: &Item) -> Result<bool, Fail> {
-    Ok(Item::read(alloc, reader)? == *item)
-}
-
-/// Whether the item that is read next is that of the form and the number.
-fn reads(alloc: Global, reader: &mut FieldReader, form: u8, seq: u32) -> Result<bool, Fail> {
-    let item = item(alloc, form, seq)?;
-    is_next(alloc, reader, &item)
-}
-
-fn is_read_behind_another(alloc: Global, form: u8) -> Result<bool, Fail> {
-    let text = two_texts(alloc, form)?;
-    let mut reader = FieldReader::new(&text);
-    let first = reads(alloc, &mut reader, 1, 1)?;
-    let second = reads(alloc, &mut reader, form, 5)?;
-    Ok(first && second && reader.left() == 0)
-}
-
 fn equals_its_copy(alloc: Global, item: &Item) -> Result<bool, Fail> {
     Ok(item.try_clone(alloc)? == *item)
 }
@@ -223,9 +225,8 @@ fn is_copied(alloc: Global, form: u8) -> Result<bool, Fail> {
 }
 
 #[test]
-fn items_are_read_one_behind_the_other_and_copied(rt: HostRuntime) -> Result<(), Fail> {
+fn items_are_copied(rt: HostRuntime) -> Result<(), Fail> {
     for form in 1..7 {
-        assert!(rt; is_read_behind_another(rt.alloc(), form)?, "form {form}");
         assert!(rt; is_copied(rt.alloc(), form)?, "form {form}");
     }
     Ok(())

@@ -5,13 +5,8 @@ ghost use Rattle.log_chain.specs.Chain.{hashes};
 
 use authenticators::{Authenticator, NodeId};
 use evidence_item::Segment;
-use log_chain::{
-    ByteString, Entry, EntryList, FieldReader, FieldWriter, Hash, base_hash, chain_end, entry_hash,
-    kind,
-};
-use proofs::{
-    BadTag, DecodeFault, Item, Outline, Parts, Proof, ProofFault, read_framed, write_framed,
-};
+use log_chain::{ByteString, Entry, EntryList, Hash, base_hash, chain_end, entry_hash, kind};
+use proofs::{BadTag, DecodeFault, Item, Outline, Parts, Proof, ProofFault};
 use std::alloc::Global;
 use std::test::Fail;
 
@@ -19,7 +14,7 @@ pub(crate) const ZEROS: Hash = Hash([0; 32]);
 
 pub(crate) const ONES: Hash = Hash([1; 32]);
 
-fn no_bytes(alloc: Global) -> ByteString {
+pub(crate) fn no_bytes(alloc: Global) -> ByteString {
     ByteString::from_vec(Vec::new(alloc))
 }
 
@@ -242,6 +237,33 @@ fn other_texts_are_refused(rt: HostRuntime) -> Result<(), Fail> {
     Ok(())
 }
 
+/// The text of a proof of form 1 and a byte more. Each statement has a signature of one byte, and 50 bytes.
+fn longer_text() -> [u8; 110] {
+    let mut text = [0u8; 110];
+    text[0] = 1;
+    text[4] = 50;
+    text[5] = 1;
+    text[53] = 1;
+    text[58] = 50;
+    text[59] = 1;
+    text[107] = 1;
+    text
+}
+
+/// The refusals of that text, and of one whose second part has another tag. All growth of memory is that of reading them.
+fn refusals_of_longer(alloc: Global) -> [u8; 2] {
+    let text = longer_text();
+    let mut other_tag = text;
+    other_tag[59] = 2;
+    [refusal(alloc, &text), refusal(alloc, &other_tag)]
+}
+
+#[test]
+fn a_fault_is_told_without_memory(rt: HostRuntime) -> Result<(), Fail> {
+    assert_eq!(rt; refusals_of_longer(rt.alloc()), [43, 41]);
+    Ok(())
+}
+
 /// The refusal of a proof whose first item has this length, of which no byte is there.
 fn refusal_of_length(alloc: Global, len: [u8; 4]) -> u8 {
     let [a, b, c, d] = len;
@@ -324,32 +346,5 @@ fn proofs_have_their_parts(rt: HostRuntime) -> Result<(), Fail> {
     for form in 1..4u8 {
         assert_eq!(rt; forms_of(proof_of(rt.alloc(), form)?), [form; 2]);
     }
-    Ok(())
-}
-
-/// The item's text behind its length.
-fn framed(alloc: Global, item: &Item) -> Result<Vec<u8>, Fail> {
-    let mut writer = FieldWriter::new(alloc);
-    write_framed(&mut writer, item.form())?;
-    Ok(writer.finish())
-}
-
-/// Whether the text is that of the item behind its length.
-fn frames(alloc: Global, text: &[u8], item: &Item) -> Result<bool, Fail> {
-    let mut reader = FieldReader::new(text);
-    let again = read_framed(alloc, None, &mut reader)?;
-    Ok(again == *item && reader.left() == 0)
-}
-
-/// Whether an item that is written behind its length is read as it was.
-fn is_framed(alloc: Global) -> Result<bool, Fail> {
-    let item = segment_item(alloc)?;
-    let text = framed(alloc, &item)?;
-    frames(alloc, &text, &item)
-}
-
-#[test]
-fn an_item_behind_its_length(rt: HostRuntime) -> Result<(), Fail> {
-    assert!(rt; is_framed(rt.alloc())?);
     Ok(())
 }

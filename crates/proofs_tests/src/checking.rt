@@ -1,6 +1,6 @@
 //! What checking tells of proofs of each form, signed and not.
 
-use crate::calls::{ONES, ZEROS, auth_segment, nonconforming, proof_of, two_auths};
+use crate::calls::{ONES, ZEROS, auth_segment, no_bytes, nonconforming, proof_of, two_auths};
 use authenticators::{Authenticator, Directory, NodeId, statement_text};
 use lms_sign::{LmsType, OtsType, SecretKey};
 use log_chain::{ByteString, Entry, Hash, base_hash, chain_end, kind};
@@ -159,5 +159,42 @@ fn a_deviation_convicts(rt: HostRuntime) -> Result<(), Fail> {
         Answer::Refused(47),
     ];
     assert_eq!(rt; told_of_logs(rt.alloc(), &mut node)?, expected);
+    Ok(())
+}
+
+/// A segment without entries and a signature, which takes no memory.
+fn bare_segment(alloc: Global) -> Result<Item, Fail> {
+    Ok(Item::segment(NodeId(1), ZEROS, Vec::new(alloc), no_bytes(alloc))?)
+}
+
+/// The same of a statement.
+fn bare_auth(alloc: Global) -> Result<Item, Fail> {
+    Ok(Item::auth(Authenticator {
+        node: NodeId(1),
+        seq: 5,
+        hash: ZEROS,
+        sig: no_bytes(alloc),
+    })?)
+}
+
+/// What is told of these two under a directory that lists no node. All growth of memory is that of checking.
+fn told_of_bare_two(alloc: Global) -> Result<Answer, Fail> {
+    let auth = bare_auth(alloc)?;
+    let proof = Proof::auth_segment(auth, bare_segment(alloc)?)?;
+    Ok(told(alloc, &Directory::new(alloc), &proof))
+}
+
+/// The same of the segment.
+fn told_of_bare_one(alloc: Global) -> Result<Answer, Fail> {
+    let proof = Proof::nonconforming(bare_segment(alloc)?)?;
+    Ok(told(alloc, &Directory::new(alloc), &proof))
+}
+
+#[test]
+fn an_early_fault_is_told_without_memory(rt: HostRuntime) -> Result<(), Fail> {
+    assert_eq!(rt;
+        [told_of_bare_two(rt.alloc())?, told_of_bare_one(rt.alloc())?],
+        [Answer::Refused(44); 2]
+    );
     Ok(())
 }
