@@ -43,7 +43,7 @@ fn told_by<S: Evidence<Tally>>(
     Ok((fed, ended))
 }
 
-fn told<S: Evidence<Tally>>(
+fn read_in_pieces<S: Evidence<Tally>>(
     alloc: Global,
     on: &Text,
     text: &[u8],
@@ -84,7 +84,7 @@ const OTHER_MAGIC: Told = Told {
 fn pieces_of_any_length_are_read_as_the_whole(rt: HostRuntime) -> Result<(), Fail> {
     let on = text_of_two::<Store<Tally>>(rt.alloc())?;
     for length in [1, 7, 4096] {
-        let told = told::<Store<Tally>>(rt.alloc(), &on, &on.text, length)?;
+        let told = read_in_pieces::<Store<Tally>>(rt.alloc(), &on, &on.text, length)?;
         assert_eq!(rt; told, READ);
     }
     Ok(())
@@ -97,7 +97,7 @@ fn a_text_without_its_last_byte_is_cut_off_at_the_end(rt: HostRuntime) -> Result
         return Err("no text")?;
     };
     for length in [1, 7, 4096] {
-        let told = told::<Store<Tally>>(rt.alloc(), &on, cut, length)?;
+        let told = read_in_pieces::<Store<Tally>>(rt.alloc(), &on, cut, length)?;
         assert_eq!(rt; told, CUT_OFF);
     }
     Ok(())
@@ -107,7 +107,7 @@ fn a_text_without_its_last_byte_is_cut_off_at_the_end(rt: HostRuntime) -> Result
 fn a_refused_piece_stays_refused(rt: HostRuntime) -> Result<(), Fail> {
     let on = text_of_two::<Store<Tally>>(rt.alloc())?;
     for length in [1, 7, 4096] {
-        let told = told::<Store<Tally>>(rt.alloc(), &on, b"PRPACK01\0\0\0\0\0\0\0\0", length)?;
+        let told = read_in_pieces::<Store<Tally>>(rt.alloc(), &on, b"PRPACK01\0\0\0\0\0\0\0\0", length)?;
         assert_eq!(rt; told, OTHER_MAGIC);
     }
     Ok(())
