@@ -130,8 +130,8 @@ module _ {P : Type 0} (reads : Reads) (n len : ℕ) (old : Progress P) (rest tex
   pub wrong : (f : ImportFault) → Refuses f (told_as (fault_at (length old.items.items)) (reads (last_text (fields_of old.items.items)) text)) → (magic : List ℕ) → Refuses f (go_on magic reads (seen old) rest)
   wrong f refused magic =
       let same : told_as (fault_at (length old.items.items)) (reads (last_text (fields_of old.items.items)) text) ≡ told_as (fault_at (length (fields_of old.items.items))) (reads (last_text (fields_of old.items.items)) (drop 4 (old.front.items ++ text))) =
-          ap (λ (k : ℕ). told_as (fault_at k) (reads (last_text (fields_of old.items.items)) text)) (sym (fields_count old.items.items))
-          ∙ ap (λ (t : List ℕ). told_as (fault_at (length (fields_of old.items.items))) (reads (last_text (fields_of old.items.items)) t)) (sym text_is)
+      ap (λ (k : ℕ). told_as (fault_at k) (reads (last_text (fields_of old.items.items)) text)) (sym (fields_count old.items.items))
+      ∙ ap (λ (t : List ℕ). told_as (fault_at (length (fields_of old.items.items))) (reads (last_text (fields_of old.items.items)) t)) (sym text_is)
       in
       item_wrong magic reads (seen old) n rest (old.front.items ++ text) after f stage some is_whole moved (subst (Refuses f) same refused)
 

@@ -8,6 +8,7 @@ use item_forms::{
     Authenticator, ByteString, DecodeFault, Entry, Form, Hash, Item, Message, NodeId, Statement,
     TooLong,
 };
+use log_chain::FieldWriter;
 use std::alloc::Global;
 use std::test::Fail;
 
@@ -61,6 +62,18 @@ fn is_written_again(alloc: Global, text: &[u8]) -> Result<bool, Fail> {
     Ok(item.encoded_len() == text.len() && again.as_slice() == text)
 }
 
+/// Whether it is written so behind another byte.
+fn is_written_behind(alloc: Global, text: &[u8]) -> Result<bool, Fail> {
+    let item = Item::decode(alloc, text)?;
+    let mut writer = FieldWriter::new(alloc);
+    writer.u8(7)?;
+    item.encode_to(&mut writer)?;
+    Ok(match writer.finish().as_slice() {
+        [7, again @ ..] => again == text,
+        _ => false,
+    })
+}
+
 /// The refusals of the text with a byte more, with a byte less, and under tag 6; and that of no byte.
 fn refusals(alloc: Global) -> [u8; 4] {
     let text = auth_text();
@@ -79,6 +92,7 @@ fn refusals(alloc: Global) -> [u8; 4] {
 #[test]
 fn a_statement_has_its_text(rt: HostRuntime) -> Result<(), Fail> {
     assert!(rt; is_written_again(rt.alloc(), &auth_text())?);
+    assert!(rt; is_written_behind(rt.alloc(), &auth_text())?);
     assert!(rt; refusals(rt.alloc()) == [43, 40, 41, 40]);
     Ok(())
 }

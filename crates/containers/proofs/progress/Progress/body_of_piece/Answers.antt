@@ -36,8 +36,9 @@ pub returns-clause-taken : goal.returns-clause-taken
 returns-clause-taken g c =
     let new = c.begin_next.new.self in
     let items : new.items.items ≡ c.keep_item.new.items.items = ap (λ v. v.items) c.begin_next.ensures.items in
-    let few : length new.front.items ≡ 0 = ap length c.begin_next.ensures.none.0 in
-    (inl (taken (checked_of c.args.directory.now) c.args.left c.args.len c.args.self.now c.args.rest.now c.split_at.result.0.now c.split_at.result.1.now c.requires.stage.0 c.requires.stage.1 c.requires.front c.split_at.ensures.front_len
-    (joined c.args.len c.args.self.now.body.items c.args.rest.now c.split_at.result.0.now c.split_at.result.1.now c.requires.none c.split_at.ensures.front c.split_at.ensures.back)
-    new (subst (λ (xs : List Checked). IsOneMore (checked_of c.args.directory.now) c.args.self.now.items.items c.split_at.result.0.now xs) (sym items) c.in_ok-keep_item.ensures.kept) c.begin_next.ensures.left c.begin_next.ensures.none.0 c.begin_next.ensures.none.1),
-    empty_parted new.left (c.args.left - 1) new.front.items new.body.items c.begin_next.ensures.left (omega (arith, few)) c.begin_next.ensures.none.1)
+    let few : length new.front.items ≡ 0 = ap length c.begin_next.ensures.none.0 in (
+      inl (taken (checked_of c.args.directory.now) c.args.left c.args.len c.args.self.now c.args.rest.now c.split_at.result.0.now c.split_at.result.1.now c.requires.stage.0 c.requires.stage.1 c.requires.front c.split_at.ensures.front_len
+          (joined c.args.len c.args.self.now.body.items c.args.rest.now c.split_at.result.0.now c.split_at.result.1.now c.requires.none c.split_at.ensures.front c.split_at.ensures.back)
+          new (subst (λ (xs : List Checked). IsOneMore (checked_of c.args.directory.now) c.args.self.now.items.items c.split_at.result.0.now xs) (sym items) c.in_ok-keep_item.ensures.kept) c.begin_next.ensures.left c.begin_next.ensures.none.0 c.begin_next.ensures.none.1),
+      empty_parted new.left (c.args.left - 1) new.front.items new.body.items c.begin_next.ensures.left (omega (arith, few)) c.begin_next.ensures.none.1,
+    )

@@ -17,7 +17,7 @@ returns-in_err-keep_item-clause-refused g c =
     let p = err_from_is_err_and c.from_residual.result c.from_residual.ensures.1 in
     let size : length c.take_up.new.body.items ≡ c.args.len = omega (arith, c.in-Ok.ensures.within, c.if-len.false) in
     let refused : Refuses c.in_err-keep_item.field-0.0 (told_as (fault_at (length c.args.self.now.items.items)) (checked_of c.args.directory.now (last_text (fields_of c.args.self.now.items.items)) c.take_up.new.body.items)) =
-        subst (λ (t : List ℕ). Refuses c.in_err-keep_item.field-0.0 (told_as (fault_at (length c.args.self.now.items.items)) (checked_of c.args.directory.now (last_text (fields_of c.args.self.now.items.items)) t))) c.deref.ensures.value c.in_err-keep_item.ensures.refused
+    subst (λ (t : List ℕ). Refuses c.in_err-keep_item.field-0.0 (told_as (fault_at (length c.args.self.now.items.items)) (checked_of c.args.directory.now (last_text (fields_of c.args.self.now.items.items)) t))) c.deref.ensures.value c.in_err-keep_item.ensures.refused
     in
     rw (p.1, p.2) (wrong (checked_of c.args.directory.now) c.args.left c.args.len c.args.self.now c.args.rest.now c.take_up.new.body.items c.in-Ok.rest.now c.requires.stage.0 c.requires.stage.1 c.requires.front size c.in-Ok.ensures.moved
     c.in_err-keep_item.field-0.0 refused)
@@ -34,8 +34,9 @@ returns-clause-taken g c =
     let items : new.items.items ≡ c.keep_item.new.items.items = ap (λ v. v.items) c.begin_next.ensures.items in
     let few : length new.front.items ≡ 0 = ap length c.begin_next.ensures.none.0 in
     let one : IsOneMore (checked_of c.args.directory.now) c.args.self.now.items.items c.take_up.new.body.items c.keep_item.new.items.items =
-        subst (λ (t : List ℕ). IsOneMore (checked_of c.args.directory.now) c.args.self.now.items.items t c.keep_item.new.items.items) c.deref.ensures.value c.in_ok-keep_item.ensures.kept
-    in
-    (inl (taken (checked_of c.args.directory.now) c.args.left c.args.len c.args.self.now c.args.rest.now c.take_up.new.body.items c.in-Ok.rest.now c.requires.stage.0 c.requires.stage.1 c.requires.front size c.in-Ok.ensures.moved
-    new (subst (λ (xs : List Checked). IsOneMore (checked_of c.args.directory.now) c.args.self.now.items.items c.take_up.new.body.items xs) (sym items) one) c.begin_next.ensures.left c.begin_next.ensures.none.0 c.begin_next.ensures.none.1),
-    empty_parted new.left (c.args.left - 1) new.front.items new.body.items c.begin_next.ensures.left (omega (arith, few)) c.begin_next.ensures.none.1)
+    subst (λ (t : List ℕ). IsOneMore (checked_of c.args.directory.now) c.args.self.now.items.items t c.keep_item.new.items.items) c.deref.ensures.value c.in_ok-keep_item.ensures.kept
+    in (
+      inl (taken (checked_of c.args.directory.now) c.args.left c.args.len c.args.self.now c.args.rest.now c.take_up.new.body.items c.in-Ok.rest.now c.requires.stage.0 c.requires.stage.1 c.requires.front size c.in-Ok.ensures.moved
+          new (subst (λ (xs : List Checked). IsOneMore (checked_of c.args.directory.now) c.args.self.now.items.items c.take_up.new.body.items xs) (sym items) one) c.begin_next.ensures.left c.begin_next.ensures.none.0 c.begin_next.ensures.none.1),
+      empty_parted new.left (c.args.left - 1) new.front.items new.body.items c.begin_next.ensures.left (omega (arith, few)) c.begin_next.ensures.none.1,
+    )
