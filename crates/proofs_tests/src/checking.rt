@@ -162,7 +162,7 @@ fn a_deviation_convicts(rt: HostRuntime) -> Result<(), Fail> {
     Ok(())
 }
 
-/// A segment without entries and a signature, which takes no memory.
+/// A segment without entries and without a signature, which takes no memory.
 fn bare_segment(alloc: Global) -> Result<Item, Fail> {
     Ok(Item::segment(NodeId(1), ZEROS, Vec::new(alloc), no_bytes(alloc))?)
 }
