@@ -56,9 +56,9 @@ pub trait Evidence<P: Program>: Drop {
         ensures item { IfOk result (λ found. option_map (λ (c : TheChecked). c.item) found ≡ slice_get (listed (contents self.now).items) n) }
         ensures checked { IfOk result (λ found. IfSome found (λ c. IsChecked (contents self.now).directory P.means c)) };
 
-    /// Adds an item that was checked under the store's directory, and answers whether it is new. It verifies no signature, and of an
-    /// item that keeps what checking found it hashes no content. Where a growth is refused, and only there, the item is given back and
-    /// the store is as it was.
+    /// Adds an item that was checked under the store's directory, and answers whether it is new. Of an item that keeps what checking
+    /// found it verifies no signature and hashes no content; of a segment of [`Checked::from_parts`] it hashes the entries and verifies
+    /// what they quote. Where a growth is refused, and only there, the item is given back and the store is as it was.
     fn take(&mut self, checked: Checked<P>) -> Result<bool, TakeRefused<P>>
         requires { IsChecked (contents self.old).directory P.means checked }
         ensures told { IfOk result (λ new. new ≡ not (contains (contents self.old).items checked.item)) }
@@ -108,8 +108,7 @@ pub trait Evidence<P: Program>: Drop {
     fn allocator(&self) -> Global;
 
     /// Adds items that were checked under the store's directory and ascend by their spellings, and answers how many are new: all of
-    /// them are added, or, with `Memory`, none. It verifies no signature, and of an item that keeps what checking found it hashes no
-    /// content.
+    /// them are added, or, with `Memory`, none. What it verifies and hashes of each is what [`Evidence::take`] does.
     fn take_all(&mut self, items: Vec<Checked<P>>) -> Result<u64, Memory>
         requires checked { All (IsChecked (contents self.old).directory P.means) items.items }
         requires ascending { IsStrictlySortedBy by_bytes (pieces items.items) }

@@ -71,13 +71,7 @@ impl<P: Program> Importer<P> {
         ensures again { (f : TheFault) → self.old.fed ≡ Err f → (result ≡ Err f) × (self.new.fed ≡ Err f) }
         ensures memory { IfOk self.old.fed (λ text. IfErr result (λ f. f.cause ≡ cause.Memory → IsOfItems (λ reads. fed_by reads piece.now self.old.fed))) }
     {
-        feed(
-            self.alloc,
-            program,
-            &self.directory,
-            &mut self.stage,
-            piece,
-        )
+        feed(self.alloc, program, &self.directory, &mut self.stage, piece)
     }
 
     /// The end of the text: the store, which is of the same directory, takes its items, all or none. It answers how many are new.

@@ -107,7 +107,12 @@ fn a_text_without_its_last_byte_is_cut_off_at_the_end(rt: HostRuntime) -> Result
 fn a_refused_piece_stays_refused(rt: HostRuntime) -> Result<(), Fail> {
     let on = text_of_two::<Store<Tally>>(rt.alloc())?;
     for length in [1, 7, 4096] {
-        let told = read_in_pieces::<Store<Tally>>(rt.alloc(), &on, b"PRPACK01\0\0\0\0\0\0\0\0", length)?;
+        let told = read_in_pieces::<Store<Tally>>(
+            rt.alloc(),
+            &on,
+            b"PRPACK01\0\0\0\0\0\0\0\0",
+            length,
+        )?;
         assert_eq!(rt; told, OTHER_MAGIC);
     }
     Ok(())

@@ -7,8 +7,8 @@ ghost use Rattle.evidence_set.specs.ItemSets.{count, listed, set_of};
 ghost use Rattle.kept_evidence.specs.Kept.{IsAscending};
 
 use containers::write_all;
-use evidence_item::Checked;
 use evidence::MAGIC;
+use evidence_item::Checked;
 use outcome::Memory;
 use std::alloc::Global;
 

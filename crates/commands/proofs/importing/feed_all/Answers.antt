@@ -30,12 +30,14 @@ returns-in_err-feed-clause-refused g c =
 pub loop-rest-preserved : goal.loop-rest-preserved
 loop-rest-preserved g c =
     let i = c.loop-rest.invariant in
-    let fed = c.in_ok-feed.ensures.fed in
-    (fed.0, fed.2,
-    text_more c.args.text.now i.0 c.loop-rest.rest.now c.split_at.result.0.now c.split_at.result.1.now fed.0 i.2
-    (split _ c.loop-rest.rest.now c.split_at.result.0.now c.split_at.result.1.now c.split_at.ensures.front c.split_at.ensures.back)
-    (fed_more c.loop-rest.importer.directory i.0 c.split_at.result.0.now fed.0 c.loop-rest.importer.fed i.1 fed.1),
-    c.in_ok-feed.ensures.directory ∙ i.3)
+    let fed = c.in_ok-feed.ensures.fed in (
+      fed.0,
+      fed.2,
+      text_more c.args.text.now i.0 c.loop-rest.rest.now c.split_at.result.0.now c.split_at.result.1.now fed.0 i.2
+          (split _ c.loop-rest.rest.now c.split_at.result.0.now c.split_at.result.1.now c.split_at.ensures.front c.split_at.ensures.back)
+          (fed_more c.loop-rest.importer.directory i.0 c.split_at.result.0.now fed.0 c.loop-rest.importer.fed i.1 fed.1),
+      c.in_ok-feed.ensures.directory ∙ i.3,
+    )
 
 pub returns-clause-fed : goal.returns-clause-fed
 returns-clause-fed g c =

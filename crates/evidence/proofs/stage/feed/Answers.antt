@@ -22,19 +22,19 @@ returns-in-Head-clause-fed g c =
     let head = c.in-Head.field-0.items in
     let none : c.take_head-rest.result.now ≡ [] = c.take_head-rest.ensures.all c.args.directory.now c.requires (subst IsShort (sym c.in-Head.is) tt) in
     let few = subst (IsStage c.args.directory.now g.P.Program.means) c.in-Head.is (c.take_head-rest.ensures.stage c.args.directory.now c.requires) in
-    let all : head ++ c.take_head-rest.result.now ≡ head = ap (λ (t : List ℕ). head ++ t) none ∙ append-nil head in
-    (head,
-    c.take_head-rest.ensures.alike c.args.directory.now c.requires reads
-    ∙ ap (fed_by reads c.take_head-rest.result.now) (ap fed_of c.in-Head.is)
-    ∙ short_fed reads head c.take_head-rest.result.now (rw all few)
-    ∙ ap (λ (t : List ℕ). let told : Result (List ℕ) ImportFault = Ok t in told) all,
-    ap fed_of c.in-Head.is)
+    let all : head ++ c.take_head-rest.result.now ≡ head = ap (λ (t : List ℕ). head ++ t) none ∙ append-nil head in (
+      head,
+      c.take_head-rest.ensures.alike c.args.directory.now c.requires reads
+          ∙ ap (fed_by reads c.take_head-rest.result.now) (ap fed_of c.in-Head.is)
+          ∙ short_fed reads head c.take_head-rest.result.now (rw all few)
+          ∙ ap (λ (t : List ℕ). let told : Result (List ℕ) ImportFault = Ok t in told) all,
+      ap fed_of c.in-Head.is,
+    )
 
 pub returns-in-Items-clause-stage : goal.returns-in-Items-clause-stage
 returns-in-Items-clause-stage g c =
     let r = c.in-Items.reading in
-    let p = subst (IsStage c.args.directory.now g.P.Program.means) c.in-Items.is (c.take_head-rest.ensures.stage c.args.directory.now c.requires) in
-    (
+    let p = subst (IsStage c.args.directory.now g.P.Program.means) c.in-Items.is (c.take_head-rest.ensures.stage c.args.directory.now c.requires) in (
       c.feed.ensures.under p.0,
       subst IsKnown (sym c.feed.ensures.magic) p.1,
       subst (λ (m : List ℕ). IfOk c.feed.new.self.fed (BeginsWith m)) (sym c.feed.ensures.magic) (begins_on (checked_of c.args.directory.now) r.magic c.take_head-rest.result.now c.feed.result r.fed c.feed.new.self.fed p.2 (c.feed.ensures.fed p.0)),
