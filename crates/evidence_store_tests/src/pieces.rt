@@ -1,5 +1,7 @@
 //! The text of two items that comes in pieces.
 
+ghost use Rattle.std.specs.Prelude.{◌≡◌};
+
 use crate::samples::{Store, new_store};
 use crate::texts::{Text, text_of_two};
 use evidence_store::{Evidence, Importer};
@@ -18,11 +20,16 @@ struct Told {
 }
 
 /// Feeds the text in pieces of this length, and the last of what is left. The number of the refusal, or 0.
-fn feed(importer: &mut Importer<Tally>, text: &[u8], length: usize) -> u8 {
-    for piece in text.chunks(length.max(1)) {
+fn feed(importer: &mut Importer<Tally>, text: &[u8], length: usize) -> u8
+    ensures { importer.new.directory ≡ importer.old.directory }
+{
+    let mut rest = text;
+    while !rest.is_empty() {
+        let (piece, left) = rest.split_at(rest.len().min(length.max(1)));
         if let Err(fault) = importer.feed(&Tally, piece) {
             return fault.cause.number();
         }
+        rest = left;
     }
     0
 }
