@@ -1,5 +1,5 @@
 -- What a text shows whatever its items are, and what the end of a whole text shows.
-use Rattle.std.proofs.Common.{◌≡◌, ℕ, zero, suc, ◌≤◌, Bool, true, false, List, [], ◌∷◌, ◌++◌, length, take, drop, Option, Some, None, Result, Ok, Err, refl, sym, ap, ◌∙◌, ◌⊎◌, inl, inr, arith}
+use Rattle.std.proofs.Common.{◌≡◌, ℕ, zero, suc, ◌≤◌, Bool, true, false, List, [], ◌∷◌, ◌++◌, length, take, drop, Option, Some, None, Result, Ok, Err, refl, sym, ap, ◌∙◌, ◌⊎◌, inl, inr}
 use Rattle.std.specs.Prelude.{IfOk}
 use Rattle.std.specs.Int.{w64, from_be_bytes}
 use Rattle.std.specs.Str.{bytes_eq}
@@ -9,13 +9,13 @@ use Rattle.item_forms.specs.declared.limits.TheConstants.{LONGEST_ITEM}
 use Rattle.containers.specs.declared.fault.Cause.{Cause}
 use Rattle.containers.specs.declared.fault.Cause.TheVariants as cause
 use Rattle.containers.specs.declared.fault.ImportFault.{ImportFault}
-use Rattle.outcome.specs.Outcome.{◌>>=◌, told_as}
+use Rattle.outcome.specs.Outcome.{told_as}
 use Rattle.containers.specs.Container.{as_fault, fed_with, import_of}
-use Rattle.containers.specs.Refusals.{IsBehindFront, IsOfItems, Refuses, fault_at}
+use Rattle.containers.specs.Refusals.{IsOfItems, Refuses, fault_at}
 use Rattle.containers.specs.Stages.{State, begun, len_of, items_on, state_of, go_on}
 use Rattle.containers.specs.within.Going.{Reads, at_end}
 use Rattle.containers.specs.within.Seen.{fed_of}
-use Rattle.containers.proofs.Ending.{ended, container_ends}
+use Rattle.containers.proofs.Ending.{container_ends}
 use Rattle.containers.proofs.Fed.{kept}
 use Rattle.containers.proofs.Joining.{then_more, state_joined}
 use Rattle.containers.proofs.Staying.{kept_is}

@@ -1,11 +1,10 @@
 -- What the code does with the bytes of a part, as states.
-use Rattle.std.proofs.Common.{◌≡◌, ℕ, zero, suc, ◌-◌, ◌+◌, ◌≤◌, ◌<◌, true, List, [], ◌∷◌, ◌++◌, length, take, drop, Option, Some, None, Result, Ok, Err, refl, sym, ap, subst, ◌∙◌, arith, ◌⊎◌, inl, inr, append_assoc}
+use Rattle.std.proofs.Common.{◌≡◌, ℕ, zero, suc, ◌-◌, ◌≤◌, ◌<◌, List, [], ◌∷◌, ◌++◌, length, take, drop, Option, Some, None, Result, Ok, Err, refl, sym, ap, subst, ◌∙◌, arith, ◌⊎◌, inl, inr, append_assoc}
 use Rattle.std.proofs.lemmas.Bool.{cases_lt}
 use Rattle.std.proofs.lemmas.List.{length-append, length-take, take_at, drop_at, append-nil, take-append-drop}
 use Rattle.std.specs.Prelude.{IfErr, IfOk}
 use Rattle.outcome.specs.Outcome.{told_as}
 use Rattle.item_forms.specs.declared.forms.Fields.{Fields}
-use Rattle.item_forms.specs.declared.limits.TheConstants.{LONGEST_ITEM}
 use Rattle.evidence_item.specs.Checking.{Checked}
 use Rattle.containers.specs.declared.fault.Cause.{Cause}
 use Rattle.containers.specs.declared.fault.Cause.TheVariants as cause
@@ -19,9 +18,9 @@ use Rattle.containers.specs.Stages.{State, len_of, reads_on, go_on}
 use Rattle.containers.specs.within.Going.{EndsOn, GoesOn, IsOneMore, IsRead, LeadsAlike, LeadsOrReads, Leaves, Reads, TakesItem, at_end}
 use Rattle.containers.specs.within.Parts.{IsCut, IsHeldOn, IsLength, IsOver, IsPart, IsTaken, IsWhole}
 use Rattle.containers.specs.within.Resting.{IsResting, Rests}
-use Rattle.containers.specs.within.Seen.{IsParted, Stands, StandsWith, last_text, seen, with_more}
+use Rattle.containers.specs.within.Seen.{IsParted, Stands, last_text, seen, with_more}
 use Rattle.containers.proofs.CheckedLists.{fields_count, one_waited}
-use Rattle.containers.proofs.Taking.{behind_front, cut_is, cut_of_items, held_alike, item_behind, len_front, short_is, taken_falls, taken_goes, taken_rests, whole_is, whole_of_items}
+use Rattle.containers.proofs.Taking.{behind_front, cut_is, cut_of_items, held_alike, item_behind, len_front, taken_falls, taken_goes, taken_rests, whole_is, whole_of_items}
 use Rattle.containers.proofs.Turning.{is_at_rest, item_wrong, nothing_more}
 
 -- ---- what is held, in two

@@ -1,19 +1,19 @@
 -- What bytes of an item do to a reading.
-use Rattle.std.proofs.Common.{◌≡◌, ℕ, zero, suc, ◌-◌, ◌+◌, ◌≤◌, ◌<◌, List, [], ◌∷◌, ◌++◌, length, take, drop, Option, Some, None, Result, Ok, Err, refl, sym, ap, ◌∙◌, arith, inl, inr}
+use Rattle.std.proofs.Common.{◌≡◌, ℕ, zero, suc, ◌-◌, ◌+◌, ◌≤◌, ◌<◌, List, [], ◌∷◌, ◌++◌, length, take, drop, Some, Result, Ok, Err, refl, sym, ap, ◌∙◌, arith, inl, inr}
 use Rattle.std.proofs.lemmas.Bool.{cases_lt}
-use Rattle.std.proofs.lemmas.List.{length-append, take_at, drop_at, take-append-le, append-nil}
+use Rattle.std.proofs.lemmas.List.{length-append, drop_at, take-append-le}
 use Rattle.outcome.specs.Outcome.{◌>>=◌, told_as}
 use Rattle.item_forms.specs.declared.forms.Fields.{Fields}
 use Rattle.item_forms.specs.declared.limits.TheConstants.{LONGEST_ITEM}
 use Rattle.containers.specs.declared.fault.Cause.{Cause}
 use Rattle.containers.specs.declared.fault.Cause.TheVariants as cause
 use Rattle.containers.specs.declared.fault.ImportFault.{ImportFault}
-use Rattle.containers.specs.Refusals.{IsBehindFront, IsOfChecking, IsOfItems, fault_at}
-use Rattle.containers.specs.Stages.{State, waits, len_of, items_on, reads_on, go_on}
+use Rattle.containers.specs.Refusals.{IsBehindFront, IsOfItems, fault_at}
+use Rattle.containers.specs.Stages.{State, len_of, items_on, reads_on, go_on}
 use Rattle.containers.specs.within.Going.{IsRead, Reads, at_end}
 use Rattle.containers.specs.within.Parts.{IsCut, IsHeldOn, IsTaken, IsWhole}
 use Rattle.containers.specs.within.Resting.{IsResting, Rests}
-use Rattle.containers.proofs.Steps.{short, too_long, cut, behind, whole, none_held, over}
+use Rattle.containers.proofs.Steps.{short, too_long, cut, whole, none_held, over}
 use Rattle.containers.proofs.Turning.{item_rests, item_taken, next_item, opened}
 
 -- ---- a length and a body

@@ -1,8 +1,7 @@
 -- What pieces of the text of a set do to an importer.
-use Rattle.std.proofs.Common.{◌≡◌, ℕ, ◌<◌, ◌≤◌, Bool, true, false, cond, ltb, List, [], ◌∷◌, ◌++◌, length, take, Result, Ok, Err, refl, sym, ap, subst, ◌∙◌, ◌⊎◌, inl, inr, append_assoc, arith}
+use Rattle.std.proofs.Common.{◌≡◌, ℕ, ◌<◌, ◌≤◌, Bool, true, false, cond, ltb, List, [], ◌∷◌, ◌++◌, length, take, Result, Ok, Err, refl, sym, ap, subst, ◌∙◌, inl, inr, append_assoc, arith}
 use Rattle.std.specs.Prelude.{IfErr, IfOk, IsOk, OnOk, nat_eq}
-use Rattle.std.specs.List.{All, starts_with}
-use Rattle.std.specs.List.Sorted.{IsStrictlySortedBy}
+use Rattle.std.specs.List.{starts_with}
 use Rattle.std.specs.Str.{bytes_eq}
 use Rattle.std.proofs.lemmas.Bool.{cases_lt, le-ltb, lt-ltb}
 use Rattle.std.proofs.lemmas.List.{length-append, take_at}
@@ -13,17 +12,15 @@ use Rattle.outcome.proofs.Steps.{Ok-inj}
 use Rattle.authenticators.specs.Directory.{Listing}
 use Rattle.replay_verifier.specs.Meaning.{Meaning}
 use Rattle.item_forms.specs.declared.forms.Fields.{Fields}
-use Rattle.item_forms.specs.Pieces.{Piece, by_bytes}
 use Rattle.evidence_item.specs.Checking.{Checked}
-use Rattle.containers.specs.declared.fault.Cause.{Cause}
 use Rattle.containers.specs.declared.fault.Cause.TheVariants as cause
 use Rattle.containers.specs.declared.fault.ImportFault.{ImportFault}
 use Rattle.containers.specs.CheckedItems.{checked_of, fields_of as checked_fields}
 use Rattle.containers.specs.Container.{CutOff, Faulty, Refusal, as_fault, container_of, fed_with, import_of, kept_on}
 use Rattle.containers.specs.Feeding.{AreItems, Feeding, Feeds, IsReadUnder, import_fed}
 use Rattle.containers.specs.Refusals.{IsBehindFront, IsOfItems, fault_at}
-use Rattle.evidence_set.specs.Exports.{IsTextOf, SetsHaveOneText, fields_of, magic, magic_of, old_magic, set_text}
-use Rattle.evidence_set.specs.ItemSets.{pieces, set_of}
+use Rattle.evidence_set.specs.Exports.{IsTextOf, SetsHaveOneText, fields_of, magic, magic_of, old_magic}
+use Rattle.evidence_set.specs.ItemSets.{pieces}
 use Rattle.containers.proofs.Staying.{faults_stay}
 use Rattle.evidence.specs.Importing.{RefusedPiecesStay, fed_by, import_set, imported_under}
 use Rattle.evidence.specs.within.Stages.{BeginsWith, GoesOn, IsBegun, IsKnown, IsOpen, IsStage, Reads, fed_of}

@@ -1,6 +1,5 @@
 -- What is gone over and not kept.
 use Rattle.std.proofs.Common.{◌≡◌, ℕ, suc, ◌+◌, ◌-◌, ◌<◌, List, Result, Ok, Err, refl, sym, ◌∙◌, arith}
-use Rattle.outcome.specs.Outcome.{◌>>=◌}
 use Rattle.log_chain.specs.declared.fault.FieldFault.{FieldFault}
 use Rattle.log_chain.specs.declared.fault.FieldFault.TheVariants as field
 use Rattle.log_chain.specs.Fields.{Read, parts_at}

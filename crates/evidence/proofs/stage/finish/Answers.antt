@@ -1,6 +1,5 @@
-use Rattle.std.proofs.Common.{◌≡◌, List, ℕ, Result, Ok, Err, ap, subst, sym, ◌∙◌}
+use Rattle.std.proofs.Common.{◌≡◌, List, ℕ, Ok, ap, subst, ◌∙◌}
 use Rattle.std.specs.List.Sorted.{IsStrictlySortedBy}
-use Rattle.containers.specs.declared.fault.ImportFault.{ImportFault}
 use Rattle.containers.specs.Feeding.{AreItems, import_fed}
 use Rattle.item_forms.specs.Pieces.{by_bytes}
 use Rattle.evidence_set.specs.Exports.{magic_of, set_text}

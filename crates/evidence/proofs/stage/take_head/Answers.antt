@@ -1,7 +1,7 @@
-use Rattle.std.proofs.Common.{◌≡◌, List, ℕ, Ok, sym, ap, subst, ◌∙◌, arith}
+use Rattle.std.proofs.Common.{List, ℕ, ap, subst, ◌∙◌, arith}
 use Rattle.evidence.specs.within.Stages.{IsBegun, IsOpen, fed_of}
 use Rattle.evidence.specs.Importing.{fed_by}
-use Rattle.evidence.proofs.Importing.{begun_alike, begun_goes}
+use Rattle.evidence.proofs.Importing.{begun_alike}
 use Rattle.evidence.proofs.stage.take_head.Goals as goal
 
 pub fill-rest-requires : goal.fill-rest-requires

@@ -1,4 +1,4 @@
-use Rattle.std.proofs.Common.{Err, ap, sym, ◌∙◌}
+use Rattle.std.proofs.Common.{sym}
 use Rattle.std.proofs.lemmas.Result.{err_from_is_err_and}
 use Rattle.item_forms.specs.declared.forms.Fields.TheVariants as form
 use Rattle.evidence_item.specs.Validity.{early_fault, fault_of}

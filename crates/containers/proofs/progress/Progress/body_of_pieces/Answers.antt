@@ -1,4 +1,4 @@
-use Rattle.std.proofs.Common.{◌≡◌, ◌∙◌, ◌-◌, ◌++◌, ℕ, List, length, sym, ap, subst, arith, inl}
+use Rattle.std.proofs.Common.{◌≡◌, ◌-◌, ℕ, List, length, sym, ap, subst, arith, inl}
 use Rattle.std.proofs.lemmas.Result.{err_from_is_err_and}
 use Rattle.evidence_item.specs.Checking.{Checked}
 use Rattle.outcome.specs.Outcome.{told_as}
@@ -6,7 +6,7 @@ use Rattle.containers.specs.CheckedItems.{checked_of, fields_of}
 use Rattle.containers.specs.Refusals.{Refuses, fault_at}
 use Rattle.containers.specs.within.Going.{IsOneMore}
 use Rattle.containers.specs.within.Seen.{last_text}
-use Rattle.containers.proofs.Parting.{any_of_items, empty_parted, of_items, taken, wrong}
+use Rattle.containers.proofs.Parting.{any_of_items, empty_parted, taken, wrong}
 use Rattle.containers.proofs.progress.Progress.body_of_pieces.Goals as goal
 
 pub returns-in-Err-clause-of_items : goal.returns-in-Err-clause-of_items
