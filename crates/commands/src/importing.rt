@@ -44,8 +44,10 @@ fn new_importer<P: Program>(alloc: Global, directory: &Directory) -> Result<Impo
     ensures { IfOk result (λ i. i ≡ record { directory = directory.now; fed = Ok [] }) }
 {
     let copy = directory.try_clone()?;
-    let importer = Importer::new(alloc, copy)?;
-    Ok(importer)
+    match Importer::new(alloc, copy) {
+        Ok(importer) => Ok(importer),
+        Err(_) => Err(Memory),
+    }
 }
 
 /// Reads the text of a set in pieces, and adds its items to the store: all, or none.
