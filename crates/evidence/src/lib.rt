@@ -1,9 +1,15 @@
-//! What every store of evidence does (PeerReview, SOSP 2007: evidence and failure indications), however it is kept: the trait
-//! [`Evidence`], and why its calls refuse. A store is a set of checked items under one directory, and says of each node what they
-//! show.
+//! What every store of evidence does (PeerReview, SOSP 2007: evidence and failure indications), however it is kept. A store is a
+//! set of checked items under one directory, and says of each node what they show.
+//!
+//! - [`Evidence`] is the trait of stores. [`AskFault`], [`NewStoreRefused`], [`TakeRefused`] and [`UnknownNode`] say why its calls
+//!   refuse.
+//! - [`Importer`] reads the text of a set that comes in pieces, and hands its items to a store. [`MAGIC`] is what stands at the front
+//!   of the text that is written.
+//! - [`laws`] has what follows from the definitions.
 //!
 //! The contract of the trait speaks of the directory and of the set of items alone, in the words of `evidence_set`.
-//! `specs/Contents.antt` has what contracts see of a store, `specs/Refusals.antt` the numbers of refusals.
+//! `specs/Contents.antt` has what contracts see of a store, `specs/Importing.antt` what they see of an importer, and
+//! `specs/Refusals.antt` the numbers of refusals.
 #![tactic(auto)]
 
 pub use evidence::Evidence;
