@@ -1,15 +1,16 @@
 #!/usr/bin/env python3
-"""Computes, over Python's hashlib alone, the digests of a summary and of a pack that the tests of transfer hold, and that of the union
-of what three witnesses took in the tests of witness_core, and looks for each in its file.
+"""Computes, over Python's hashlib alone, the digests of a summary, a pack, an outline and a short summary that the tests of transfer
+hold, and that of the union of what three witnesses took in the tests of witness_core, and looks for each in its file.
 
-It shares no code with the crates: the keys and the hash of a text are those of nodes.py, and items, summary and pack are spelled here
-from the formats (docs/FORMATS.md).
+It shares no code with the crates: the keys and the hash of a text are those of nodes.py, a log is that of stores.py, and items, summary
+and pack are spelled here from the formats (docs/FORMATS.md).
 """
 
 import os
 import sys
 
 from nodes import Key, sha256, u8, u32, u64
+from stores import ZEROS, Keys
 
 CRATES = os.path.join(os.path.dirname(os.path.abspath(__file__)), "..", "crates")
 TRANSFER = os.path.join(CRATES, "transfer_tests", "src", "calls.rt")
@@ -32,11 +33,41 @@ def summary(items):
     return b"PRSUMM01" + u64(len(items)) + b"".join(sorted(sha256(item) for item in items))
 
 
+def buckets(items):
+    """The digests of the items, in 256 buckets by their first bytes, each in its order."""
+    digests = sorted(sha256(item) for item in items)
+    return [[digest for digest in digests if digest[0] == b] for b in range(256)]
+
+
+def outline(items):
+    return b"PROUTL01" + b"".join(sha256(*bucket) for bucket in buckets(items))
+
+
+def short_summary(items, told):
+    """The summary against the outline of this text. Some bucket is kept."""
+    text = b"PRSUMM02"
+    for b, bucket in enumerate(buckets(items)):
+        digest = sha256(*bucket)
+        same = told[8 + 32 * b : 40 + 32 * b] == digest
+        text += u8(1) + digest if same else u8(0) + u64(len(bucket)) + b"".join(bucket)
+    return text
+
+
 def taken():
-    """A directory of node 1, and the four statements that witnesses take in the tests of witness_core."""
-    key = Key(1, 3)
-    directory = b"PRDIREC2" + u32(1) + u32(1) + u8(1) + u32(5) + u32(3) + key.identifier + key.tree[1]
-    return directory, [statement(key, *of) for of in ((5, 7), (5, 8), (6, 9), (6, 10))]
+    """A directory of the nodes 1 and 2, and the five items that witnesses take in the tests of witness_core, signed in their order: two
+    statements of node 1 on entry 5 that differ in their signatures alone, and one that has another hash; node 2's log from its third
+    entry on, and its statement that the fourth has another hash."""
+    keys = Keys()
+    listed = b"".join(u32(node) + u8(1) + keys.key(node, 0).public() for node in (1, 2))
+    seven, eight = bytes([7]) * 32, bytes([8]) * 32
+    items = [
+        keys.auth(1, 5, seven, 0),
+        keys.auth(1, 5, seven, 1),
+        keys.auth(1, 5, eight),
+        keys.log_from(3),
+        keys.auth(2, 4, ZEROS),
+    ]
+    return b"PRDIREC2" + u32(2) + listed, items
 
 
 def main():
@@ -45,9 +76,18 @@ def main():
     told = summary([first, third])
     named = {told[16 + 32 * k : 48 + 32 * k] for k in range(2)}
     given = container(b"PRPACK01", [item for item in (first, second) if sha256(item) not in named])
+    outlined = outline([first, second])
+    short = short_summary([first, third], outlined)
     union = container(b"PRSTORE2", taken()[1])
     missing = 0
-    for name, text, tests in (("summary", told, TRANSFER), ("pack", given, TRANSFER), ("union", union, WITNESSES)):
+    sought = (
+        ("summary", told, TRANSFER),
+        ("pack", given, TRANSFER),
+        ("outline", outlined, TRANSFER),
+        ("short summary", short, TRANSFER),
+        ("union", union, WITNESSES),
+    )
+    for name, text, tests in sought:
         value = sha256(text).hex()
         with open(tests, encoding="utf-8") as file:
             found = value in file.read()

@@ -147,7 +147,7 @@ def spread(build):
     """What `merge` writes of the stores of three witnesses, one of whom writes an older text, is the text whose digest the tests of
     witness_core hold."""
     directory, items = transfers.taken()
-    sent = (b"PRSTORE2", (0, 1)), (b"PRSTORE1", (1, 2)), (b"PRSTORE2", (2, 3, 0))
+    sent = (b"PRSTORE2", (0, 1)), (b"PRSTORE1", (1, 2, 3)), (b"PRSTORE2", (3, 4, 0))
     stores = [transfers.container(magic, [items[place] for place in places]) for magic, places in sent]
     lines = "\n".join(text.hex() for text in (directory, *stores))
     with open(transfers.WITNESSES) as file:

@@ -16,7 +16,8 @@ use Rattle.log_chain.specs.Fields.{IsBytesOf}
 use Rattle.item_forms.specs.Pieces.{Piece}
 use Rattle.item_forms.specs.Spelling.{spelling}
 use Rattle.evidence_set.specs.ItemSets.{Items, SetsAreLists, listed}
-use Rattle.transfer.specs.Digests.{AreDigests, DigestsAsExpected, IsDigestIn, bucket, buckets, by_digest, digest_of, digests_in, first_byte, in_order, numbers, placed, put}
+use Rattle.item_digests.specs.Digests.{digest_of}
+use Rattle.transfer.specs.Digests.{AreDigests, DigestsAsExpected, IsDigestIn, bucket, buckets, by_digest, digests_in, first_byte, in_order, numbers, placed, put}
 use Rattle.evidence_set.proofs.HashBytes.{whole_hash}
 use Rattle.transfer.proofs.Members.{first, here_or_later, keeps, kept, later, none_here}
 

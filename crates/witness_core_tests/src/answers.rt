@@ -23,7 +23,7 @@ fn refusals_have_numbers_names_and_lines(rt: HostRuntime) -> Result<(), Fail> {
             Cause::NoPacket,
             81,
             "NoPacket",
-            "no summary or pack of this number was made",
+            "no outline, summary or pack of this number was made",
         ),
         (
             Cause::UnknownNode,
@@ -46,8 +46,8 @@ fn world_of(alloc: Global, signer: &Signer, count: u64) -> Result<Box<TallyWorld
     make_world(alloc, &signer.directory, count)
 }
 
-/// The replies to a statement that one witness takes twice, to its summary, to the pack of all that it has against none, to that
-/// pack's delivery at another witness, twice, to a question, and to an export.
+/// The replies to a statement that one witness takes twice, to another one's summary, to the pack of all that the first has against
+/// it, to that pack's delivery at the other, twice, to a question, and to an export.
 fn replies_to_one_statement(alloc: Global) -> Result<[(u8, u64); 8], Fail> {
     let mut signer = make_signer(alloc)?;
     let mut world = world_of(alloc, &signer, 2)?;
@@ -104,6 +104,69 @@ fn each_event_has_its_reply(rt: HostRuntime) -> Result<(), Fail> {
             (4, 0),
             (5, 0),
             (6, 2417)
+        ]
+    );
+    Ok(())
+}
+
+/// Two witnesses of whom the first has one statement: what is told of the first one's outline, of the second one's outline, of the second
+/// one's short summary against each, of the first one's packs against both summaries, and of their deliveries at the second.
+fn replies_to_outlines(alloc: Global) -> Result<[(u8, u64); 8], Fail> {
+    let mut signer = make_signer(alloc)?;
+    let mut world = world_of(alloc, &signer, 2)?;
+    let item = statement(alloc, &mut signer, 5, 7)?;
+    let world = &mut world;
+    take(alloc, &Tally, world, 0, item)?;
+    let told = [
+        tell(alloc, world, Event::Outline { witness: 0 }),
+        tell(alloc, world, Event::Outline { witness: 1 }),
+        short(alloc, world, 1, 0),
+        short(alloc, world, 1, 1),
+        pack_against(alloc, world, 0, 0),
+        pack_against(alloc, world, 1, 0),
+        tell(
+            alloc,
+            world,
+            Event::Deliver {
+                pack: 1,
+                witness: 1,
+            },
+        ),
+        tell(
+            alloc,
+            world,
+            Event::Deliver {
+                pack: 0,
+                witness: 1,
+            },
+        ),
+    ];
+    Ok(told)
+}
+
+/// What the witness's short summary against the outline is told.
+fn short(alloc: Global, world: &mut TallyWorld, witness: u64, outline: u64) -> (u8, u64) {
+    tell(alloc, world, Event::Short { witness, outline })
+}
+
+/// What the witness's pack against the summary is told.
+fn pack_against(alloc: Global, world: &mut TallyWorld, witness: u64, summary: u64) -> (u8, u64) {
+    tell(alloc, world, Event::Pack { witness, summary })
+}
+
+#[test]
+fn outlines_and_short_summaries_have_numbers(rt: HostRuntime) -> Result<(), Fail> {
+    assert_eq!(rt;
+        replies_to_outlines(rt.alloc())?,
+        [
+            (7, 0),
+            (7, 1),
+            (2, 0),
+            (2, 1),
+            (3, 0),
+            (3, 1),
+            (4, 0),
+            (4, 1)
         ]
     );
     Ok(())
@@ -173,7 +236,7 @@ fn a_pack_at_its_maker_brings_nothing(rt: HostRuntime) -> Result<(), Fail> {
 }
 
 /// The refusals of events in a world of one witness that made one summary, after which it makes another one.
-fn refusals_in_a_small_world(alloc: Global) -> Result<[(u8, u64); 6], Fail> {
+fn refusals_in_a_small_world(alloc: Global) -> Result<[(u8, u64); 8], Fail> {
     let signer = make_signer(alloc)?;
     let mut world = world_of(alloc, &signer, 1)?;
     let world = &mut world;
@@ -206,6 +269,8 @@ fn refusals_in_a_small_world(alloc: Global) -> Result<[(u8, u64); 6], Fail> {
         ),
         tell(alloc, world, Event::Ask { witness: 1, node }),
         tell(alloc, world, Event::Ask { witness: 0, node }),
+        short(alloc, world, 1, 0),
+        short(alloc, world, 0, 0),
         tell(alloc, world, Event::Summarise { witness: 0 }),
     ])
 }
@@ -214,7 +279,16 @@ fn refusals_in_a_small_world(alloc: Global) -> Result<[(u8, u64); 6], Fail> {
 fn refusals_come_in_their_order(rt: HostRuntime) -> Result<(), Fail> {
     assert_eq!(rt;
         refusals_in_a_small_world(rt.alloc())?,
-        [(0, 80), (0, 81), (0, 81), (0, 80), (0, 82), (2, 1)]
+        [
+            (0, 80),
+            (0, 81),
+            (0, 81),
+            (0, 80),
+            (0, 82),
+            (0, 80),
+            (0, 81),
+            (2, 1)
+        ]
     );
     Ok(())
 }

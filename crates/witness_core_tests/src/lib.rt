@@ -4,6 +4,10 @@
 #[cfg(test)]
 mod answers;
 #[cfg(test)]
+mod samples;
+#[cfg(test)]
 mod spreading;
 #[cfg(test)]
 mod testing;
+#[cfg(test)]
+mod texts;

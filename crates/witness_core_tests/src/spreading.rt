@@ -1,7 +1,8 @@
-//! Evidence spreads through three witnesses by packs that are lost, doubled and crossed, in three orders.
+//! Evidence spreads through three witnesses by packs that are lost, doubled and crossed, in three orders and against summaries of both
+//! kinds.
 
-use crate::testing::{copy_of, make_signer, make_world, statement, take, tell};
-use authenticators::Directory;
+use crate::samples::make_sample;
+use crate::testing::{copy_of, make_world, take, tell};
 use evidence_item::Item;
 use evidence_store::{Evidence, PlainStore};
 use log_chain::Hash;
@@ -14,23 +15,11 @@ use witness_core::{Event, World};
 
 type TallyWorld = World<Tally, PlainStore<Tally>>;
 
-/// Four statements of node 1: two on entry 5 and two on entry 6, each with a hash of its own.
-fn four_statements(alloc: Global) -> Result<(Box<Directory>, [Box<Item>; 4]), Fail> {
-    let mut signer = make_signer(alloc)?;
-    let items = [
-        statement(alloc, &mut signer, 5, 7)?,
-        statement(alloc, &mut signer, 5, 8)?,
-        statement(alloc, &mut signer, 6, 9)?,
-        statement(alloc, &mut signer, 6, 10)?,
-    ];
-    Ok((signer.directory, items))
-}
-
 /// The witnesses take the items that these pairs of a witness and an item name.
 fn give(
     alloc: Global,
     world: &mut TallyWorld,
-    items: &[Box<Item>; 4],
+    items: &[Box<Item>; 5],
     pairs: &[(u64, usize)],
 ) -> Result<(), Fail> {
     for (witness, place) in pairs {
@@ -48,19 +37,54 @@ fn merged<P: Program, S: Evidence<P>>(alloc: Global, world: &World<P, S>) -> Res
     };
     let mut all: S = S::new(alloc, first.directory().try_clone()?)?;
     for store in world.stores() {
-        all.merge(store)?;
+        if all.shares_directory(store) {
+            all.merge(store)?;
+        }
     }
     Ok(all.export()?)
 }
 
-/// Each witness makes a summary, and packs against the summaries of both others: packs 0 and 1 are the first one's, 2 and 3 the
-/// second's, 4 and 5 the third's.
-fn make_packs(alloc: Global, world: &mut TallyWorld) {
+/// Which summaries the witnesses make.
+#[derive(Clone, Copy)]
+enum Kind {
+    /// Those that list all.
+    Whole,
+    /// Short ones, against the outlines of those who pack.
+    Short,
+}
+
+/// Who packs for whom: pack k is made by the first of pair k, against a summary of the second.
+const PAIRS: [(u64, u64); 6] = [(0, 1), (0, 2), (1, 0), (1, 2), (2, 0), (2, 1)];
+
+/// The witness makes a summary for the one who packs.
+fn summarise(alloc: Global, world: &mut TallyWorld, kind: Kind, witness: u64, packer: u64) {
+    match kind {
+        Kind::Whole => tell(alloc, world, Event::Summarise { witness }),
+        Kind::Short => tell(
+            alloc,
+            world,
+            Event::Short {
+                witness,
+                outline: packer,
+            },
+        ),
+    };
+}
+
+/// Each witness makes an outline, then summaries for both others, and then packs against the summaries of both others.
+fn make_packs(alloc: Global, world: &mut TallyWorld, kind: Kind) {
     for witness in 0..3 {
-        tell(alloc, world, Event::Summarise { witness });
+        tell(alloc, world, Event::Outline { witness });
     }
-    for (witness, summary) in [(0, 1), (0, 2), (1, 0), (1, 2), (2, 0), (2, 1)] {
-        tell(alloc, world, Event::Pack { witness, summary });
+    for (packer, witness) in PAIRS {
+        summarise(alloc, world, kind, witness, packer);
+    }
+    for (summary, (witness, _)) in PAIRS.iter().enumerate() {
+        let event = Event::Pack {
+            witness: *witness,
+            summary: summary as u64,
+        };
+        tell(alloc, world, event);
     }
 }
 
@@ -95,14 +119,15 @@ fn exported(world: &TallyWorld, witness: usize) -> Result<Hash, Fail> {
 /// Three witnesses take the items of these pairs, make packs, and get these deliveries.
 fn spread(
     alloc: Global,
+    kind: Kind,
     pairs: &[(u64, usize)],
     deliveries: &[(u64, u64)],
 ) -> Result<Exports, Fail> {
-    let (directory, items) = four_statements(alloc)?;
-    let mut world: Box<TallyWorld> = make_world(alloc, &directory, 3)?;
-    give(alloc, &mut world, &items, pairs)?;
+    let sample = make_sample(alloc)?;
+    let mut world: Box<TallyWorld> = make_world(alloc, &sample.directory, 3)?;
+    give(alloc, &mut world, &sample.items, pairs)?;
     let together = Hash(Sha256::digest(&merged(alloc, &world)?));
-    make_packs(alloc, &mut world);
+    make_packs(alloc, &mut world, kind);
     deliver(alloc, &mut world, deliveries);
     Ok(Exports {
         first: exported(&world, 0)?,
@@ -112,10 +137,10 @@ fn spread(
     })
 }
 
-/// The text of the four statements, by `reference/transfers.py`.
-const ALL: &str = "b7b746db1e05984c15b3375c3e8af11286e401c71e4d3549b9920dc0083e81e2";
+/// The text of the five items, by `reference/transfers.py`.
+pub(crate) const ALL: &str = "04b9bd37539f3f981b2739e6999f0101c63e9b7f927c3f878a3e50896e70b626";
 
-/// Whether all four texts are that of the four statements.
+/// Whether all four texts are that of the five items.
 fn is_all(alloc: Global, exports: &Exports) -> Result<bool, Fail> {
     for hash in [
         exports.first,
@@ -130,19 +155,34 @@ fn is_all(alloc: Global, exports: &Exports) -> Result<bool, Fail> {
     Ok(true)
 }
 
-/// Packs 0 and 3 are lost; the second witness gets what the first has by the third one.
+/// Whether all is everywhere at the end, with summaries of both kinds.
+fn spreads(alloc: Global, pairs: &[(u64, usize)], deliveries: &[(u64, u64)]) -> Result<bool, Fail> {
+    let whole = spread(alloc, Kind::Whole, pairs, deliveries)?;
+    let short = spread(alloc, Kind::Short, pairs, deliveries)?;
+    Ok(is_all(alloc, &whole)? && is_all(alloc, &short)?)
+}
+
+/// Packs 0 and 1 are lost: the second witness gets what the first has by the third one's pack, and the third by the second one's.
 #[test]
 fn packs_that_are_lost(rt: HostRuntime) -> Result<(), Fail> {
-    let takes = [(0, 0), (0, 1), (1, 1), (1, 2), (2, 2), (2, 3), (2, 0)];
-    let done = spread(rt.alloc(), &takes, &[(5, 1), (2, 0), (4, 0), (1, 2)])?;
-    assert!(rt; is_all(rt.alloc(), &done)?);
+    let takes = [
+        (0, 0),
+        (0, 1),
+        (1, 1),
+        (1, 2),
+        (1, 3),
+        (2, 3),
+        (2, 4),
+        (2, 0),
+    ];
+    assert!(rt; spreads(rt.alloc(), &takes, &[(5, 1), (2, 0), (4, 0), (3, 2)])?);
     Ok(())
 }
 
 /// Each pack comes twice, also to those for whom it was not made.
 #[test]
 fn packs_that_are_doubled(rt: HostRuntime) -> Result<(), Fail> {
-    let takes = [(2, 3), (1, 2), (1, 2), (0, 0), (0, 1)];
+    let takes = [(2, 4), (1, 3), (1, 3), (0, 2), (2, 1), (0, 0)];
     let twice = [
         (5, 1),
         (5, 1),
@@ -159,20 +199,20 @@ fn packs_that_are_doubled(rt: HostRuntime) -> Result<(), Fail> {
         (0, 0),
         (1, 1),
     ];
-    let done = spread(rt.alloc(), &takes, &twice)?;
-    assert!(rt; is_all(rt.alloc(), &done)?);
+    assert!(rt; spreads(rt.alloc(), &takes, &twice)?);
     Ok(())
 }
 
-/// The packs cross, and some reach another witness than the one whose summary they were made against.
+/// The packs cross, and each reaches another witness than the one whose summary it was made against.
 #[test]
 fn packs_that_cross(rt: HostRuntime) -> Result<(), Fail> {
-    let takes = [(1, 3), (0, 2), (2, 1), (1, 0)];
-    let done = spread(
-        rt.alloc(),
-        &takes,
-        &[(0, 2), (2, 2), (4, 1), (1, 1), (3, 0), (5, 0)],
-    )?;
-    assert!(rt; is_all(rt.alloc(), &done)?);
+    let takes = [(1, 4), (0, 3), (0, 2), (2, 1), (1, 0)];
+    assert!(rt;
+        spreads(
+            rt.alloc(),
+            &takes,
+            &[(0, 2), (2, 2), (4, 1), (1, 1), (3, 0), (5, 0)],
+        )?
+    );
     Ok(())
 }

@@ -23,17 +23,34 @@ pub(crate) struct Signer {
     pub(crate) key: Box<SecretKey>,
 }
 
-/// A node whose key makes short work of signing.
-pub(crate) fn make_signer(alloc: Global) -> Result<Signer, Fail> {
+/// The key of a node, which makes short work of signing: its identifier and its seed end in the node's number.
+pub(crate) fn make_key(alloc: Global, node: u8) -> Result<Box<SecretKey>, Fail> {
     let mut id = [0; 16];
     let mut seed = [0; 32];
-    id[15] = 1;
-    seed[31] = 1;
+    id[15] = node;
+    seed[31] = node;
     let key = SecretKey::make(alloc, LmsType::H5, OtsType::W4, id, seed)?;
-    let key = Box::new(alloc, key)?;
+    Ok(Box::new(alloc, key)?)
+}
+
+/// Node 1 alone, with its key.
+pub(crate) fn make_signer(alloc: Global) -> Result<Signer, Fail> {
+    let key = make_key(alloc, 1)?;
     let mut directory = Box::new(alloc, Directory::new(alloc))?;
     directory.add(NodeId(1), key.public_key())?;
     Ok(Signer { directory, key })
+}
+
+/// The key's signature on the statement that entry `seq` has this hash, under a random value of one byte 32 times over.
+pub(crate) fn sign(
+    alloc: Global,
+    key: &mut SecretKey,
+    seq: u64,
+    hash: Hash,
+    random: u8,
+) -> Result<ByteString, Fail> {
+    let sig = key.sign(alloc, &statement_text(seq, hash), [random; 32])?;
+    Ok(ByteString::from_vec(sig))
 }
 
 /// A statement of node 1 on entry `seq` with a hash of 32 bytes `byte`.
@@ -44,12 +61,12 @@ pub(crate) fn statement(
     byte: u8,
 ) -> Result<Box<Item>, Fail> {
     let hash = Hash([byte; 32]);
-    let sig = signer.key.sign(alloc, &statement_text(seq, hash), [9; 32])?;
+    let sig = sign(alloc, &mut signer.key, seq, hash, 9)?;
     let item = Item::auth(Authenticator {
         node: NodeId(1),
         seq,
         hash,
-        sig: ByteString::from_vec(sig),
+        sig,
     })?;
     Ok(Box::new(alloc, item)?)
 }
@@ -85,7 +102,7 @@ pub(crate) fn make_world<P: Program, S: Evidence<P>>(
     Ok(Box::new(alloc, World::new(alloc, stores))?)
 }
 
-/// What the event answers, as a pair: which of the six replies it is, and what it tells. Of a text that is how many bytes it has.
+/// What the event answers, as a pair: which of the seven replies it is, and what it tells. Of a text that is how many bytes it has.
 /// Where the event is refused, 0 and the refusal's number.
 pub(crate) fn tell<P: Program, S: Evidence<P>>(
     alloc: Global,
@@ -113,6 +130,7 @@ fn code_of(reply: &Reply) -> (u8, u64) {
         Reply::Says(Indication::Suspected) => (5, 1),
         Reply::Says(Indication::Exposed) => (5, 2),
         Reply::Bytes(text) => (6, text.len() as u64),
+        Reply::Outlined(number) => (7, *number),
     }
 }
 
