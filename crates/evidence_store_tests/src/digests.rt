@@ -10,11 +10,7 @@ use std::alloc::Global;
 use std::test::Fail;
 
 /// Takes a statement of node 1, node 2's log, and a demand to show it.
-fn fill<S: Evidence<Tally>>(
-    alloc: Global,
-    nodes: &mut Nodes,
-    store: &mut S,
-) -> Result<(), Fail> {
+fn fill<S: Evidence<Tally>>(alloc: Global, nodes: &mut Nodes, store: &mut S) -> Result<(), Fail> {
     let statement = nodes.one.statement(alloc, 5, ZEROS, 9)?;
     let log = nodes.two.log_from(alloc, 1)?;
     let audit = nodes.two.audit(alloc, Some(3))?;

@@ -6,7 +6,7 @@ ghost use Rattle.log_chain.specs.Chain.{hashes};
 use authenticators::{Authenticator, NodeId};
 use evidence_item::Segment;
 use log_chain::{ByteString, Entry, EntryList, Hash, base_hash, chain_end, entry_hash, kind};
-use proofs::{BadTag, DecodeFault, Item, RangedSegment, Parts, Proof, ProofFault};
+use proofs::{BadTag, DecodeFault, Item, Parts, Proof, ProofFault, RangedSegment};
 use std::alloc::Global;
 use std::test::Fail;
 
