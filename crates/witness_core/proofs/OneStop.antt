@@ -1,7 +1,8 @@
 -- Events stop in one way.
 use Rattle.std.proofs.Common.{◌≡◌, ◌⊎◌, ℕ, List, [], ◌∷◌, ◌++◌, length, None, Some, Option, refl, sym, ap, subst, ◌∙◌, inl, inr}
 use Rattle.std.specs.Prelude.{◌≢◌, reverse}
-use Rattle.std.proofs.Math.ListN.{reverse_aux}
+use Rattle.std.proofs.lemmas.Grind.{reverse_onto}
+use Rattle.std.proofs.lemmas.List.{append_assoc, append-nil}
 use Rattle.replay_verifier.specs.Meaning.{Meaning}
 use Rattle.evidence_set.specs.Indications.{IndicationsAreOne}
 use Rattle.evidence_set.specs.ItemSets.{JoinsAreLeastUpperBounds}
@@ -48,15 +49,18 @@ not_both : (c : Cause) (refusal : Option Cause) → refusal ≡ None → refusal
 not_both c refusal h k = let clash : None ≡ Some c = sym h ∙ k in absurd cc
 
 module _ {P S : Type 0} (program : Meaning S) (W : World) where
+  turned_over : (e : Event P) (events past : List (Event P)) → reverse (e ∷ events) ++ past ≡ reverse events ++ (e ∷ past)
+  turned_over e events past = ap (λ (l : List (Event P)). l ++ past) (reverse_onto events e []) ∙ append_assoc (reverse events) (e ∷ []) past
+
   -- none of the events that are done was refused
-  done_from : (past xs ys : List (Event P)) (e : Event P) (rs : List Reply) → AreReplies program W past (xs ++ e ∷ ys) rs → refusal_of W (reverse_aux xs past) e ≡ None
+  done_from : (past xs ys : List (Event P)) (e : Event P) (rs : List Reply) → AreReplies program W past (xs ++ e ∷ ys) rs → refusal_of W (reverse xs ++ past) e ≡ None
   done_from past [] ys e [] h = absurd h
   done_from past [] ys e (r ∷ rs) h = h.0
   done_from past (x ∷ xs) ys e [] h = absurd h
-  done_from past (x ∷ xs) ys e (r ∷ rs) h = done_from (x ∷ past) xs ys e rs h.2
+  done_from past (x ∷ xs) ys e (r ∷ rs) h = subst (λ (l : List (Event P)). refusal_of W l e ≡ None) (sym (turned_over x xs past)) (done_from (x ∷ past) xs ys e rs h.2)
 
   done : (xs ys : List (Event P)) (e : Event P) (rs : List Reply) → AreReplies program W [] (xs ++ e ∷ ys) rs → refusal_of W (reverse xs) e ≡ None
-  done xs ys e rs h = done_from [] xs ys e rs h
+  done xs ys e rs h = subst (λ (l : List (Event P)). refusal_of W l e ≡ None) (append-nil (reverse xs)) (done_from [] xs ys e rs h)
 
   -- the events that are done do not go on behind the one that is refused
   no_further : (xs ys zs : List (Event P)) (e : Event P) (rs : List Reply) (c : Cause) → AreReplies program W [] ys rs → ys ≡ xs ++ e ∷ zs → refusal_of W (reverse xs) e ≡ Some c → ⊥
