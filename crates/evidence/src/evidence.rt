@@ -4,6 +4,7 @@ ghost use Rattle.std.specs.Prelude.{◌≡◌, ◌+◌, ◌↔◌, false, not, I
 ghost use Rattle.std.specs.List.{All, Contains};
 ghost use Rattle.std.specs.List.Sorted.{IsStrictlySortedBy};
 ghost use Rattle.authenticators.specs.Directory.{is_listed};
+ghost use Rattle.item_digests.specs.Digests.{digest_of};
 ghost use Rattle.item_forms.specs.Pieces.{Piece, by_bytes};
 ghost use Rattle.evidence_item.specs.Checking.{Checked as TheChecked, IsChecked};
 ghost use Rattle.proofs.specs.Convicting.{Convicts};
@@ -21,7 +22,7 @@ use crate::fault::{AskFault, NewStoreRefused, TakeRefused, UnknownNode};
 use crate::set_text::items_of;
 use authenticators::{Directory, NodeId};
 use containers::ImportFault;
-use evidence_item::{Checked, Item};
+use evidence_item::{Checked, Hash, Item};
 use evidence_set::Indication;
 use outcome::Memory;
 use proofs::Proof;
@@ -56,6 +57,15 @@ pub trait Evidence<P: Program>: Drop {
         ensures item { IfOk result (λ found. option_map (λ (c : TheChecked). c.item) found ≡ slice_get (listed (contents self.now).items) n) }
         ensures checked { IfOk result (λ found. IfSome found (λ c. IsChecked (contents self.now).directory P.means c)) };
 
+    /// The digest of item `n`, from 0, in the order of the items' spellings; none from the count on. The item is hashed where it lies;
+    /// it takes no memory.
+    fn digest_at(&self, n: u64) -> Option<Hash>
+        ensures { result ≡ option_map digest_of (slice_get (listed (contents self.now).items) n) };
+
+    /// Whether the item is there. It takes no memory.
+    fn holds(&self, item: &Item) -> bool
+        ensures { result ≡ contains (contents self.now).items item.now };
+
     /// Adds an item that was checked under the store's directory, and answers whether it is new. Of an item that keeps what checking
     /// found it verifies no signature and hashes no content; of a segment of [`Checked::from_parts`] it hashes the entries and verifies
     /// what they quote. Where a growth is refused, and only there, the item is given back and the store is as it was.
@@ -67,6 +77,13 @@ pub trait Evidence<P: Program>: Drop {
         ensures held { Has (contents self.old).items checked.item → result ≡ Ok false }
         ensures given_back { IfErr result (λ refused. (refused.0.item ≡ checked.item) × (refused.0.verdict ≡ checked.verdict) × IsChecked (contents self.old).directory P.means refused.0) }
         ensures refused { OnErr result (contents self.new ≡ contents self.old) };
+
+    /// Whether the two have the same directory, so that one can merge the other. It takes no memory.
+    final fn shares_directory(&self, other: &Self) -> bool
+        ensures { IsTrue result ↔ ((contents self.now).directory ≡ (contents other.now).directory) }
+    {
+        *self.directory() == *other.directory()
+    }
 
     /// Adds the items of another store under the same directory, and answers how many are new: all of them are added, or, with
     /// `Memory`, none.

@@ -8,6 +8,8 @@ mod calls;
 #[cfg(test)]
 mod demands;
 #[cfg(test)]
+mod digests;
+#[cfg(test)]
 mod merges;
 #[cfg(test)]
 mod pieces;

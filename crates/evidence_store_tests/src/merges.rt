@@ -1,7 +1,5 @@
 //! Three witnesses of the same items, which came in three orders, or to one of them each and crosswise to the others.
 
-ghost use Rattle.std.specs.Prelude.{◌≡◌, IsTrue};
-
 use crate::samples::{Nodes, Store, ZEROS, make_nodes, new_store, take_copy};
 use evidence_item::Item;
 use evidence_store::Evidence;
@@ -10,16 +8,9 @@ use ref_programs::Tally;
 use std::alloc::Global;
 use std::test::Fail;
 
-/// Whether the stores have one directory.
-fn share_directory<S: Evidence<Tally>>(first: &S, second: &S) -> bool
-    ensures { IsTrue result → (S.contents first.now).directory ≡ (S.contents second.now).directory }
-{
-    *first.directory() == *second.directory()
-}
-
 /// How many items of the second store are new to the first, which then has them.
 fn merge<S: Evidence<Tally>>(first: &mut S, second: &S) -> Result<u64, Fail> {
-    if !share_directory::<S>(first, second) {
+    if !first.shares_directory(second) {
         return Err("two directories")?;
     }
     Ok(first.merge(second)?)

@@ -1,7 +1,5 @@
 //! What two stores answer once each has the other's items.
 
-ghost use Rattle.std.specs.Prelude.{◌≡◌, IsTrue};
-
 use crate::filling::store_of;
 use anyhow::{Result, bail};
 use authenticators::{Directory, NodeId};
@@ -91,13 +89,6 @@ fn ascends<S: Evidence<Tally>>(store: &S) -> Result<bool> {
     Ok(item_at(store, count)?.is_none())
 }
 
-/// Whether the stores have one directory.
-fn share_directory<S: Evidence<Tally>>(first: &S, second: &S) -> bool
-    ensures { IsTrue result → (S.contents first.now).directory ≡ (S.contents second.now).directory }
-{
-    *first.directory() == *second.directory()
-}
-
 /// Whether the first store answers so once it has merged the second, whose items it then includes.
 fn merges<S: Evidence<Tally>>(
     alloc: Global,
@@ -105,7 +96,7 @@ fn merges<S: Evidence<Tally>>(
     second: &S,
     answer: &str,
 ) -> Result<bool> {
-    if !share_directory(first, second) {
+    if !first.shares_directory(second) {
         bail!("two directories");
     }
     let before = first.count();

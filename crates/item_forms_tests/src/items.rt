@@ -6,7 +6,7 @@ mod ordering;
 
 use item_forms::{
     Authenticator, ByteString, DecodeFault, Entry, Form, Hash, Item, Message, NodeId, Statement,
-    TooLong,
+    TooLong, write_framed,
 };
 use log_chain::FieldWriter;
 use std::alloc::Global;
@@ -62,14 +62,14 @@ fn is_written_again(alloc: Global, text: &[u8]) -> Result<bool, Fail> {
     Ok(item.encoded_len() == text.len() && again.as_slice() == text)
 }
 
-/// Whether it is written so behind another byte.
+/// Whether it is written so behind another byte and its length.
 fn is_written_behind(alloc: Global, text: &[u8]) -> Result<bool, Fail> {
     let item = Item::decode(alloc, text)?;
     let mut writer = FieldWriter::new(alloc);
     writer.u8(7)?;
-    item.encode_to(&mut writer)?;
+    write_framed(&mut writer, item.form())?;
     Ok(match writer.finish().as_slice() {
-        [7, again @ ..] => again == text,
+        [7, 0, 0, 0, 49, again @ ..] => again == text,
         _ => false,
     })
 }

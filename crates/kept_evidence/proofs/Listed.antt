@@ -8,7 +8,7 @@ use Rattle.item_forms.specs.Spelling.{spelling}
 use Rattle.containers.specs.Container.{container_text}
 use Rattle.evidence_item.specs.Checking.{Checked}
 use Rattle.evidence_set.specs.Exports.{export_of, magic}
-use Rattle.evidence_set.specs.ItemSets.{IsWithin, listed, pieces, set_of}
+use Rattle.evidence_set.specs.ItemSets.{IsWithin, contains, listed, pieces, set_of}
 use Rattle.kept_evidence.specs.Kept.{IsAscending, Keeps, is_kept}
 use Rattle.kept_evidence.proofs.Added.{listed_is}
 use Rattle.kept_evidence.proofs.Bridge.{set_has}
@@ -42,6 +42,18 @@ pub text_is : (kept : List Checked) → IsAscending kept → export_of (set_of k
 text_is kept up =
     ap (λ (xs : List Piece). container_text magic (map (λ (x : Piece). spelling x.fields) xs)) (listed_is kept up)
     ∙ ap (container_text magic) (texts kept)
+
+-- ---- one item
+
+same : (a b : Bool) → (a ≡ true → IsTrue b) → (IsTrue b → a ≡ true) → a ≡ b
+same true true there back = refl
+same true false there back = absurd (there refl)
+same false true there back = back tt
+same false false there back = refl
+
+pub kept_is_held : (kept : List Checked) (x : Piece) → is_kept kept x ≡ contains (set_of kept) x
+kept_is_held kept x =
+    same (is_kept kept x) (contains (set_of kept) x) (λ h. (set_has kept x).1 ((kept_decides kept x).0 h)) (λ h. (kept_decides kept x).1 ((set_has kept x).0 h))
 
 -- ---- one set within another
 

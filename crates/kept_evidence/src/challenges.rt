@@ -10,6 +10,7 @@ use crate::findings::{found_hashes, found_quotes};
 use authenticators::NodeId;
 use evidence_item::{AuditChallenge, Checked, Entry, Form, Hash, Item, Message, Segment};
 use log_chain::{base_hash, kind};
+use proofs::RangedSegment;
 use replay_verifier::Receipt;
 
 /// Whether the item is a challenge against the node.
@@ -23,19 +24,17 @@ pub fn is_against(node: NodeId, item: &Item) -> bool
     }
 }
 
-/// Whether the segment, whose entries have these hashes, has what the challenge names.
+/// Whether the segment, whose entries have these hashes, has what the challenge names. It takes one pass over the numbers.
 fn covers(challenge: &AuditChallenge, segment: &Segment, hashes: &[Hash]) -> bool
     requires { hashes.now ≡ hashes_of segment.now.prev segment.now.entries }
     ensures { result ≡ covers challenge.now.first challenge.now.last segment.now }
 {
     let last = &challenge.last;
+    let ranged = RangedSegment::new(segment, hashes);
     match &challenge.first {
-        None => {
-            segment.prev == base_hash() && segment.has_found_pair(hashes, last.seq, last.hash)
-        }
+        None => segment.prev == base_hash() && ranged.has_pair(last.seq, last.hash),
         Some(first) => {
-            segment.has_found_pair(hashes, first.seq, first.hash)
-                && segment.has_found_pair(hashes, last.seq, last.hash)
+            ranged.has_pair(first.seq, first.hash) && ranged.has_pair(last.seq, last.hash)
         }
     }
 }

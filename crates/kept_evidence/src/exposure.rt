@@ -10,15 +10,15 @@ ghost use Rattle.kept_evidence.specs.Telling.{denies, deviates, is_denied};
 use crate::findings::found_hashes;
 use authenticators::Authenticator;
 use evidence_item::{Checked, Form};
-use proofs::Outline;
+use proofs::RangedSegment;
 use replay_verifier::Verdict;
 
 /// The first of the statements that contradicts the segment.
-fn denier<'a>(held: &'a [Authenticator], outline: &Outline<'_>) -> Option<&'a Authenticator>
-    ensures { MatchOption result (list_any (λ a. contradicts a.seq a.hash outline.now) held.now ≡ false) (λ a. Contains held.now a.now × (contradicts a.now.seq a.now.hash outline.now ≡ true)) }
+fn denier<'a>(held: &'a [Authenticator], segment: &RangedSegment<'_>) -> Option<&'a Authenticator>
+    ensures { MatchOption result (list_any (λ a. contradicts a.seq a.hash segment.now) held.now ≡ false) (λ a. Contains held.now a.now × (contradicts a.now.seq a.now.hash segment.now ≡ true)) }
 {
     for a in held {
-        if outline.contradicts(a.seq, a.hash) {
+        if segment.contradicts(a.seq, a.hash) {
             return Some(a);
         }
     }
@@ -33,7 +33,7 @@ fn denier_of<'a, P>(held: &'a [Authenticator], checked: &Checked<P>) -> Option<&
     match checked.item().form() {
         Form::Segment(segment) => {
             let hashes = found_hashes(checked)?;
-            denier(held, &Outline::new(segment, hashes))
+            denier(held, &RangedSegment::new(segment, hashes))
         }
         Form::Auth(_) | Form::Audit(_) | Form::Send(_) | Form::Ack(_) => None,
     }

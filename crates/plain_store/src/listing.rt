@@ -1,6 +1,7 @@
 //! The items of a set in their order.
 
 ghost use Rattle.std.specs.Prelude.{◌≡◌, IfOk, option_map, slice_get};
+ghost use Rattle.item_digests.specs.Digests.{digest_of};
 ghost use Rattle.evidence_item.specs.Checking.{Checked as TheChecked};
 ghost use Rattle.evidence_set.specs.Exports.{export_of};
 ghost use Rattle.evidence_set.specs.ItemSets.{count, listed, set_of};
@@ -8,7 +9,8 @@ ghost use Rattle.kept_evidence.specs.Kept.{IsAscending};
 
 use containers::write_all;
 use evidence::MAGIC;
-use evidence_item::Checked;
+use evidence_item::{Checked, Hash};
+use item_digests::digest_of;
 use outcome::Memory;
 use std::alloc::Global;
 
@@ -35,6 +37,18 @@ pub(crate) fn item_at<P>(
         return Ok(None);
     }
     Ok(Some(kept[place].try_clone(alloc)?))
+}
+
+/// The digest of the item at a place, where there is one.
+pub(crate) fn digest_at<P>(kept: &[Checked<P>], n: u64) -> Option<Hash>
+    requires { IsAscending kept.now }
+    ensures { result ≡ option_map digest_of (slice_get (listed (set_of kept.now)) n) }
+{
+    let place = n as usize;
+    if place >= kept.len() {
+        return None;
+    }
+    Some(digest_of(kept[place].item()))
 }
 
 /// The text of the set.

@@ -2,6 +2,7 @@
 
 ghost use Rattle.std.specs.Prelude.{◌≡◌, ◌↔◌, ◌<◌, ◌⊎◌, IfErr, IfOk, Contains, vec_capacity, vec_len};
 ghost use Rattle.evidence_item.specs.Checking.{Checked as TheChecked};
+ghost use Rattle.evidence_set.specs.ItemSets.{contains, set_of};
 ghost use Rattle.kept_evidence.specs.Kept.{IsAscending, IsPlaceOf, Keeps, is_kept};
 
 use evidence_item::{Checked, Item};
@@ -21,6 +22,14 @@ pub(crate) fn keeps<P>(kept: &[Checked<P>], item: &Item) -> bool
     ensures { result ≡ is_kept kept.now item.now }
 {
     place_of(kept, item).is_ok()
+}
+
+/// Whether the set has the item.
+pub(crate) fn holds<P>(kept: &[Checked<P>], item: &Item) -> bool
+    requires { IsAscending kept.now }
+    ensures { result ≡ contains (set_of kept.now) item.now }
+{
+    keeps(kept, item)
 }
 
 /// Puts a checked item in its place, for which there is room.

@@ -11,13 +11,14 @@ ghost use Rattle.evidence.specs.Contents.{with_items};
 use crate::convicting::proof;
 use crate::including::includes;
 use crate::indicating::indication;
-use crate::listing::{count, export, item_at};
+use crate::listing::{count, digest_at, export, item_at};
 use crate::merging::{merge, take_all};
 use crate::opening::open_challenges;
+use crate::placing::holds;
 use crate::taking::take;
 use authenticators::{AuthenticatorStore, Directory, NodeId};
 use evidence::{AskFault, Evidence, NewStoreRefused, TakeRefused, UnknownNode};
-use evidence_item::{Checked, Item};
+use evidence_item::{Checked, Hash, Item};
 use evidence_set::Indication;
 use outcome::Memory;
 use proofs::Proof;
@@ -75,6 +76,14 @@ impl<P: Program> Evidence<P> for PlainStore<P> {
 
     fn item_at(&self, n: u64) -> Result<Option<Checked<P>>, Memory> {
         item_at(self.alloc, &self.items, n)
+    }
+
+    fn digest_at(&self, n: u64) -> Option<Hash> {
+        digest_at(&self.items, n)
+    }
+
+    fn holds(&self, item: &Item) -> bool {
+        holds(&self.items, item)
     }
 
     fn take(&mut self, checked: Checked<P>) -> Result<bool, TakeRefused<P>>

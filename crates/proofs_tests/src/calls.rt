@@ -6,7 +6,7 @@ ghost use Rattle.log_chain.specs.Chain.{hashes};
 use authenticators::{Authenticator, NodeId};
 use evidence_item::Segment;
 use log_chain::{ByteString, Entry, EntryList, Hash, base_hash, chain_end, entry_hash, kind};
-use proofs::{BadTag, DecodeFault, Item, Outline, Parts, Proof, ProofFault};
+use proofs::{BadTag, DecodeFault, Item, Parts, Proof, ProofFault, RangedSegment};
 use std::alloc::Global;
 use std::test::Fail;
 
@@ -54,7 +54,7 @@ fn is_told(alloc: Global, prev: Hash, numbers: &[u64], seq: u64, hash: Hash) -> 
         entries: EntryList::from_vec(entries),
         sig: no_bytes(alloc),
     };
-    Ok(Outline::new(&segment, &hashes).contradicts(seq, hash))
+    Ok(RangedSegment::new(&segment, &hashes).contradicts(seq, hash))
 }
 
 /// The hash of the last of entries of these numbers after 32 zero bytes.

@@ -4,4 +4,4 @@ use Rattle.proofs.specs.Contradictions.{contradicts}
 use Rattle.kept_evidence.proofs.exposure.denier.Given as goal
 
 abbrev pub invariant-loop-a : goal.invariant-loop-a
-invariant-loop-a l = list_any (λ a. contradicts a.seq a.hash l.outline) (take l.a-index l.held) ≡ false
+invariant-loop-a l = list_any (λ a. contradicts a.seq a.hash l.segment) (take l.a-index l.held) ≡ false

@@ -1,0 +1,3 @@
+-- Words of private code.
+
+pub mod Feeding

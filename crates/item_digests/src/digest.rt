@@ -1,0 +1,17 @@
+//! The digest of an item.
+
+ghost use Rattle.std.specs.Prelude.{◌≡◌};
+ghost use Rattle.item_digests.specs.Digests.{digest_of};
+
+use crate::feeding::feed_tagged;
+use item_forms::{Hash, Item};
+use sha2::{Digest, Sha256};
+
+/// The SHA-256 value of the item's spelling. Each field is hashed where it lies; it takes no memory.
+pub fn digest_of(item: &Item) -> Hash
+    ensures { result ≡ digest_of item.now }
+{
+    let mut hasher = Sha256::new();
+    feed_tagged(&mut hasher, item.form());
+    Hash(hasher.finalize())
+}
