@@ -4,6 +4,7 @@ use Rattle.std.specs.List.{flat_map}
 use Rattle.std.proofs.lemmas.List.{flat_map_more}
 use Rattle.sha2.specs.declared.Sha256.{Sha256}
 use Rattle.sha2.specs.Hashers.{Holds256}
+use Rattle.log_chain.specs.Fields.{bytes_text}
 use Rattle.item_digests.specs.within.Feeding.{Feeds}
 
 -- no text
@@ -20,3 +21,7 @@ pub part_fed : {X : Type 0} (text : X → List ℕ) (xs : List X) (i : ℕ) (p :
 part_fed {X = X} text xs i p x y z more first second m held =
     subst (λ (ys : List X). Holds256 z (m ++ flat_map text ys)) (sym more)
     (subst (Holds256 z) (flat_map_more text m (take i xs) p) (second (m ++ flat_map text (take i xs)) (first m held)))
+
+-- bytes that are lent under another name
+pub bytes_fed : (x y : Sha256) (s t : List ℕ) → Feeds x y (bytes_text s) → s ≡ t → Feeds x y (bytes_text t)
+bytes_fed x y s t fed is = subst (λ (u : List ℕ). Feeds x y (bytes_text u)) is fed

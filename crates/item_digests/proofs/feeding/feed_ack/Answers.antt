@@ -1,7 +1,7 @@
-use Rattle.item_digests.proofs.Fed.{both_fed}
+use Rattle.item_digests.proofs.Fed.{both_fed, bytes_fed}
 use Rattle.item_digests.proofs.feeding.feed_ack.Goals as goal
 
 pub returns : goal.returns
 returns c =
-    both_fed _ _ _ _ _ c.feed_message.ensures
-    (both_fed _ _ _ _ _ c.feed_u64.ensures (both_fed _ _ _ _ _ c.feed_hash.ensures (rw c.as_slice.ensures at c.feed_bytes.ensures)))
+    let number = both_fed _ _ _ _ _ c.feed_message.ensures c.feed_u64.ensures in
+    both_fed _ _ _ _ _ (both_fed _ _ _ _ _ number c.feed_hash.ensures) (bytes_fed _ _ _ _ c.feed_bytes.ensures c.as_slice.ensures)

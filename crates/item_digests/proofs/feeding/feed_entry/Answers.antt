@@ -1,5 +1,6 @@
-use Rattle.item_digests.proofs.Fed.{both_fed}
+use Rattle.item_digests.proofs.Fed.{both_fed, bytes_fed}
 use Rattle.item_digests.proofs.feeding.feed_entry.Goals as goal
 
 pub returns : goal.returns
-returns c = both_fed _ _ _ _ _ c.feed_u64.ensures (both_fed _ _ _ _ _ c.feed_u8.ensures (rw c.as_slice.ensures at c.feed_bytes.ensures))
+returns c =
+    both_fed _ _ _ _ _ (both_fed _ _ _ _ _ c.feed_u64.ensures c.feed_u8.ensures) (bytes_fed _ _ _ _ c.feed_bytes.ensures c.as_slice.ensures)
