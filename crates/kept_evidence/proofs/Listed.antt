@@ -45,10 +45,10 @@ text_is kept up =
 
 -- ---- one item
 
-same : (a b : Bool) → (a ≡ true → IsTrue b) → (IsTrue b → a ≡ true) → a ≡ b
+same : (a b : Bool) → (a ≡ true → b ≡ true) → (b ≡ true → a ≡ true) → a ≡ b
 same true true there back = refl
-same true false there back = absurd (there refl)
-same false true there back = back tt
+same true false there back = sym (there refl)
+same false true there back = back refl
 same false false there back = refl
 
 pub kept_is_held : (kept : List Checked) (x : Piece) → is_kept kept x ≡ contains (set_of kept) x
