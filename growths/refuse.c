@@ -10,8 +10,8 @@ static long growths = 0;
 
 static int is_refused(void) {
     const char *refused = getenv("REFUSED");
-    growths++;
-    if (refused == NULL || atol(refused) != growths) return 0;
+    long growth = __atomic_add_fetch(&growths, 1, __ATOMIC_SEQ_CST);
+    if (refused == NULL || atol(refused) != growth) return 0;
     errno = ENOMEM;
     return 1;
 }

@@ -106,6 +106,7 @@ fn two_at_once<R: Threads + Wait + Sync>(
         shared,
         first,
         second,
+        ..
     } = share(alloc)?;
     let ours = statements(alloc, &mut key, &[1, 2])?;
     let theirs = statements(alloc, &mut key, &[3, 4])?;
@@ -175,6 +176,7 @@ fn asked_while_merged<R: Threads + Wait + Sync>(
         shared,
         first,
         second,
+        ..
     } = share(alloc)?;
     let one = statement(alloc, &mut key, 5, 1, 0)?;
     let two = statement(alloc, &mut key, 5, 2, 0)?;

@@ -1,30 +1,37 @@
-//! Stores that two callers share, one after the other, and how they are closed.
+//! Stores that callers share, one after the other, and how they are closed.
 
 use crate::samples::{
-    Sharing, Store, close_both, merge_nothing, new_store, share, statement, take_item,
+    Sharing, Store, close_both, merge_nothing, new_store, share, share_among_most, statement,
+    take_item,
 };
 use authenticators::NodeId;
+use evidence_item::{Item, check_item};
 use evidence_set::Indication;
+use evidence_store::{Evidence, PlainStore};
 use log_chain::Hash;
 use ref_programs::Tally;
 use sha2::{Digest, Sha256};
 use std::alloc::Global;
 use std::sync::Wait;
 use std::test::Fail;
-use witness_workers::{AskFault, CallFault, CheckAllFault, CloseFault, Pass, SharedStore};
+use witness_workers::{
+    AskFault, Call, CallFault, CheckAllFault, CloseFault, Pass, Recorded, SharedStore,
+};
 
 #[test]
 fn refusals_have_numbers_and_names(rt: HostRuntime) {
     let numbers = [
         CheckAllFault::BadWorkers.number(),
+        CheckAllFault::LengthMismatch.number(),
         CloseFault::PassMissing.number(),
         CloseFault::HistoryMismatch.number(),
         CallFault::DirectoryChanged.number(),
         AskFault::UnknownNode.number(),
     ];
-    assert!(rt; numbers == [90, 91, 92, 96, 44]);
+    assert!(rt; numbers == [90, 93, 91, 92, 96, 44]);
     let names = [
         CheckAllFault::BadWorkers.name(),
+        CheckAllFault::LengthMismatch.name(),
         CloseFault::PassMissing.name(),
         CloseFault::HistoryMismatch.name(),
         CallFault::DirectoryChanged.name(),
@@ -32,6 +39,7 @@ fn refusals_have_numbers_and_names(rt: HostRuntime) {
     ];
     let expected = [
         "BadWorkers",
+        "LengthMismatch",
         "PassMissing",
         "HistoryMismatch",
         "DirectoryChanged",
@@ -174,6 +182,111 @@ fn passes_that_do_not_agree(rt: HostRuntime) -> Result<(), Fail> {
         a_foreign_call(&rt, alloc)?,
     ];
     assert!(rt; numbers == [91, 92, 92]);
+    Ok(())
+}
+
+/// Six calls of two callers, while six more do nothing: the store, and the passes of all.
+fn six_idle<R: Wait>(
+    rt: &R,
+    alloc: Global,
+) -> Result<(Box<SharedStore<Tally, Store>>, Vec<Pass>), Fail> {
+    let mut on = share_among_most(alloc)?;
+    six_calls(rt, alloc, &mut on)?;
+    let Sharing {
+        shared,
+        first,
+        second,
+        mut others,
+        ..
+    } = on;
+    let mut passes = Vec::new(alloc);
+    passes.push(first)?;
+    passes.push(second)?;
+    passes.append(&mut others)?;
+    Ok((shared, passes))
+}
+
+/// How many calls the history has, and how many callers there were.
+fn closed_by_eight<R: Wait>(rt: &R, alloc: Global) -> Result<(usize, usize), Fail> {
+    let (shared, passes) = six_idle(rt, alloc)?;
+    let callers = passes.len();
+    let closed = Box::into_inner(shared).close(passes)?;
+    Ok((closed.history.len(), callers))
+}
+
+/// Closing without the pass of one that did nothing.
+fn closed_by_seven<R: Wait>(rt: &R, alloc: Global) -> Result<u8, Fail> {
+    let (shared, mut passes) = six_idle(rt, alloc)?;
+    let _ = passes.pop();
+    Ok(refusal_of(shared, passes))
+}
+
+#[test]
+fn six_of_eight_callers_do_nothing(rt: HostRuntime) -> Result<(), Fail> {
+    let alloc = rt.alloc();
+    assert!(rt; closed_by_eight(&rt, alloc)? == (6, 8));
+    assert!(rt; closed_by_seven(&rt, alloc)? == 91);
+    Ok(())
+}
+
+/// The first caller merges a store of one item, which is given.
+fn merge_one<R: Wait>(rt: &R, alloc: Global, on: &mut Sharing) -> Result<Box<Item>, Fail> {
+    let item = statement(alloc, &mut on.key, 5, 1, 0)?;
+    let directory = on.shared.directory().try_clone()?;
+    let mut other: Store = PlainStore::new(alloc, directory)?;
+    let checked = check_item(alloc, &Tally, other.directory(), item.try_clone(alloc)?)?;
+    other.take(checked)?;
+    on.shared.merge(rt, &mut on.first, &other)?;
+    Ok(item)
+}
+
+/// Whether the call is a merge of that item alone.
+fn is_merge_of(call: &Call, item: &Item) -> bool {
+    let Call::Merge(set) = call else {
+        return false;
+    };
+    set.items().len() == 1 && set.items().iter().all(|x| *x == *item)
+}
+
+/// The items of a merge; none of another call.
+fn items_of(alloc: Global, call: Call) -> Vec<Item> {
+    match call {
+        Call::Merge(set) => set.into_vec(),
+        _ => Vec::new(alloc),
+    }
+}
+
+/// The items of the merges, taken out of the history.
+fn merged_items(alloc: Global, history: Vec<Recorded>) -> Result<Vec<Item>, Fail> {
+    let mut items = Vec::new(alloc);
+    for one in history {
+        items.append(&mut items_of(alloc, one.call))?;
+    }
+    Ok(items)
+}
+
+/// What a merge of a store of one item leaves.
+#[derive(Clone, Copy)]
+struct Merged {
+    /// Whether the pass has a merge of that item alone.
+    noted: bool,
+    /// How many items the merges of the history have.
+    count: usize,
+}
+
+fn what_a_merge_leaves<R: Wait>(rt: &R, alloc: Global) -> Result<Merged, Fail> {
+    let mut on = share(alloc)?;
+    let item = merge_one(rt, alloc, &mut on)?;
+    let noted = on.first.calls().iter().any(|c| is_merge_of(&c.call, &item));
+    let closed = Box::into_inner(close_both(alloc, on.shared, (on.first, on.second))?);
+    let count = merged_items(alloc, closed.history)?.len();
+    Ok(Merged { noted, count })
+}
+
+#[test]
+fn a_merge_is_noted_with_its_items(rt: HostRuntime) -> Result<(), Fail> {
+    let left = what_a_merge_leaves(&rt, rt.alloc())?;
+    assert!(rt; left.noted && left.count == 1);
     Ok(())
 }
 

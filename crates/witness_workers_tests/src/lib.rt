@@ -8,4 +8,6 @@ mod calls;
 #[cfg(test)]
 mod checking;
 #[cfg(test)]
+mod refused;
+#[cfg(test)]
 mod samples;

@@ -1,5 +1,7 @@
 //! For the tests: the key of node 1, statements that it signs, a store under its directory, and calls at one that is shared.
 
+ghost use Rattle.std.specs.Prelude.{◌<◌, length};
+
 use authenticators::{Authenticator, Directory, NodeId, statement_text};
 use evidence_item::{Item, check_item};
 use evidence_store::{Evidence, PlainStore};
@@ -9,7 +11,7 @@ use ref_programs::Tally;
 use std::alloc::Global;
 use std::sync::Wait;
 use std::test::Fail;
-use witness_workers::{Closed, Pass, SharedStore};
+use witness_workers::{Closed, MOST_WORKERS, Pass, SharedStore};
 
 /// A store of nodes that run Tally.
 pub(crate) type Store = PlainStore<Tally>;
@@ -67,21 +69,28 @@ pub(crate) fn unsigned(alloc: Global) -> Result<Box<Item>, Fail> {
     auth_of(alloc, 5, Hash([0; 32]), Vec::new(alloc))
 }
 
-/// A store that is shared by two callers, with their passes, and the key of node 1.
+/// A store that is shared, with the passes of the first two callers and those of all others, and the key of node 1.
 #[derive(Drop)]
 pub(crate) struct Sharing {
     pub(crate) key: Box<SecretKey>,
     pub(crate) shared: Box<SharedStore<Tally, Store>>,
     pub(crate) first: Pass,
     pub(crate) second: Pass,
+    pub(crate) others: Vec<Pass>,
 }
 
-pub(crate) fn share(alloc: Global) -> Result<Sharing, Fail> {
-    let key = make_key(alloc)?;
-    let store = new_store(alloc, &key)?;
-    let (shared, mut passes) = SharedStore::open(alloc, Box::into_inner(store), 2)?;
+/// The same of a store with its passes.
+fn sharing_of(
+    alloc: Global,
+    key: Box<SecretKey>,
+    shared: SharedStore<Tally, Store>,
+    mut passes: Vec<Pass>,
+) -> Result<Sharing, Fail>
+    requires { 1 < length passes.items }
+{
     let shared = Box::new(alloc, shared)?;
-    let (Some(second), Some(first)) = (passes.pop(), passes.pop()) else {
+    passes.reverse();
+    let (Some(first), Some(second)) = (passes.pop(), passes.pop()) else {
         unreachable!();
     };
     Ok(Sharing {
@@ -89,7 +98,24 @@ pub(crate) fn share(alloc: Global) -> Result<Sharing, Fail> {
         shared,
         first,
         second,
+        others: passes,
     })
+}
+
+/// A store that two callers share.
+pub(crate) fn share(alloc: Global) -> Result<Sharing, Fail> {
+    let key = make_key(alloc)?;
+    let store = new_store(alloc, &key)?;
+    let (shared, passes) = SharedStore::open(alloc, Box::into_inner(store), 2)?;
+    sharing_of(alloc, key, shared, passes)
+}
+
+/// A store that as many callers share as may share one.
+pub(crate) fn share_among_most(alloc: Global) -> Result<Sharing, Fail> {
+    let key = make_key(alloc)?;
+    let store = new_store(alloc, &key)?;
+    let (shared, passes) = SharedStore::open(alloc, Box::into_inner(store), MOST_WORKERS)?;
+    sharing_of(alloc, key, shared, passes)
 }
 
 /// Checks the item under the store's directory, and takes it: whether it was new, where nothing is refused.
