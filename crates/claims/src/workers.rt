@@ -79,7 +79,7 @@ fn deal(
     Ok(seats)
 }
 
-/// What each worker gives back, the workers in threads of their own, or by turns where no thread can be made.
+/// What each worker gives back. Each has a thread of its own, or its turn where none can be made; no clause tells which.
 fn run<R: Threads + Sync, T: Send + Drop, F: Fn(usize) -> T + Sync>(
     rt: &R,
     alloc: Global,
@@ -140,8 +140,10 @@ fn values<T: Drop>(alloc: Global, placed: Vec<Placed<T>>) -> Result<Vec<T>, Memo
     placed.into_iter().map(|p| p.value).collect(alloc)
 }
 
-/// What `work` gives at each number below the count, in the order of the numbers, by so many workers: 1 to 15. `Memory` where a growth
-/// was refused, of this call or of one of its workers, and only there; then all that was worked out is dropped.
+/// What `work` gives at each number below the count, in the order of the numbers, by so many workers: 1 to 15.
+///
+/// `Memory` only where a growth was refused, of this call or of one of its workers, and then all that was worked out is dropped. A
+/// worker that is refused room for one value more draws no more numbers; where the others draw all that are left, the answer is whole.
 pub fn map_claimed<R: Threads + Sync, T: Send + Drop, F: Fn(usize) -> T + Sync>(
     rt: &R,
     alloc: Global,

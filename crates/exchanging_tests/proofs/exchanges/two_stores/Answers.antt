@@ -1,6 +1,6 @@
 use Rattle.std.proofs.Common.{◌≡◌, [], ◌∷◌, All, subst, sym}
 use Rattle.std.proofs.lemmas.List.Elements.{All-cons, All-nil}
-use Rattle.witness_workers.specs.Shares.{Share}
+use Rattle.shared_stores.specs.Shares.{Share}
 use Rattle.exchanging_tests.proofs.exchanges.two_stores.Goals as goal
 
 pub returns : goal.returns

@@ -1,0 +1,4 @@
+pub mod Again
+pub mod Checks
+pub mod Refusals
+pub mod within

@@ -1,0 +1,21 @@
+//! Items of evidence that are checked by several workers at once (PeerReview, SOSP 2007: witnesses and evidence).
+//!
+//! - [`check_all`] checks a list of items by one or more workers. Each place has what `check_item` gives of a copy of its item,
+//!   whoever checked it. A [`Gate`] is told before and after each check.
+//! - [`check_again`] checks those items again whose checks were refused memory, and leaves the other results.
+//!
+//! `specs/Checks.antt` says what a check gives, and `specs/Again.antt` what checking again does; [`laws`] proves what follows.
+//! `specs/within` has the words of private code. What is said of the calls that wait holds when they return; nothing is said of
+//! waiting.
+#![tactic(auto)]
+
+pub use again::check_again;
+pub use checking::{Gate, OpenGate, check_all};
+pub use fault::CheckAllFault;
+pub use limits::MOST_WORKERS;
+
+mod again;
+mod checking;
+mod fault;
+pub mod laws;
+mod limits;

@@ -1,0 +1,6 @@
+pub mod Closing
+pub mod Histories
+pub mod HistoryLaws
+pub mod Refusals
+pub mod Shares
+pub mod within

@@ -1,0 +1,132 @@
+//! Why a call is refused. Each refusal has a number and a name.
+
+ghost use Rattle.std.specs.Prelude.{◌≡◌};
+ghost use Rattle.shared_stores.specs.Refusals.{ask_name, ask_number, call_name, call_number, close_name, close_number};
+
+use std::alloc::AllocError;
+use thiserror::Error;
+
+/// Why a call at a shared store is refused.
+#[derive(Clone, Copy, Debug, PartialEq, Eq, Error)]
+pub enum CallFault {
+    /// 96: the directory under the lock is not the one beside it. It is not seen to happen: a lock keeps only what a type says.
+    #[error("the directory under the lock is another one")]
+    DirectoryChanged,
+    /// 99: a growth of memory was refused.
+    #[error("memory ran out")]
+    Memory,
+}
+
+/// Why a question at a shared store is refused.
+#[derive(Clone, Copy, Debug, PartialEq, Eq, Error)]
+pub enum AskFault {
+    /// 44: the node is not listed in the store's directory.
+    #[error("the node is not listed in the directory")]
+    UnknownNode,
+    /// 96: the directory under the lock is not the one beside it. It is not seen to happen: a lock keeps only what a type says.
+    #[error("the directory under the lock is another one")]
+    DirectoryChanged,
+    /// 99: a growth of memory was refused.
+    #[error("memory ran out")]
+    Memory,
+}
+
+/// Why a shared store is not closed.
+#[derive(Clone, Copy, Debug, PartialEq, Eq, Error)]
+pub enum CloseFault {
+    /// 91: the passes are not those numbered from 0 on, each once.
+    #[error("a pass is missing, or there twice")]
+    PassMissing,
+    /// 92: the calls of a pass are not those of its number in the history; or the history has a call of another number; or the
+    /// directory or the opening set under the lock is not the one beside it.
+    #[error("the passes do not agree with the history")]
+    HistoryMismatch,
+}
+
+impl CallFault {
+    /// The number of the refusal.
+    pub fn number(&self) -> u8
+        ensures { result ≡ call_number self.now }
+    {
+        match self {
+            CallFault::DirectoryChanged => 96,
+            CallFault::Memory => 99,
+        }
+    }
+
+    /// The name of the refusal, which is that of its variant.
+    pub fn name(&self) -> &'static str
+        ensures { result.now ≡ call_name self.now }
+    {
+        match self {
+            CallFault::DirectoryChanged => "DirectoryChanged",
+            CallFault::Memory => "Memory",
+        }
+    }
+}
+
+impl AskFault {
+    /// The number of the refusal.
+    pub fn number(&self) -> u8
+        ensures { result ≡ ask_number self.now }
+    {
+        match self {
+            AskFault::UnknownNode => 44,
+            AskFault::DirectoryChanged => 96,
+            AskFault::Memory => 99,
+        }
+    }
+
+    /// The name of the refusal, which is that of its variant.
+    pub fn name(&self) -> &'static str
+        ensures { result.now ≡ ask_name self.now }
+    {
+        match self {
+            AskFault::UnknownNode => "UnknownNode",
+            AskFault::DirectoryChanged => "DirectoryChanged",
+            AskFault::Memory => "Memory",
+        }
+    }
+}
+
+impl CloseFault {
+    /// The number of the refusal.
+    pub fn number(&self) -> u8
+        ensures { result ≡ close_number self.now }
+    {
+        match self {
+            CloseFault::PassMissing => 91,
+            CloseFault::HistoryMismatch => 92,
+        }
+    }
+
+    /// The name of the refusal, which is that of its variant.
+    pub fn name(&self) -> &'static str
+        ensures { result.now ≡ close_name self.now }
+    {
+        match self {
+            CloseFault::PassMissing => "PassMissing",
+            CloseFault::HistoryMismatch => "HistoryMismatch",
+        }
+    }
+}
+
+impl From<AllocError> for CallFault {
+    ghost use Rattle.shared_stores.specs.declared.fault.CallFault.TheVariants.{Memory};
+
+    ghost from_gives = { λ _ e. e ≡ Memory };
+
+    fn from(_: AllocError) -> CallFault {
+        CallFault::Memory
+    }
+}
+
+impl From<AllocError> for AskFault {
+    ghost use Rattle.shared_stores.specs.declared.fault.AskFault.TheVariants.{Memory};
+
+    ghost from_gives = { λ _ e. e ≡ Memory };
+
+    fn from(_: AllocError) -> AskFault {
+        AskFault::Memory
+    }
+}

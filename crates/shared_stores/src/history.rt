@@ -1,0 +1,97 @@
+//! Calls at a shared store, and what they were answered.
+
+ghost use Rattle.std.specs.Prelude.{◌≡◌, ◌↔◌, IsTrue};
+ghost use Rattle.shared_stores.specs.Histories.{recorded};
+
+use crate::item_set::ItemSet;
+use authenticators::NodeId;
+use evidence_item::Item;
+use evidence_set::Indication;
+use log_chain::ByteString;
+
+/// A call at a shared store.
+#[derive(Debug, Drop)]
+pub enum Call {
+    /// The item was to be taken.
+    Take(Item),
+    /// The items of another store were to be merged.
+    Merge(ItemSet),
+    /// The indication of the node was asked for.
+    Ask(NodeId),
+    /// The text of all items was asked for.
+    Export,
+}
+
+impl Call {
+    /// Whether the two are the same call with the same values. It takes no memory.
+    pub fn is(&self, other: &Call) -> bool
+        ensures { IsTrue result ↔ (self.now ≡ other.now) }
+    {
+        match (self, other) {
+            (Call::Take(a), Call::Take(b)) => *a == *b,
+            (Call::Merge(a), Call::Merge(b)) => a.is(b),
+            (Call::Ask(a), Call::Ask(b)) => *a == *b,
+            (Call::Export, Call::Export) => true,
+            _ => false,
+        }
+    }
+}
+
+/// What a call was answered.
+#[derive(Debug, Drop)]
+pub enum Given {
+    /// Whether the item was new.
+    Took(bool),
+    /// How many of the other store's items were new.
+    Merged(u64),
+    /// What the items say of the node.
+    Says(Indication),
+    /// The text of all items.
+    Bytes(ByteString),
+}
+
+impl Given {
+    /// Whether the two are the same reply. It takes no memory.
+    pub fn is(&self, other: &Given) -> bool
+        ensures { IsTrue result ↔ (self.now ≡ other.now) }
+    {
+        match (self, other) {
+            (Given::Took(a), Given::Took(b)) => *a == *b,
+            (Given::Merged(a), Given::Merged(b)) => *a == *b,
+            (Given::Says(a), Given::Says(b)) => *a == *b,
+            (Given::Bytes(a), Given::Bytes(b)) => *a == *b,
+            _ => false,
+        }
+    }
+}
+
+/// A call, the number of the caller, and what the call was answered.
+#[derive(Debug, Drop)]
+pub struct Recorded {
+    /// The number of the caller's pass.
+    pub caller: usize,
+    /// The call.
+    pub call: Call,
+    /// What it was answered.
+    pub reply: Given,
+}
+
+impl Recorded {
+    /// A call with its caller and its reply. It takes no memory.
+    pub fn new(caller: usize, call: Call, reply: Given) -> Recorded
+        ensures { result ≡ recorded caller call reply }
+    {
+        Recorded {
+            caller,
+            call,
+            reply,
+        }
+    }
+
+    /// Whether the two are the same call of the same caller with the same reply. It takes no memory.
+    pub fn is(&self, other: &Recorded) -> bool
+        ensures { IsTrue result ↔ (self.now ≡ other.now) }
+    {
+        self.caller == other.caller && self.call.is(&other.call) && self.reply.is(&other.reply)
+    }
+}

@@ -1,0 +1,29 @@
+//! Stores of evidence that several callers share (PeerReview, SOSP 2007: witnesses and evidence).
+//!
+//! - [`SharedStore`] is a store under a lock. Each caller has a [`Pass`], which notes the caller's own calls and their replies. Under
+//!   the lock stands, beside the store, the history of all calls.
+//! - [`SharedStore::close`] compares the passes with the history. Where it answers `Ok`, the history is one that a single thread
+//!   could have made: it leads from the opening store to the closed one, and each reply is the one that the store gives there.
+//!
+//! `specs/Histories.antt` says what one thread would do, `specs/Closing.antt` what passes and history have to do with one another, and
+//! `specs/HistoryLaws.antt` what follows; [`laws`] proves it. `specs/within` has the words of private code. What is said of the calls
+//! that wait holds when they return; nothing is said of waiting.
+#![tactic(auto)]
+
+pub use closing::{CloseRefused, Closed};
+pub use fault::{AskFault, CallFault, CloseFault};
+pub use history::{Call, Given, Recorded};
+pub use item_set::ItemSet;
+pub use pass::Pass;
+pub use shared::{OpenRefused, SharedStore, TakeRefused};
+
+mod closing;
+mod comparing;
+mod copying;
+mod fault;
+mod history;
+mod item_set;
+mod kept;
+pub mod laws;
+mod pass;
+mod shared;

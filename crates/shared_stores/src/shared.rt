@@ -1,0 +1,243 @@
+//! Stores that callers share.
+
+ghost use Rattle.std.specs.Prelude.{◌≡◌, ◌↔◌, ◌≤◌, false, Err, IfErr, IfOk, OnErr};
+ghost use Rattle.authenticators.specs.Directory.{is_listed};
+ghost use Rattle.evidence_item.specs.Checking.{IsChecked};
+ghost use Rattle.shared_stores.specs.declared.fault.AskFault.TheVariants as ask;
+ghost use Rattle.shared_stores.specs.declared.history.Call.TheVariants.{Ask, Export, Merge, Take};
+ghost use Rattle.shared_stores.specs.declared.history.Given.TheVariants.{Bytes, Merged, Says, Took};
+ghost use Rattle.parallel_checking.specs.declared.limits.TheConstants.{MOST_WORKERS};
+ghost use Rattle.shared_stores.specs.Closing.{fresh};
+ghost use Rattle.shared_stores.specs.Histories.{noted};
+
+use crate::copying::{copies_of, item_and_copies};
+use crate::fault::{AskFault, CallFault};
+use crate::history::{Call, Given, Recorded};
+use crate::item_set::ItemSet;
+use crate::kept::Kept;
+use crate::pass::Pass;
+use authenticators::{Directory, NodeId};
+use evidence::Evidence;
+use evidence_item::Checked;
+use evidence_set::Indication;
+use outcome::Memory;
+use replay_verifier::Program;
+use std::alloc::Global;
+use std::fmt;
+use std::marker::Model;
+use std::sync::{Mutex, Wait};
+use thiserror::Error;
+
+/// A store under a lock, and beside it the directory, the number of callers, and the set that the store was opened with. A contract
+/// sees what is beside the lock.
+///
+/// Each call locks the store, is one step of its history, and is noted in the caller's pass. What can be made ready is made before
+/// the lock: under it nothing is checked, no signature is verified and no content is hashed. A call that is refused stands neither in
+/// the history nor in the pass. The calls but [`open`](SharedStore::open), [`directory`](SharedStore::directory) and
+/// [`close`](SharedStore::close) may wait for other callers, and what is said of them holds when they return.
+#[derive(Drop)]
+pub struct SharedStore<P: Program, S: Evidence<P>> {
+    pub(crate) alloc: Global,
+    pub(crate) directory: Directory,
+    pub(crate) callers: usize,
+    pub(crate) opening: ItemSet,
+    pub(crate) locked: Mutex<Kept<P, S>>,
+}
+
+impl<P: Program, S: Evidence<P>> Model for SharedStore<P, S> {
+    ghost use Rattle.shared_stores.specs.Shares.{Share, share_code};
+
+    ghost Value = { Share };
+
+    ghost coded = { share_code };
+
+    ghost view = { λ s. record { directory = s.directory; callers = s.callers; opening = s.opening } };
+}
+
+/// A store that could not be shared, since a growth was refused. It is given back.
+#[derive(Drop, Error)]
+#[error("out of memory for sharing a store")]
+pub struct OpenRefused<S> {
+    /// The store.
+    pub store: S,
+}
+
+/// Shows nothing of the store.
+impl<S> fmt::Debug for OpenRefused<S> {
+    fn fmt<W: fmt::Write>(&self, f: &mut fmt::Formatter<W>) -> fmt::Result {
+        f.write_str("OpenRefused")
+    }
+}
+
+/// A checked item that could not be taken. It is given back.
+#[derive(Debug, Drop, Error)]
+#[error("the item is not taken: {fault}")]
+pub struct TakeRefused<P> {
+    /// The item.
+    pub checked: Checked<P>,
+    /// Why it was not taken.
+    pub fault: CallFault,
+}
+
+/// A pass with no call for each number below the count.
+fn fresh_passes(alloc: Global, callers: usize) -> Result<Vec<Pass>, Memory>
+    ensures { IfOk result (λ v. v.items ≡ fresh callers) }
+{
+    (0..callers).map(|n| Pass::new(alloc, n)).collect(alloc)
+}
+
+/// What a shared store has beside its store: the store's directory, its items twice, and a pass for each caller.
+fn parts_of<P: Program, S: Evidence<P>>(
+    alloc: Global,
+    store: &S,
+    callers: usize,
+) -> Result<(Directory, ItemSet, ItemSet, Vec<Pass>), Memory>
+    ensures directory { IfOk result (λ parts. parts.0 ≡ (S.contents store.now).directory) }
+    ensures opening { IfOk result (λ parts. (parts.1 ≡ (S.contents store.now).items) × (parts.2 ≡ (S.contents store.now).items)) }
+    ensures passes { IfOk result (λ parts. parts.3.items ≡ fresh callers) }
+{
+    let directory = store.directory().try_clone()?;
+    let opening = copies_of(alloc, store)?;
+    let kept = opening.try_clone(alloc)?;
+    let passes = fresh_passes(alloc, callers)?;
+    Ok((directory, opening, kept, passes))
+}
+
+impl<P: Program, S: Evidence<P>> SharedStore<P, S> {
+    /// Shares a store among so many callers: 1 to [`MOST_WORKERS`](parallel_checking::MOST_WORKERS). Each gets a pass, numbered from 0 and empty.
+    /// Where a growth is refused, and only there, the store is given back.
+    pub fn open(
+        alloc: Global,
+        store: S,
+        callers: usize,
+    ) -> Result<(SharedStore<P, S>, Vec<Pass>), OpenRefused<S>>
+        requires { (1 ≤ callers) × (callers ≤ MOST_WORKERS) }
+        ensures opened { IfOk result (λ r. r.0 ≡ record { directory = (S.contents store).directory; callers = callers; opening = (S.contents store).items }) }
+        ensures passes { IfOk result (λ r. r.1.items ≡ fresh callers) }
+        ensures given_back { IfErr result (λ refused. refused.store ≡ store) }
+    {
+        let Ok((directory, opening, kept, passes)) = parts_of(alloc, &store, callers) else {
+            return Err(OpenRefused { store });
+        };
+        let shared = SharedStore {
+            alloc,
+            directory,
+            callers,
+            opening,
+            locked: Mutex::new(Kept::new(alloc, kept, store)),
+        };
+        Ok((shared, passes))
+    }
+
+    /// The directory of the store that was opened. It takes no memory, and waits for nobody.
+    pub fn directory(&self) -> &Directory
+        ensures { result.now ≡ self.now.directory }
+    {
+        &self.directory
+    }
+
+    /// Takes an item that was checked under the directory, and answers whether it was new. Where it is refused, the item is given
+    /// back: `DirectoryChanged` (96), `Memory`. What checking finds of an item that keeps nothing of it is found before the lock.
+    pub fn take<R: Wait>(
+        &self,
+        rt: &R,
+        pass: &mut Pass,
+        checked: Checked<P>,
+    ) -> Result<bool, TakeRefused<P>>
+        requires { IsChecked self.now.directory P.means checked }
+        ensures noted { IfOk result (λ new. pass.new ≡ noted pass.old (Take checked.item) (Took new)) }
+        ensures given_back { IfErr result (λ refused. (refused.checked.item ≡ checked.item) × (refused.checked.verdict ≡ checked.verdict) × IsChecked self.now.directory P.means refused.checked) }
+        ensures refused { OnErr result (pass.new ≡ pass.old) }
+    {
+        let mut checked = checked;
+        let made = item_and_copies(self.alloc, &self.directory, &mut checked);
+        let (Ok((noted, copy)), Ok(())) = (made, pass.calls.reserve(1)) else {
+            return Err(out_of_memory(checked));
+        };
+        let mut kept = self.locked.lock(rt);
+        if !kept.is_under(&self.directory) {
+            return Err(TakeRefused {
+                checked,
+                fault: CallFault::DirectoryChanged,
+            });
+        }
+        match kept.take(pass.number, checked, copy) {
+            Ok(new) => {
+                let call = Recorded::new(pass.number, Call::Take(noted), Given::Took(new));
+                pass.calls.push_reserved(call);
+                Ok(new)
+            }
+            Err(evidence::TakeRefused(checked)) => Err(out_of_memory(checked)),
+        }
+    }
+
+    /// Merges a store under the same directory, and answers how many of its items were new. `DirectoryChanged` (96), `Memory`.
+    pub fn merge<R: Wait>(&self, rt: &R, pass: &mut Pass, other: &S) -> Result<u64, CallFault>
+        requires { (S.contents other.now).directory ≡ self.now.directory }
+        ensures noted { IfOk result (λ new. pass.new ≡ noted pass.old (Merge (S.contents other.now).items) (Merged new)) }
+        ensures refused { OnErr result (pass.new ≡ pass.old) }
+    {
+        let copies = copies_of(self.alloc, other)?;
+        let noted = copies.try_clone(self.alloc)?;
+        pass.calls.reserve(1)?;
+        let mut kept = self.locked.lock(rt);
+        if !kept.is_under(&self.directory) {
+            return Err(CallFault::DirectoryChanged);
+        }
+        let new = kept.merge(pass.number, other, copies)?;
+        let call = Recorded::new(pass.number, Call::Merge(noted), Given::Merged(new));
+        pass.calls.push_reserved(call);
+        Ok(new)
+    }
+
+    /// What the items say of the node. `UnknownNode` (44) where the directory does not list it, `DirectoryChanged` (96), `Memory`.
+    pub fn ask<R: Wait>(
+        &self,
+        rt: &R,
+        pass: &mut Pass,
+        node: NodeId,
+    ) -> Result<Indication, AskFault>
+        ensures noted { IfOk result (λ says. pass.new ≡ noted pass.old (Ask node) (Says says)) }
+        ensures unknown { (result ≡ Err ask.UnknownNode) ↔ (is_listed self.now.directory node ≡ false) }
+        ensures refused { OnErr result (pass.new ≡ pass.old) }
+    {
+        if !self.directory.contains(node) {
+            return Err(AskFault::UnknownNode);
+        }
+        pass.calls.reserve(1)?;
+        let mut kept = self.locked.lock(rt);
+        if !kept.is_under(&self.directory) {
+            return Err(AskFault::DirectoryChanged);
+        }
+        let says = kept.ask(pass.number, node)?;
+        let call = Recorded::new(pass.number, Call::Ask(node), Given::Says(says));
+        pass.calls.push_reserved(call);
+        Ok(says)
+    }
+
+    /// The one text of the items: the container `PRSTORE2`. `DirectoryChanged` (96), `Memory`.
+    pub fn export<R: Wait>(&self, rt: &R, pass: &mut Pass) -> Result<Vec<u8>, CallFault>
+        ensures noted { IfOk result (λ text. pass.new ≡ noted pass.old Export (Bytes text.items)) }
+        ensures refused { OnErr result (pass.new ≡ pass.old) }
+    {
+        pass.calls.reserve(1)?;
+        let mut kept = self.locked.lock(rt);
+        if !kept.is_under(&self.directory) {
+            return Err(CallFault::DirectoryChanged);
+        }
+        let (text, noted) = kept.export(self.alloc, pass.number)?;
+        let call = Recorded::new(pass.number, Call::Export, Given::Bytes(noted));
+        pass.calls.push_reserved(call);
+        Ok(text)
+    }
+}
+
+/// The item comes back, since a growth was refused.
+fn out_of_memory<P>(checked: Checked<P>) -> TakeRefused<P>
+    ensures { result.checked ≡ checked }
+{
+    TakeRefused {
+        checked,
+        fault: CallFault::Memory,
+    }
+}
