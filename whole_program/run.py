@@ -163,9 +163,14 @@ def plays(build):
         with open(f"{TOP}/crates/node_sim/{name}") as file:
             stored[name] = file.read()
     scenario = stored["stdin"].encode()
-    for words in [["run"], ["run", "--workers", "1"], ["run", "--workers", "2"], ["run", "--workers=2"]]:
+    for words in [["run"], ["run", "--workers", "1"], ["run", "--workers", "2"], ["run", "--workers=2"], ["run", "--workers", "8"]]:
         yield f"a scenario: {' '.join(words)}", run(build, words, at_once(scenario)), lambda got: got == (0, stored["stdout"], "")
     yield "a scenario, byte by byte", run(build, ["run"], in_pieces(scenario, 1, 40)), lambda got: got == (0, stored["stdout"], "")
+    # Under Tally node 2 answers node 1, and node 3 hears nothing. Under Relay node 2 passes the number on to node 3, which drops it.
+    passed_on = b"witnesses 2\nnode 1 honest\nnode 2 honest\nnode 3 mute\ntimer 1 5\naudit 2\n"
+    for words, third in [(["run"], "trusted"), (["run", "--relay"], "suspected"), (["run", "--workers", "8", "--relay"], "suspected")]:
+        want = "".join(f"witness {place}\n1 trusted\n2 trusted\n3 {third}\n" for place in range(2)) + "equal\n"
+        yield f"a scenario: {' '.join(words)}", run(build, words, at_once(passed_on)), lambda got, want=want: got == (0, want, "")
     two_nodes = b"witnesses 1\nnode 1 honest\nnode 2 mute\n"
     spent = two_nodes + b"timer 1 5\n" * 33
     renewed = two_nodes + b"timer 1 5\n" * 32 + b"rekey 1\ntimer 1 5\n"
@@ -178,7 +183,7 @@ def plays(build):
         ("a third key", at_once(two_nodes + b"rekey 1\nrekey 1\n"), "refused 31 WrongKey\n"),
         ("an input one byte too long", zeros(LONGEST_INPUT + 1), "refused 101 InputTooLong\n"),
     ]:
-        yield f"run: {name}", run(build, ["run", "--workers", "2"], feed), lambda got, told=told: got == (1, "", told)
+        yield f"run: {name}", run(build, ["run", "--workers", "8"], feed), lambda got, told=told: got == (1, "", told)
     output = closed_pipe()
     got = run(build, ["run"], at_once(scenario), stdout=output)
     os.close(output)
@@ -230,7 +235,7 @@ def cases(build):
         got = run(build, ["status"], at_once(example), stdout=output)
         os.close(output)
         yield name, got, lambda got: got == (1, "", "refused 102 WriteFailed\n")
-    for words in [[], ["nothing"], ["status", "more"], ["status", "--other"], ["--help"], ["help"], ["status", "--help"], ["prove"], ["prove", "x"], ["prove", "4294967296"], ["merge", "more"], ["check", "--other"], ["run", "more"], ["run", "--workers"], ["run", "--workers", "0"], ["run", "--workers", "3"], ["run", "--workers", "9"], ["run", "--workers", "x"]]:
+    for words in [[], ["nothing"], ["status", "more"], ["status", "--other"], ["--help"], ["help"], ["status", "--help"], ["prove"], ["prove", "x"], ["prove", "4294967296"], ["merge", "more"], ["check", "--other"], ["run", "more"], ["run", "--workers"], ["run", "--workers", "0"], ["run", "--workers", "9"], ["run", "--workers", "x"]]:
         name = f"the words {' '.join(words) or '(none)'}"
         yield name, run(build, words, at_once(example)), lambda got: got[0] == 2 and got[1] == "" and ("Usage: node_sim" in got[2] or "try '--help'" in got[2])
 

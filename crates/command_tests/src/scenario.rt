@@ -22,7 +22,7 @@ fn told<H: Threads + Wait + Sync>(
 fn each_witness_tells_of_each_node(rt: HostRuntime) {
     let text =
         b"witnesses 2\nnode 1 honest\nnode 2 wrong\nnode 3 mute\ntimer 1 5\ntimer 2 7\naudit 2\n";
-    for workers in 1..3 {
+    for workers in [1, 2, 8] {
         let (answer, written) = told(&rt, rt.alloc(), workers, text);
         assert!(rt; answer == Ok(()));
         assert!(rt;
@@ -39,6 +39,15 @@ fn a_text_that_is_no_scenario_is_refused(rt: HostRuntime) {
     assert!(rt; written.is_empty());
 }
 
+#[test]
+fn a_wrong_number_of_workers_is_refused(rt: HostRuntime) -> Result<(), Fail> {
+    let text = b"witnesses 1\nnode 1 honest\ntimer 1 5\n";
+    for workers in [0, 9] {
+        assert!(rt; is_refused(&rt, rt.alloc(), workers, text, "refused 90 BadWorkers")?);
+    }
+    Ok(())
+}
+
 /// Node 1's timer ticks so many times, and these lines follow.
 fn push_ticks(text: &mut Vec<u8>, count: u32, lines: &[u8]) -> Result<(), AllocError> {
     for _ in 0..count {
@@ -51,10 +60,11 @@ fn push_ticks(text: &mut Vec<u8>, count: u32, lines: &[u8]) -> Result<(), AllocE
 fn is_refused<H: Threads + Wait + Sync>(
     rt: &H,
     alloc: Global,
+    workers: u32,
     text: &[u8],
     line: &str,
 ) -> Result<bool, Fail> {
-    let (answer, written) = outcome(rt, alloc, Task::Run(2), text);
+    let (answer, written) = outcome(rt, alloc, Task::Run(workers), text);
     let Err(fault) = answer else {
         return Ok(false);
     };
@@ -67,7 +77,7 @@ fn is_refused<H: Threads + Wait + Sync>(
 fn a_spent_key_ends_the_run(rt: HostRuntime) -> Result<(), Fail> {
     let mut text = Vec::from_slice(rt.alloc(), b"witnesses 2\nnode 1 honest\nnode 2 mute\n")?;
     push_ticks(&mut text, 33, b"")?;
-    assert!(rt; is_refused(&rt, rt.alloc(), &text, "refused 36 KeySpent")?);
+    assert!(rt; is_refused(&rt, rt.alloc(), 2, &text, "refused 36 KeySpent")?);
     Ok(())
 }
 
@@ -83,7 +93,7 @@ fn seventeen_ticks(alloc: Global, lines: &[u8]) -> Result<Vec<u8>, AllocError> {
 #[test]
 fn two_leaves_are_signed_with_each_time(rt: HostRuntime) -> Result<(), Fail> {
     let text = seventeen_ticks(rt.alloc(), b"")?;
-    assert!(rt; is_refused(&rt, rt.alloc(), &text, "refused 36 KeySpent")?);
+    assert!(rt; is_refused(&rt, rt.alloc(), 2, &text, "refused 36 KeySpent")?);
     Ok(())
 }
 
@@ -99,7 +109,7 @@ fn second_keys_sign_on(rt: HostRuntime) -> Result<(), Fail> {
 #[test]
 fn a_second_key_is_taken_once(rt: HostRuntime) -> Result<(), Fail> {
     let text = seventeen_ticks(rt.alloc(), b"rekey 1\nrekey 2\nrekey 1\n")?;
-    assert!(rt; is_refused(&rt, rt.alloc(), &text, "refused 31 WrongKey")?);
+    assert!(rt; is_refused(&rt, rt.alloc(), 2, &text, "refused 31 WrongKey")?);
     Ok(())
 }
 
@@ -144,7 +154,7 @@ fn push_trusting(alloc: Global, witness: u32, text: &mut Vec<u8>) -> Result<(), 
 fn many_nodes_and_all_witnesses(rt: HostRuntime) -> Result<(), Fail> {
     let alloc = rt.alloc();
     let text = many_nodes(alloc)?;
-    let (answer, written) = outcome(&rt, alloc, Task::Run(2), text.as_slice());
+    let (answer, written) = outcome(&rt, alloc, Task::Run(8), text.as_slice());
     assert!(rt; answer == Ok(()));
     let mut wanted = Vec::new(alloc);
     for witness in 0..8_u32 {

@@ -35,39 +35,39 @@ fn spelled_digest_at<S: Evidence<Tally>>(
     }
 }
 
-/// At how many of the first places the store tells the digest that the item's text has; up to its count, and behind it.
-#[derive(Clone, Copy, Debug, PartialEq, Eq)]
-struct Told {
-    same: u64,
-    none_behind: bool,
-}
-
-fn told_by<S: Evidence<Tally>>(alloc: Global, store: &S) -> Result<Told, Fail> {
-    let mut same = 0;
+/// Whether the store tells at each place the digest that the item's text has, and none behind the last.
+fn tells_digests<S: Evidence<Tally>>(alloc: Global, store: &S) -> Result<bool, Fail> {
     for n in 0..store.count() {
         let digest = store.digest_at(n);
-        if digest.is_some() && digest == spelled_digest_at::<S>(alloc, store, n)? {
-            same += 1;
+        if digest.is_none() || digest != spelled_digest_at::<S>(alloc, store, n)? {
+            return Ok(false);
         }
     }
-    Ok(Told {
-        same,
-        none_behind: store.digest_at(store.count()).is_none(),
-    })
+    Ok(store.digest_at(store.count()).is_none())
+}
+
+/// How many items a store has, and whether it tells their digests.
+#[derive(Clone, Copy, Debug, PartialEq, Eq)]
+struct Told {
+    count: u64,
+    digests: bool,
 }
 
 fn digests_told<S: Evidence<Tally>>(alloc: Global) -> Result<Told, Fail> {
     let mut nodes = make_nodes(alloc)?;
     let mut store: Box<S> = new_store(alloc, &nodes.directory)?;
     fill::<S>(alloc, &mut nodes, &mut store)?;
-    told_by::<S>(alloc, &store)
+    Ok(Told {
+        count: store.count(),
+        digests: tells_digests::<S>(alloc, &store)?,
+    })
 }
 
 #[test]
 fn digests_are_those_of_the_texts(rt: HostRuntime) -> Result<(), Fail> {
     let expected = Told {
-        same: 3,
-        none_behind: true,
+        count: 3,
+        digests: true,
     };
     assert!(rt; digests_told::<Store<Tally>>(rt.alloc())? == expected);
     Ok(())

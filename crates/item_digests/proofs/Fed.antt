@@ -1,15 +1,11 @@
 -- Texts that are hashed one behind the other.
-use Rattle.std.proofs.Common.{◌≡◌, ℕ, ◌+◌, List, [], ◌∷◌, ◌++◌, take, sym, subst, append_assoc, append-nil}
+use Rattle.std.proofs.Common.{◌≡◌, ℕ, ◌+◌, List, [], ◌∷◌, ◌++◌, take, sym, subst, append_assoc}
 use Rattle.std.specs.List.{flat_map}
 use Rattle.std.proofs.lemmas.List.{flat_map_more}
 use Rattle.sha2.specs.declared.Sha256.{Sha256}
 use Rattle.sha2.specs.Hashers.{Holds256}
 use Rattle.log_chain.specs.Fields.{bytes_text}
 use Rattle.item_digests.specs.within.Feeding.{Feeds}
-
--- no text
-pub nothing_fed : (x : Sha256) → Feeds x x []
-nothing_fed x m held = subst (Holds256 x) (sym (append-nil m)) held
 
 -- one text and then another
 pub both_fed : (x y z : Sha256) (a b : List ℕ) → Feeds x y a → Feeds y z b → Feeds x z (a ++ b)

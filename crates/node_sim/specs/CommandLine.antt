@@ -5,6 +5,7 @@ use Rattle.clap.specs.Simple.{on_top}
 use Rattle.clap.specs.Words.{App, Kinds, Row, Rule, Text, fault_of, new_app, new_rule, one_of, subcommand_of, with_rule, with_subcommand}
 use Rattle.clap.specs.declared.builder.ArgAction.TheVariants.{SetTrue}
 use Rattle.clap.specs.declared.builder.ValueParser.TheVariants.{Signed}
+use Rattle.parallel_checking.specs.declared.limits.TheConstants.{MOST_WORKERS}
 use Rattle.commands.specs.declared.task.Task.{Task}
 use Rattle.commands.specs.declared.task.Task.TheVariants.{Check, Merge, Prove, Run, Status}
 use Rattle.node_sim.specs.declared.words.Request.{Request}
@@ -17,10 +18,10 @@ relay = record (new_rule (codes "relay")) { long = Some (codes "relay"); action 
 abbrev pub node : Rule
 node = record (new_rule (codes "NODE")) { parser = Some (Signed (pos 0) (pos 4294967295)); required = true }
 
--- the option `--workers N`, the number 1 or 2, and 1 where it is not said
+-- the option `--workers N`, a number from 1 to that of the most workers, and 1 where it is not said
 abbrev pub workers : Rule
 workers =
-    record (new_rule (codes "workers")) { long = Some (codes "workers"); value_names = 1; parser = Some (Signed (pos 1) (pos 2)); defaults = codes "1" ∷ [] }
+    record (new_rule (codes "workers")) { long = Some (codes "workers"); value_names = 1; parser = Some (Signed (pos 1) (pos MOST_WORKERS)); defaults = codes "1" ∷ [] }
 
 -- a command with the flag alone
 abbrev pub plain : Text → App

@@ -13,6 +13,7 @@ use clap::error::ErrorKind;
 use clap::{Arg, ArgAction, ArgMatches, Command, Error, value_parser};
 use commands::fault::Fault;
 use commands::task::Task;
+use parallel_checking::MOST_WORKERS;
 use std::alloc::{AllocError, Global};
 use std::io;
 
@@ -85,6 +86,9 @@ fn node<'a>(alloc: Global) -> Arg<'a>
         .help("The number of the node, in decimal digits")
 }
 
+/// The text of the option's help names it.
+const _: () = prove!(MOST_WORKERS == 8);
+
 /// How many workers check.
 fn workers<'a>(alloc: Global) -> Arg<'a>
     ensures rule { rule_of result ≡ workers }
@@ -93,9 +97,9 @@ fn workers<'a>(alloc: Global) -> Arg<'a>
     Arg::new(alloc, "workers")
         .long("workers")
         .value_name("N")
-        .value_parser(value_parser!(u32).range(1..=2))
+        .value_parser(value_parser!(u32).range(1..=MOST_WORKERS as i64))
         .default_value("1")
-        .help("How many workers check the items: 1 or 2")
+        .help("How many workers check the items: 1 to 8")
 }
 
 /// The program's command, without those beneath it.

@@ -85,10 +85,9 @@ fn take<P: Program, S: Evidence<P>>(
     Ok(())
 }
 
-/// Nodes 1 and 2 show their logs: node 1 to the witnesses 0 and 2, and node 2 to the witness 1.
+/// Nodes 1 and 2 show their logs, node 1 to the witness 2, and node 2 to the witness 1.
 fn take_logs(alloc: Global, nodes: &mut Pair, world: &mut World<Tally, Store>) -> Result<()> {
     let one = Box::new(alloc, log_of(alloc, &Tally, &mut nodes.one)?)?;
-    take(alloc, &Tally, world, 0, &one)?;
     take(alloc, &Tally, world, 2, &one)?;
     let two = Box::new(alloc, log_of(alloc, &Tally, &mut nodes.two)?)?;
     take(alloc, &Tally, world, 1, &two)
@@ -107,7 +106,7 @@ fn take_other_history(
 }
 
 /// Witness 0 makes an outline, against which witness 1 makes a short summary; the witnesses 2 and 0 make summaries. Packs 0 and 2 are what
-/// witness 0 has for the witnesses 1 and 2, and packs 1 and 3 what witness 1 has for the witnesses 2 and 0.
+/// witness 0 has for the witnesses 1 and 2, pack 1 what witness 1 has for the witness 2, and pack 3 what witness 2 has for the witness 0.
 fn make_packs(alloc: Global, world: &mut World<Tally, Store>) -> Result<()> {
     tell(alloc, world, Event::Outline { witness: 0 })?;
     tell(
@@ -120,15 +119,15 @@ fn make_packs(alloc: Global, world: &mut World<Tally, Store>) -> Result<()> {
     )?;
     tell(alloc, world, Event::Summarise { witness: 2 })?;
     tell(alloc, world, Event::Summarise { witness: 0 })?;
-    for (witness, summary) in [(0, 0), (1, 1), (0, 1), (1, 2)] {
+    for (witness, summary) in [(0, 0), (1, 1), (0, 1), (2, 2)] {
         tell(alloc, world, Event::Pack { witness, summary })?;
     }
     Ok(())
 }
 
-/// Pack 2 is lost. Pack 0 reaches witness 2 too, for whom it was not made, and pack 3 comes twice.
+/// Pack 2 is lost. Each other one reaches another witness too, for whom it was not made, and pack 3 comes twice.
 fn deliver(alloc: Global, world: &mut World<Tally, Store>) -> Result<()> {
-    for (pack, witness) in [(0, 1), (0, 2), (3, 0), (1, 2), (3, 0)] {
+    for (pack, witness) in [(0, 1), (0, 2), (1, 2), (1, 0), (3, 0), (3, 1), (3, 0)] {
         tell(alloc, world, Event::Deliver { pack, witness })?;
     }
     Ok(())

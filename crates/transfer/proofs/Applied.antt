@@ -1,13 +1,12 @@
 -- The items of a pack that a store does not hold, and what the store is with them.
-use Rattle.std.proofs.Common.{◌≡◌, ◌+◌, ◌<◌, ◌≤◌, ℕ, Bool, true, false, not, cond, List, [], ◌∷◌, ◌++◌, Some, length, map, take, slice_get, get_or, option_map, sym, ap, ◌∙◌, inl, inr, arith}
-use Rattle.std.specs.List.{All, Contains, filter}
-use Rattle.std.proofs.lemmas.Bool.{not-true, not_from_false}
+use Rattle.std.proofs.Common.{◌≡◌, ◌+◌, ◌<◌, ◌≤◌, ℕ, Bool, true, false, not, List, [], ◌∷◌, ◌++◌, Some, length, take, slice_get, get_or, option_map, sym, ap, ◌∙◌, inl, inr, arith}
+use Rattle.std.specs.List.{All, filter}
 use Rattle.std.proofs.lemmas.List.{append-nil, length-map, take_all}
 use Rattle.std.proofs.lemmas.List.Elements.{All-push, All-same}
 use Rattle.std.proofs.lemmas.Option.{slice_get-get_or, slice_get-map}
 use Rattle.item_forms.specs.Pieces.{Piece}
 use Rattle.evidence_item.specs.Checking.{Checked}
-use Rattle.evidence_set.specs.ItemSets.{Items, Has, IsWithin, Join, JoinsAreLeastUpperBounds, JoinsAsExpected, SetsAreLists, contains, insert_all, none, pieces}
+use Rattle.evidence_set.specs.ItemSets.{Items, IsWithin, Join, JoinsAreLeastUpperBounds, JoinsAsExpected, SetsAreLists, contains, insert_all, none, pieces}
 use Rattle.transfer.proofs.Members.{cases_bool, keeps, kept}
 use Rattle.transfer.proofs.Walked.{filter_one_more, pieces-push}
 

@@ -1,11 +1,10 @@
 -- The digests of buckets, made run by run.
-use Rattle.std.proofs.Common.{◌≡◌, ◌+◌, ◌<◌, ◌≤◌, ℕ, suc, List, [], ◌∷◌, ◌++◌, length, map, take, drop, refl, sym, ap, subst, ◌∙◌, add-one, arith}
+use Rattle.std.proofs.Common.{◌≡◌, ◌+◌, ◌<◌, ◌≤◌, ℕ, suc, List, [], ◌∷◌, ◌++◌, map, take, drop, refl, sym, ap, subst, ◌∙◌, add-one}
 use Rattle.std.specs.List.{All}
-use Rattle.std.specs.List.Sorted.{IsStrictlySortedBy}
 use Rattle.std.proofs.lemmas.List.Elements.{All-nil, All-push, All-same}
 use Rattle.sha2.specs.Sha256.{sha256}
 use Rattle.log_chain.specs.Fields.{IsBytesOf}
-use Rattle.transfer.specs.Digests.{AreDigests, IsOutline, buckets, by_digest, in_bucket, joined}
+use Rattle.transfer.specs.Digests.{AreDigests, IsOutline, buckets, in_bucket, joined}
 use Rattle.transfer.specs.within.Runs.{after_run, run_of}
 use Rattle.transfer.proofs.EachBucket.{all_buckets, one_bucket, so_many}
 use Rattle.transfer.proofs.Runs.{IsFrom, all_of_them, from_next, run_here}

@@ -2,7 +2,7 @@ use Rattle.std.proofs.Common.{◌≡◌, ◌++◌, ◌∷◌, [], ◌+◌, ◌�
 use Rattle.std.proofs.lemmas.List.{take_more}
 use Rattle.log_chain.specs.declared.entry.Entry.{Entry}
 use Rattle.item_forms.specs.Spelling.{entry_spelling}
-use Rattle.item_digests.proofs.Fed.{nothing_fed, part_fed}
+use Rattle.item_digests.proofs.Fed.{part_fed}
 use Rattle.item_digests.proofs.feeding.feed_each.Goals as goal
 
 pub loop-entry-preserved : goal.loop-entry-preserved

@@ -1,6 +1,3 @@
-use Rattle.std.proofs.Common.{map, take}
-use Rattle.sha2.specs.Sha256.{sha256}
-use Rattle.transfer.specs.Digests.{in_bucket, joined}
 use Rattle.transfer.proofs.BucketRuns.{IsSoFar}
 use Rattle.transfer.proofs.bucketing.digests_of_buckets.Given as goal
 
