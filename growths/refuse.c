@@ -5,6 +5,8 @@
 #include <errno.h>
 #include <stdio.h>
 #include <stdlib.h>
+#include <sys/syscall.h>
+#include <unistd.h>
 
 static long growths = 0;
 
@@ -30,4 +32,11 @@ void *realloc(void *old, size_t size) {
 
 __attribute__((destructor)) static void tell(void) {
     fprintf(stderr, "growths %ld\n", growths);
+}
+
+// A program with threads ends by this, and no destructor runs.
+void _exit(int status) {
+    tell();
+    syscall(SYS_exit_group, status);
+    __builtin_unreachable();
 }
