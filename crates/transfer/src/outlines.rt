@@ -45,7 +45,7 @@ impl Outline {
     }
 
     /// The digests of the buckets, in their order. It takes no memory.
-    pub fn digests(&self) -> &[Hash]
+    pub(crate) fn digests(&self) -> &[Hash]
         ensures digests { result.now ≡ self.now }
         ensures outline { IsOutline self.now }
     {
