@@ -1,5 +1,5 @@
 -- The text of a store that is read in pieces.
-use Rattle.std.proofs.Common.{◌≡◌, ℕ, List, [], ◌++◌, Result, Ok, Err, sym, ap, subst, ◌∙◌, inl, inr, append_assoc}
+use Rattle.std.proofs.Common.{◌≡◌, ℕ, List, ◌++◌, Result, Ok, Err, sym, ap, subst, ◌∙◌, inl, inr, append_assoc}
 use Rattle.outcome.proofs.Steps.{Ok-inj}
 use Rattle.authenticators.specs.Directory.{Listing}
 use Rattle.item_forms.specs.declared.forms.Fields.{Fields}

@@ -5,9 +5,8 @@ use Rattle.std.proofs.lemmas.Result.{err_from_is_err_and}
 use Rattle.authenticators.specs.Directory.{Listing}
 use Rattle.containers.specs.declared.fault.ImportFault.{ImportFault}
 use Rattle.containers.specs.CheckedItems.{checked_of}
-use Rattle.containers.specs.Feeding.{Feeds}
 use Rattle.containers.specs.Refusals.{Refuses}
-use Rattle.evidence.specs.Importing.{fed_by, import_set}
+use Rattle.evidence.specs.Importing.{fed_by}
 use Rattle.commands.proofs.Pieces.{fed_more, refused_on, text_more}
 use Rattle.commands.proofs.importing.feed_all.Goals as goal
 

@@ -1,9 +1,7 @@
-use Rattle.std.proofs.Common.{◌≡◌, ◌∙◌, List, ℕ, Ok, ap, sym, subst}
-use Rattle.std.proofs.lemmas.Result.{err_from_is_err_and}
+use Rattle.std.proofs.Common.{◌≡◌, ◌∙◌, List, ℕ, Ok, sym, subst}
 use Rattle.outcome.proofs.Steps.{Ok-inj}
 use Rattle.containers.specs.declared.fault.ImportFault.{ImportFault}
 use Rattle.evidence_set.specs.Exports.{magic_of, set_text}
-use Rattle.commands.proofs.Pieces.{end_refused}
 use Rattle.commands.proofs.importing.import.Goals as goal
 
 pub returns-clause-joined : goal.returns-clause-joined
