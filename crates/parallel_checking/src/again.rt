@@ -105,7 +105,7 @@ where
     Ok(answers)
 }
 
-/// Checks those items again whose result is `Memory`, by so many workers in threads of their own, each with the answer written to its
+/// Checks those items again whose result is `Memory`, by so many workers, each with the answer written to its
 /// place; the other results are left. It gives how many results are `Memory` now. The gate is told before and after each check.
 ///
 /// The first of these is told, and then all results are left: `BadWorkers` (90) where the workers are not 1 to [`MOST_WORKERS`];

@@ -46,7 +46,7 @@ pub(crate) fn check_copy<P: Program>(
     check_item(alloc, program, directory, copy)
 }
 
-/// Checks each item under the directory, by so many workers in threads of their own: place `n` of the answer has what `check_item`
+/// Checks each item under the directory, by so many workers: place `n` of the answer has what `check_item`
 /// gives of a copy of item `n`. The gate is told before and after each check.
 ///
 /// The first of these is told: `BadWorkers` (90) where the workers are not 1 to [`MOST_WORKERS`]; `Memory` where a growth beside the
