@@ -113,7 +113,7 @@ def closed_pipe():
 def sessions():
     """The commands of the page of examples, those of one block together, each with the output that the page tells."""
     with open(f"{TOP}/examples/README.md") as file:
-        blocks = file.read().split("\n\n")
+        blocks = file.read().rstrip("\n").split("\n\n")
     for block in blocks:
         if not block.startswith("    $ "):
             continue
