@@ -1,5 +1,5 @@
 #!/usr/bin/env python3
-"""Plays the scenario that the tests of simulation hold, over Python's hashlib alone, and looks for the digest of its items there.
+"""Plays the scenarios that the tests of simulation hold, over Python's hashlib alone, and looks for the digests of their items there.
 
 It shares no code with the crates: keys, logs and nodes under Tally are those of nodes.py, and items are spelled as in stores.py.
 """
@@ -11,19 +11,29 @@ from nodes import Key, Node, sha256, u8, u32, u64
 from stores import demand, spelled_segment, text, turned
 
 TESTS = os.path.join(os.path.dirname(os.path.abspath(__file__)), "..", "crates", "command_tests", "src", "playing.rt")
-NODES = [(1, "honest"), (4, "fork"), (2, "wrong"), (3, "mute"), (9, "fork")]
-ACTS = [
-    *(("timer", 1, 5), ("timer", 2, 7), ("checkpoint", 2), ("timer", 3, 9), ("audit", 3), ("audit", 9), ("timer", 4, 1), ("audit", 2), ("audit", 1)),
-    *(("rekey", 1), ("rekey", 2), ("timer", 1, 6), ("audit", 2), ("rekey", 3), ("rekey", 4), ("timer", 3, 8), ("audit", 4)),
-]
+EACH_KIND = (
+    [(1, "honest"), (4, "fork"), (2, "wrong"), (3, "mute"), (9, "fork")],
+    [
+        *(("timer", 1, 5), ("timer", 2, 7), ("checkpoint", 2), ("timer", 3, 9), ("audit", 3), ("audit", 9), ("timer", 4, 1), ("audit", 2), ("audit", 1)),
+        *(("rekey", 1), ("rekey", 2), ("timer", 1, 6), ("audit", 2), ("rekey", 3), ("rekey", 4), ("timer", 3, 8), ("audit", 4)),
+    ],
+)
+EACH_EFFECT = (
+    [(1, "honest"), (9, "fork"), (4, "fork"), (2, "wrong"), (3, "mute"), (10, "honest")],
+    [
+        *(("timer", 1, 5), ("checkpoint", 2), ("timer", 2, 7), ("timer", 3, 9), ("audit", 3), ("audit", 10), ("audit", 2), ("timer", 9, 1)),
+        *(("checkpoint", 1), ("timer", 1, 6), ("audit", 1), ("audit", 2), ("audit", 10)),
+    ],
+)
 
 
 class Player(Node):
     """A node of a scenario, with the entries of its log and the statements that it signed."""
 
-    ots_type, listed = 4, [number for number, _ in NODES]
+    ots_type = 4
 
-    def __init__(self, number, kind):
+    def __init__(self, number, kind, listed):
+        self.listed = listed
         self.kind, self.contents, self.statements = kind, [], []
         super().__init__(number, 1)
 
@@ -59,8 +69,9 @@ class Player(Node):
 
 
 class Stage:
-    def __init__(self):
-        self.players, self.items, self.calls = {number: Player(number, kind) for number, kind in NODES}, [], 0
+    def __init__(self, nodes):
+        listed = [number for number, _ in nodes]
+        self.players, self.items, self.calls = {number: Player(number, kind, listed) for number, kind in nodes}, [], 0
 
     def entropy(self):
         self.calls += 1
@@ -99,16 +110,26 @@ class Stage:
                 self.items += self.players[number].histories()
 
 
-def main():
-    stage = Stage()
-    for act, *words in ACTS:
+def played(nodes, acts):
+    """The items that come of a scenario."""
+    stage = Stage(nodes)
+    for act, *words in acts:
         getattr(stage, act)(*words)
     stage.end()
-    value = sha256(*(u64(len(item)) + item for item in stage.items)).hex()
+    return stage.items
+
+
+def main():
     with open(TESTS, encoding="utf-8") as file:
-        stands = value in file.read()
-    print([item[0] for item in stage.items], value, "stands there" if stands else "MISSING")
-    sys.exit(not stands)
+        tests = file.read()
+    missing = 0
+    for nodes, acts in (EACH_KIND, EACH_EFFECT):
+        items = played(nodes, acts)
+        value = sha256(*(u64(len(item)) + item for item in items)).hex()
+        stands = value in tests
+        missing += not stands
+        print([item[0] for item in items], value, "stands there" if stands else "MISSING")
+    sys.exit(missing > 0)
 
 
 if __name__ == "__main__":

@@ -307,6 +307,50 @@ def of_statements():
         yield [item, k.log_from(3)], said
 
 
+class Parts:
+    """Node 2's log, which receives two messages of node 1, in parts that overlap."""
+
+    def __init__(self):
+        self.keys = k = Keys()
+        self.message = k.message(1, 8, b"Y")
+        received = [(2, RECV, k.message(1, 7, b"X").quote()), (4, RECV, self.message.quote())]
+        self.log = sorted([*received, *((seq, kind, content) for seq, kind, content in LOG if seq not in (2, 4))])
+
+    def part(self, first, last):
+        return self.keys.segment(2, end_of(sha256(), self.log[: first - 1]), self.log[first - 1 : last])
+
+    def logged(self, place):
+        return place, end_of(sha256(), self.log[:place])
+
+
+def of_parts():
+    """Items that speak of one log, each list in the order of signing, and what a store says that has them."""
+    p = Parts()
+    k = p.keys
+    # demands for the second message and for the log's end, and parts that overlap each other: each shows the message, and the last one
+    # the end
+    demands = [demand(p.message), k.audit(p.logged(4), p.logged(6))]
+    parts = [p.part(1, 4), p.part(3, 5), p.part(3, 6)]
+    # statements with other hashes: on the last entry, which contradicts the last part alone, and on the message, which each part quotes;
+    # and the entries of the second part behind another hash
+    last, sent, other = k.auth(2, 6, ONES), k.auth(1, 8, ONES), k.segment(2, ONES, p.log[2:5])
+    yield [*demands, *parts[:2]], OPEN
+    yield [*demands, *parts], NOTHING
+    yield [last, *parts], SECOND
+    yield [sent, *parts], FIRST
+    yield [parts[1], other], SECOND
+    yield [*demands, last, sent, *parts, other], BOTH
+
+
+def orders(items):
+    """What two witnesses take of the items: all of them, in their order and in the opposite one; every other one each; and all of them from
+    the middle on, beside the first alone."""
+    middle = len(items) // 2
+    yield items, items[::-1]
+    yield items[::2], items[1::2]
+    yield [*items[middle:], *items[:middle]], items[:1]
+
+
 def store(first, second, said):
     """The line of two witnesses that took these items."""
     items = {*first, *second}
@@ -330,6 +374,10 @@ def lines():
     for first, second in (((0, 2, 4), (5, 3, 1)), ((5, 3, 1), (0, 2, 4)), ((4, 0, 5, 1), (5, 4, 3, 2, 1, 0)), ((2, 3, 4, 5, 0, 1), (3, 3)), ((), (1, 5, 0, 4, 2, 3))):
         yield store([six[i] for i in first], [six[i] for i in second], BOTH)
     yield store([], [], NOTHING)
+    # one log in parts, in each of these orders
+    for items, said in of_parts():
+        for first, second in orders(items):
+            yield store(first, second, said)
     # a text of two items, as it is written and as it was before there were second keys, cut off at each place, lengthened, and with its
     # items turned, before a store that has another one
     k = Keys()

@@ -5,7 +5,7 @@ set -eu
 cd "$(dirname "$0")"
 work=$(mktemp -d)
 trap 'rm -rf "$work"' EXIT
-../build.sh "$work" stores outcome sha256_lanes lms_sign log_chain authenticators replay_verifier ref_programs commitment item_forms evidence_item proofs containers evidence_set evidence accuracy kept_evidence plain_store evidence_store
+../build.sh "$work" stores outcome sha256_lanes lms_sign log_chain authenticators replay_verifier ref_programs commitment item_forms item_digests evidence_item proofs containers evidence_set evidence accuracy kept_evidence plain_store tiered_vec kept_entries kept_items node_tables indexed_store evidence_store
 "$work/stores" make half > "$work/12000"
 "$work/stores" make > "$work/24000"
 grep -m1 'model name' /proc/cpuinfo

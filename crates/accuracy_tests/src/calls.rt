@@ -6,7 +6,7 @@ use accuracy::exposes;
 use authenticators::{Authenticator, Directory, NodeId, statement_text};
 use commitment::Node;
 use evidence_item::{Item, check_item};
-use evidence_store::{Evidence, PlainStore};
+use evidence_store::{Evidence, IndexedStore, PlainStore};
 use lms_sign::{LmsType, OtsType, SecretKey};
 use log_chain::{ByteString, Hash};
 use ref_programs::Tally;
@@ -40,11 +40,14 @@ fn new_node(alloc: Global) -> Result<Box<Node<Tally>>, Fail> {
 }
 
 /// A store without items, under the node's directory.
-pub(crate) fn new_store(alloc: Global, node: &Node<Tally>) -> Result<Box<PlainStore<Tally>>, Fail>
-    ensures { IfOk result (λ s. s.value.directory ≡ node.now.directory) }
+pub(crate) fn new_store<S: Evidence<Tally>>(
+    alloc: Global,
+    node: &Node<Tally>,
+) -> Result<Box<S>, Fail>
+    ensures { IfOk result (λ s. (S.contents s.value).directory ≡ node.now.directory) }
 {
     let directory = node.directory().try_clone()?;
-    let store = PlainStore::new(alloc, directory)?;
+    let store = S::new(alloc, directory)?;
     Ok(Box::new(alloc, store)?)
 }
 
@@ -61,12 +64,12 @@ fn statement(alloc: Global, key: &mut SecretKey, hash: Hash) -> Result<Box<Item>
 }
 
 /// Takes the item, if it is valid.
-pub(crate) fn take(
+pub(crate) fn take<S: Evidence<Tally>>(
     alloc: Global,
-    store: &mut PlainStore<Tally>,
+    store: &mut S,
     item: Box<Item>,
 ) -> Result<(), Fail>
-    ensures { OnOk result (store.new.directory ≡ store.old.directory) }
+    ensures { OnOk result ((S.contents store.new).directory ≡ (S.contents store.old).directory) }
 {
     let checked = check_item(alloc, &Tally, store.directory(), Box::into_inner(item))?;
     store.take(checked)?;
@@ -74,28 +77,32 @@ pub(crate) fn take(
 }
 
 /// Takes two statements of entry 1 of node 1, with two hashes, by a copy of the node's key.
-fn take_forgeries(alloc: Global, store: &mut PlainStore<Tally>) -> Result<(), Fail>
-    ensures { OnOk result (store.new.directory ≡ store.old.directory) }
+fn take_forgeries<S: Evidence<Tally>>(alloc: Global, store: &mut S) -> Result<(), Fail>
+    ensures { OnOk result ((S.contents store.new).directory ≡ (S.contents store.old).directory) }
 {
     let mut stolen = make_key(alloc, 1)?;
     let first = statement(alloc, &mut stolen, Hash([1; 32]))?;
     let second = statement(alloc, &mut stolen, Hash([2; 32]))?;
-    take(alloc, store, first)?;
-    take(alloc, store, second)?;
+    take::<S>(alloc, store, first)?;
+    take::<S>(alloc, store, second)?;
     Ok(())
 }
 
 /// Whether a new node is exposed by a store without items, and by one with two statements of it that it did not sign.
-fn exposures(alloc: Global) -> Result<[bool; 2], Fail> {
+fn exposures<S: Evidence<Tally>>(alloc: Global) -> Result<[bool; 2], Fail> {
     let node = new_node(alloc)?;
-    let mut store = new_store(alloc, &node)?;
+    let mut store: Box<S> = new_store(alloc, &node)?;
     let without = exposes(&*store, &node);
-    take_forgeries(alloc, &mut store)?;
+    take_forgeries::<S>(alloc, &mut store)?;
     Ok([without, exposes(&*store, &node)])
 }
 
 #[test]
 fn two_statements_by_a_stolen_key(rt: HostRuntime) -> Result<(), Fail> {
-    assert_eq!(rt; exposures(rt.alloc())?, [false, true]);
+    assert_eq!(rt; exposures::<PlainStore<Tally>>(rt.alloc())?, [false, true]);
+    assert_eq!(rt;
+        exposures::<IndexedStore<Tally>>(rt.alloc())?,
+        [false, true]
+    );
     Ok(())
 }

@@ -7,7 +7,7 @@ use accuracy::exposes;
 use authenticators::{Directory, NodeId, statement_text};
 use commitment::{Message, Node};
 use evidence_item::Item;
-use evidence_store::{Evidence, Indication, PlainStore};
+use evidence_store::{Evidence, IndexedStore, Indication, PlainStore};
 use lms_sign::SecretKey;
 use log_chain::{ByteString, Entry, Hash, base_hash, chain_end, kind};
 use ref_programs::Tally;
@@ -143,8 +143,8 @@ struct Said {
 }
 
 /// The same of a store under the node's directory.
-fn said_by(store: &PlainStore<Tally>, node: &Node<Tally>) -> Result<Said, Fail>
-    requires { store.now.directory ≡ node.now.directory }
+fn said_by<S: Evidence<Tally>>(store: &S, node: &Node<Tally>) -> Result<Said, Fail>
+    requires { (S.contents store.now).directory ≡ node.now.directory }
 {
     let one = store.indication(NodeId(1))?;
     let two = store.indication(NodeId(2))?;
@@ -153,29 +153,29 @@ fn said_by(store: &PlainStore<Tally>, node: &Node<Tally>) -> Result<Said, Fail>
 }
 
 /// The same of a store that has taken that segment alone.
-fn said_of(
+fn said_of<S: Evidence<Tally>>(
     alloc: Global,
     nodes: &mut Nodes,
     start: Start,
     place: Option<usize>,
 ) -> Result<Said, Fail> {
     let item = segment(alloc, nodes, start, place)?;
-    let mut store = new_store(alloc, &nodes.one)?;
-    take(alloc, &mut store, item)?;
-    said_by(&store, &nodes.one)
+    let mut store: Box<S> = new_store(alloc, &nodes.one)?;
+    take::<S>(alloc, &mut store, item)?;
+    said_by::<S>(&store, &nodes.one)
 }
 
 /// The same where the message is quoted as it was sent, with another number, with another hash before it and with the last byte of
 /// its signature changed; and again with another number, behind a CHECKPOINT.
-fn said_of_quotes(alloc: Global) -> Result<[Said; 5], Fail> {
+fn said_of_quotes<S: Evidence<Tally>>(alloc: Global) -> Result<[Said; 5], Fail> {
     let mut nodes = make_nodes(alloc)?;
     // The sender in 4 bytes, the number in 8, the hash in 32, the signature's length in 4, and the signature of 2,348.
     Ok([
-        said_of(alloc, &mut nodes, Start::Init, None)?,
-        said_of(alloc, &mut nodes, Start::Init, Some(11))?,
-        said_of(alloc, &mut nodes, Start::Init, Some(43))?,
-        said_of(alloc, &mut nodes, Start::Init, Some(2395))?,
-        said_of(alloc, &mut nodes, Start::Checkpoint, Some(11))?,
+        said_of::<S>(alloc, &mut nodes, Start::Init, None)?,
+        said_of::<S>(alloc, &mut nodes, Start::Init, Some(11))?,
+        said_of::<S>(alloc, &mut nodes, Start::Init, Some(43))?,
+        said_of::<S>(alloc, &mut nodes, Start::Init, Some(2395))?,
+        said_of::<S>(alloc, &mut nodes, Start::Checkpoint, Some(11))?,
     ])
 }
 
@@ -192,6 +192,10 @@ fn a_receiver_that_quotes_otherwise_is_exposed(rt: HostRuntime) -> Result<(), Fa
         ..honest
     };
     let expected = [honest, changed, changed, changed, changed];
-    assert_eq!(rt; said_of_quotes(rt.alloc())?, expected);
+    assert_eq!(rt; said_of_quotes::<PlainStore<Tally>>(rt.alloc())?, expected);
+    assert_eq!(rt;
+        said_of_quotes::<IndexedStore<Tally>>(rt.alloc())?,
+        expected
+    );
     Ok(())
 }

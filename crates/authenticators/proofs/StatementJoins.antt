@@ -20,7 +20,7 @@ use Rattle.authenticators.proofs.StatementUnions.{IsUnionWithRest, union_more}
 
 -- ---- what is held already
 
-held_there : (held : List Authenticator) (x : Authenticator) → is_held held x ≡ true → Contains held x
+pub held_there : (held : List Authenticator) (x : Authenticator) → is_held held x ≡ true → Contains held x
 held_there held x e = Contains-from_any (λ y z h. equal_same y z ((Equal-is (by_fields y z)).0 h)) x held e
 
 pub there_held : (held : List Authenticator) (x : Authenticator) → Contains held x → is_held held x ≡ true

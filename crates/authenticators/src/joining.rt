@@ -1,13 +1,16 @@
 //! Many statements put into a set at once.
 
-ghost use Rattle.std.specs.Prelude.{◌≡◌, ◌↔◌, ◌+◌, ◌<◌, ◌≤◌, ◌⊎◌, [], ◌++◌, Contains, IfErr, IfOk, OnErr, OnOk, drop, not, reverse, take, vec_capacity, vec_len};
+ghost use Rattle.std.specs.Prelude.{◌≡◌, ◌↔◌, ◌+◌, ◌<◌, ◌≤◌, ◌⊎◌, [], ◌++◌, Contains, IfErr, IfOk, OnErr, OnOk, Ok, drop, false, not, reverse, take, vec_capacity, vec_len};
 ghost use Rattle.std.specs.List.{filter};
 ghost use Rattle.authenticators.specs.declared.authenticator.Authenticator.{Authenticator as Statement};
 ghost use Rattle.authenticators.specs.StatementSet.{IsAscending, IsUnion};
 ghost use Rattle.authenticators.specs.within.Joins.{AreAbove, AreFrom, IsPlaceOf, is_held, with_moved};
+ghost use Rattle.authenticators.specs.within.Noted.{AreClashesOf};
 
 use crate::authenticator::Authenticator;
-use crate::authenticator_store::insert;
+use crate::authenticator_store::{InsertRefused, insert};
+use crate::clash::Clash;
+use crate::noting::{note_each, point_of, points_of};
 use outcome::Memory;
 
 /// Up to so many new statements are put into a set one by one, and more of them all at once.
@@ -51,18 +54,14 @@ fn drop_held(held: &[Authenticator], statements: &mut Vec<Authenticator>)
     );
 }
 
-/// Puts all of the statements among those that are held. Where a growth is refused, what is held stays as it was.
-pub(crate) fn insert_all(
-    held: &mut Vec<Authenticator>,
-    mut statements: Vec<Authenticator>,
-) -> Result<(), Memory>
-    requires { IsAscending held.old.items }
+/// Puts statements that ascend, none of which is held, among those that are. Where a growth is refused, what is held stays as it was.
+fn insert_new(held: &mut Vec<Authenticator>, statements: Vec<Authenticator>) -> Result<(), Memory>
+    requires ascending { IsAscending held.old.items }
+    requires statements { IsAscending statements.items }
     ensures added { OnOk result (IsUnion held.old.items statements.items held.new.items) }
     ensures unchanged { OnErr result (held.new.items ≡ held.old.items) }
     ensures ascending { IsAscending held.new.items }
 {
-    sort(&mut statements);
-    drop_held(held, &mut statements);
     held.reserve(statements.len())?;
     if statements.len() <= FEW {
         insert_each(held, statements);
@@ -71,6 +70,57 @@ pub(crate) fn insert_all(
     let moved = Vec::with_capacity(*held.allocator(), held.len() + statements.len())?;
     join(held, statements, moved);
     Ok(())
+}
+
+/// Puts all of the statements among those that are held, and notes what is in conflict with them. Where a growth is refused, all stays
+/// as it was.
+pub(crate) fn insert_all(
+    held: &mut Vec<Authenticator>,
+    clashes: &mut Vec<Clash>,
+    mut statements: Vec<Authenticator>,
+) -> Result<(), Memory>
+    requires ascending { IsAscending held.old.items }
+    requires clashes { AreClashesOf held.old.items clashes.old.items }
+    ensures added { OnOk result (IsUnion held.old.items statements.items held.new.items) }
+    ensures unchanged { OnErr result (held.new.items ≡ held.old.items) }
+    ensures ascending { IsAscending held.new.items }
+    ensures clashes { AreClashesOf held.new.items clashes.new.items }
+{
+    sort(&mut statements);
+    drop_held(held, &mut statements);
+    let points = points_of(*held.allocator(), &statements)?;
+    clashes.reserve(points.len())?;
+    insert_new(held, statements)?;
+    note_each(held, clashes, &points);
+    Ok(())
+}
+
+/// Puts one statement among those that are held, and notes what is in conflict with it. Where a growth is refused, all stays as it was.
+pub(crate) fn insert_one(
+    held: &mut Vec<Authenticator>,
+    clashes: &mut Vec<Clash>,
+    authenticator: Authenticator,
+) -> Result<bool, InsertRefused>
+    requires ascending { IsAscending held.old.items }
+    requires clashes { AreClashesOf held.old.items clashes.old.items }
+    ensures told { IfOk result (λ new. (new ≡ false) ↔ Contains held.old.items authenticator) }
+    ensures held { Contains held.old.items authenticator → result ≡ Ok false }
+    ensures added { OnOk result ((x : Statement) → Contains held.new.items x ↔ (Contains held.old.items x ⊎ (x ≡ authenticator))) }
+    ensures given_back { IfErr result (λ refused. refused.0 ≡ authenticator) }
+    ensures unchanged { OnErr result (held.new.items ≡ held.old.items) }
+    ensures ascending { IsAscending held.new.items }
+    ensures clashes { AreClashesOf held.new.items clashes.new.items }
+{
+    if is_held(held, &authenticator) {
+        return Ok(false);
+    }
+    if clashes.reserve(1).is_err() {
+        return Err(InsertRefused(authenticator));
+    }
+    let point = point_of(&authenticator);
+    let new = insert(held, authenticator)?;
+    note_each(held, clashes, &[point]);
+    Ok(new)
 }
 
 /// Inserts one statement after the other. There is room for all of them.

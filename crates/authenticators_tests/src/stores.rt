@@ -263,3 +263,42 @@ fn statements_are_put_in_at_once(rt: HostRuntime) -> Result<(), Fail> {
     assert!(rt; held == [Some(5), Some(6), Some(15)]);
     Ok(())
 }
+
+/// Statements of nodes 1 and 2 with the numbers from 0 to 17, the last first, and two more of node 1, which are in conflict with those
+/// of their numbers, 9 and 3.
+fn statements_of_two(alloc: Global) -> Result<Vec<Authenticator>, Fail> {
+    let mut given = Vec::new(alloc);
+    for place in (0..18u8).rev() {
+        let seq = place as u64;
+        given.push(statement(alloc, 1, seq, 0, 0)?)?;
+        given.push(statement(alloc, 2, seq, 0, 0)?)?;
+    }
+    given.push(statement(alloc, 1, 9, 1, 0)?)?;
+    given.push(statement(alloc, 1, 3, 2, 0)?)?;
+    Ok(given)
+}
+
+#[test]
+fn the_least_conflict_of_many_is_told(rt: HostRuntime) -> Result<(), Fail> {
+    let alloc = rt.alloc();
+    let mut store = store_of(alloc, &[(1, 12, 7, 0), (2, 4, 0, 9)])?;
+    store.insert_all(statements_of_two(alloc)?)?;
+    assert!(rt; store.len() == 40);
+    assert!(rt; is_conflict(&store, (1, 3, 0, 0), (1, 3, 2, 0)));
+    assert!(rt; !has_conflict(&store, 2) && !has_conflict(&store, 0));
+    Ok(())
+}
+
+#[test]
+fn a_conflict_at_a_lesser_number_is_told(rt: HostRuntime) -> Result<(), Fail> {
+    let alloc = rt.alloc();
+    let mut store = store_of(alloc, &[(1, 9, 0, 0), (1, 9, 1, 0), (1, 4, 0, 0)])?;
+    assert!(rt; is_conflict(&store, (1, 9, 0, 0), (1, 9, 1, 0)));
+    assert!(rt; insert(alloc, &mut store, (1, 4, 1, 0))?);
+    assert!(rt; is_conflict(&store, (1, 4, 0, 0), (1, 4, 1, 0)));
+    assert!(rt;
+        insert(alloc, &mut store, (1, 7, 1, 0))? && insert(alloc, &mut store, (1, 7, 2, 0))?
+    );
+    assert!(rt; is_conflict(&store, (1, 4, 0, 0), (1, 4, 1, 0)));
+    Ok(())
+}

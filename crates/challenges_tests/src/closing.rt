@@ -8,7 +8,7 @@ use challenges::send_challenge;
 use commitment::{Message, Node};
 use evidence_item::check_item;
 use evidence_set::Indication;
-use evidence_store::{Evidence, PlainStore};
+use evidence_store::{Evidence, IndexedStore, PlainStore};
 use item_forms::{Form, Item};
 use lms_sign::SecretKey;
 use ref_programs::Tally;
@@ -24,23 +24,23 @@ struct Said {
 }
 
 /// Takes the item, which is valid.
-fn take(alloc: Global, store: &mut PlainStore<Tally>, item: Box<Item>) -> Result<(), Fail> {
+fn take<S: Evidence<Tally>>(alloc: Global, store: &mut S, item: Box<Item>) -> Result<(), Fail> {
     let checked = check_item(alloc, &Tally, store.directory(), Box::into_inner(item))?;
     store.take(checked)?;
     Ok(())
 }
 
 /// What a store says that has the challenge and its answer alone, under the node's directory.
-fn said_of(
+fn said_of<S: Evidence<Tally>>(
     alloc: Global,
     node: &Node<Tally>,
     challenge: Box<Item>,
     answer: Box<Item>,
 ) -> Result<Said, Fail> {
-    let store = PlainStore::new(alloc, node.directory().try_clone()?)?;
+    let store = S::new(alloc, node.directory().try_clone()?)?;
     let mut store = Box::new(alloc, store)?;
-    take(alloc, &mut store, challenge)?;
-    take(alloc, &mut store, answer)?;
+    take::<S>(alloc, &mut store, challenge)?;
+    take::<S>(alloc, &mut store, answer)?;
     Ok(Said {
         one: store.indication(NodeId(1))?,
         two: store.indication(NodeId(2))?,
@@ -76,20 +76,24 @@ struct Shown {
 }
 
 /// Node 2 is audited from entry 2 to entry 5, by statements that it never signed: another key that is equal to its own did.
-fn audited(alloc: Global, nodes: &mut Nodes, node: &mut Node<Tally>) -> Result<Shown, Fail> {
+fn audited<S: Evidence<Tally>>(
+    alloc: Global,
+    nodes: &mut Nodes,
+    node: &mut Node<Tally>,
+) -> Result<Shown, Fail> {
     let challenge = audit(alloc, &mut nodes.two, Some((2, SECOND)), (5, FIFTH))?;
     let challenge = Box::new(alloc, challenge)?;
     let given = answered(alloc, node, challenge.try_clone(alloc)?)?;
     let answer = copy_of(alloc, &given.item)?;
-    let said = said_of(alloc, node, challenge, answer)?;
+    let said = said_of::<S>(alloc, node, challenge, answer)?;
     let part = part_of(alloc, node, Box::into_inner(given).item)?;
     Ok(Shown { part, said })
 }
 
-fn shown_by_statements_of_another(alloc: Global) -> Result<Shown, Fail> {
+fn shown_by_statements_of_another<S: Evidence<Tally>>(alloc: Global) -> Result<Shown, Fail> {
     let mut nodes = make_nodes(alloc)?;
     let mut node = node_with_log(alloc, &nodes)?;
-    audited(alloc, &mut nodes, &mut node)
+    audited::<S>(alloc, &mut nodes, &mut node)
 }
 
 const ANSWERED: Said = Said {
@@ -109,7 +113,8 @@ fn an_audit_by_statements_of_another_is_answered(rt: HostRuntime) -> Result<(), 
         }),
         said: ANSWERED,
     };
-    assert_eq!(rt; shown_by_statements_of_another(rt.alloc())?, expected);
+    assert!(rt; shown_by_statements_of_another::<PlainStore<Tally>>(rt.alloc())? == expected);
+    assert!(rt; shown_by_statements_of_another::<IndexedStore<Tally>>(rt.alloc())? == expected);
     Ok(())
 }
 
@@ -132,7 +137,7 @@ fn acknowledges(item: &Item, message: &Message) -> bool {
 }
 
 /// Node 2, which received the first message, is asked to acknowledge the second one.
-fn heard_of_second(
+fn heard_of_second<S: Evidence<Tally>>(
     alloc: Global,
     node: &mut Node<Tally>,
     first: &Message,
@@ -148,18 +153,18 @@ fn heard_of_second(
         is_first,
         messages: given.messages.len(),
         is_unchanged: counts_of(node) == before,
-        said: said_of(alloc, node, challenge, answer)?,
+        said: said_of::<S>(alloc, node, challenge, answer)?,
     })
 }
 
 /// Node 1 signs two messages to node 2 under the number 4.
-fn heard_of_two(alloc: Global) -> Result<Heard, Fail> {
+fn heard_of_two<S: Evidence<Tally>>(alloc: Global) -> Result<Heard, Fail> {
     let mut nodes = make_nodes(alloc)?;
     let mut node = node_with_log(alloc, &nodes)?;
     let first = nodes.one.message(alloc, 2, 4, b"X")?;
     let second = nodes.one.message(alloc, 2, 4, b"Y")?;
     node.receive(&first, [0; 32])?;
-    heard_of_second(alloc, &mut node, &first, second)
+    heard_of_second::<S>(alloc, &mut node, &first, second)
 }
 
 /// Its signatures expose node 1, and nothing speaks against node 2.
@@ -174,7 +179,8 @@ fn the_first_of_two_messages_is_acknowledged(rt: HostRuntime) -> Result<(), Fail
             ..ANSWERED
         },
     };
-    assert_eq!(rt; heard_of_two(rt.alloc())?, expected);
+    assert!(rt; heard_of_two::<PlainStore<Tally>>(rt.alloc())? == expected);
+    assert!(rt; heard_of_two::<IndexedStore<Tally>>(rt.alloc())? == expected);
     Ok(())
 }
 
@@ -196,7 +202,7 @@ fn signature_of(item: &Item) -> (usize, Option<u8>) {
     }
 }
 
-fn signed_answer(
+fn signed_answer<S: Evidence<Tally>>(
     alloc: Global,
     node: &mut Node<Tally>,
     challenge: Box<Item>,
@@ -208,7 +214,7 @@ fn signed_answer(
         len,
         first,
         messages: given.messages.len(),
-        said: said_of(alloc, node, challenge, answer)?,
+        said: said_of::<S>(alloc, node, challenge, answer)?,
     })
 }
 
@@ -229,7 +235,7 @@ fn sign_by(node: &mut Node<Tally>, key: Box<SecretKey>) -> Result<(), Fail> {
 }
 
 /// The node is asked before it signs by this key, and afterwards.
-fn asked_twice(
+fn asked_twice<S: Evidence<Tally>>(
     alloc: Global,
     node: &mut Node<Tally>,
     key: Box<SecretKey>,
@@ -242,7 +248,7 @@ fn asked_twice(
     Ok(Rekeyed {
         refusal,
         is_unchanged,
-        signed: signed_answer(alloc, node, challenge)?,
+        signed: signed_answer::<S>(alloc, node, challenge)?,
     })
 }
 
@@ -254,14 +260,14 @@ fn use_31_leaves(alloc: Global, nodes: &mut Nodes, node: &mut Node<Tally>) -> Re
     Ok(())
 }
 
-fn asked_around_next_key(alloc: Global) -> Result<Rekeyed, Fail> {
+fn asked_around_next_key<S: Evidence<Tally>>(alloc: Global) -> Result<Rekeyed, Fail> {
     let mut nodes = make_nodes(alloc)?;
     let key = list_next_key(alloc, &mut nodes)?;
     let mut node = node_with_log(alloc, &nodes)?;
     use_31_leaves(alloc, &mut nodes, &mut node)?;
     let message = nodes.one.message(alloc, 2, 21, &ADDS_ONE)?;
     let challenge = send_challenge(Box::into_inner(message))?;
-    asked_twice(alloc, &mut node, key, Box::new(alloc, challenge)?)
+    asked_twice::<S>(alloc, &mut node, key, Box::new(alloc, challenge)?)
 }
 
 /// A signature by H5 and W1 has 8,684 bytes; one by key 1 stands behind the key's number.
@@ -277,6 +283,7 @@ fn the_next_key_answers(rt: HostRuntime) -> Result<(), Fail> {
             said: ANSWERED,
         },
     };
-    assert_eq!(rt; asked_around_next_key(rt.alloc())?, expected);
+    assert!(rt; asked_around_next_key::<PlainStore<Tally>>(rt.alloc())? == expected);
+    assert!(rt; asked_around_next_key::<IndexedStore<Tally>>(rt.alloc())? == expected);
     Ok(())
 }

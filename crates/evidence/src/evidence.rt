@@ -68,7 +68,8 @@ pub trait Evidence<P: Program>: Drop {
 
     /// Adds an item that was checked under the store's directory, and answers whether it is new. Of an item that keeps what checking
     /// found it verifies no signature and hashes no content; of a segment of [`Checked::from_parts`] it hashes the entries and verifies
-    /// what they quote. Where a growth is refused, and only there, the item is given back and the store is as it was.
+    /// what they quote. Where a growth is refused, or the store has room for no item more, the item is given back and the store is as it
+    /// was.
     fn take(&mut self, checked: Checked<P>) -> Result<bool, TakeRefused<P>>
         requires { IsChecked (contents self.old).directory P.means checked }
         ensures told { IfOk result (λ new. new ≡ not (contains (contents self.old).items checked.item)) }

@@ -1,9 +1,9 @@
 //! A store without items, under a directory whose keys nobody has.
 
-use crate::samples::{Store, new_store};
+use crate::samples::new_store;
 use authenticators::{Directory, NodeId};
 use evidence_set::Indication;
-use evidence_store::{AskFault, Evidence};
+use evidence_store::{AskFault, Evidence, IndexedStore, PlainStore};
 use ref_programs::Tally;
 use std::alloc::Global;
 use std::test::Fail;
@@ -68,16 +68,15 @@ fn read_nothing<S: Evidence<Tally>>(alloc: Global) -> Result<Told, Fail> {
 
 #[test]
 fn a_store_without_items(rt: HostRuntime) -> Result<(), Fail> {
-    let told = read_nothing::<Store<Tally>>(rt.alloc())?;
-    assert!(rt;
-        told == Told {
-            new: 0,
-            count: 0,
-            is_written: true,
-            said: [Indication::Trusted, Indication::Trusted],
-            refused: [44, 44, 44],
-        }
-    );
+    let expected = Told {
+        new: 0,
+        count: 0,
+        is_written: true,
+        said: [Indication::Trusted, Indication::Trusted],
+        refused: [44, 44, 44],
+    };
+    assert!(rt; read_nothing::<PlainStore<Tally>>(rt.alloc())? == expected);
+    assert!(rt; read_nothing::<IndexedStore<Tally>>(rt.alloc())? == expected);
     Ok(())
 }
 

@@ -1,9 +1,9 @@
 //! The demands to node 2 that are open, item by item, while their answers come.
 
-use crate::samples::{Nodes, Signer, Store, make_nodes, new_store, take_copy};
+use crate::samples::{Nodes, Signer, make_nodes, new_store, take_copy};
 use authenticators::NodeId;
 use evidence_item::Item;
-use evidence_store::Evidence;
+use evidence_store::{Evidence, IndexedStore, PlainStore};
 use ref_programs::Tally;
 use std::alloc::Global;
 use std::test::Fail;
@@ -123,15 +123,13 @@ fn each_open_of_all<S: Evidence<Tally>>(alloc: Global) -> Result<[Open; 4], Fail
 
 #[test]
 fn demands_are_open_until_they_are_answered(rt: HostRuntime) -> Result<(), Fail> {
-    let opened = each_open_of_all::<Store<Tally>>(rt.alloc())?;
-    assert!(rt;
-        opened
-            == [
-                open_at(4, [0, 1, 2, 3]),
-                open_at(3, [0, 1, 3, NOWHERE]),
-                open_at(2, [0, 3, NOWHERE, NOWHERE]),
-                open_at(1, [3, NOWHERE, NOWHERE, NOWHERE]),
-            ]
-    );
+    let expected = [
+        open_at(4, [0, 1, 2, 3]),
+        open_at(3, [0, 1, 3, NOWHERE]),
+        open_at(2, [0, 3, NOWHERE, NOWHERE]),
+        open_at(1, [3, NOWHERE, NOWHERE, NOWHERE]),
+    ];
+    assert!(rt; each_open_of_all::<PlainStore<Tally>>(rt.alloc())? == expected);
+    assert!(rt; each_open_of_all::<IndexedStore<Tally>>(rt.alloc())? == expected);
     Ok(())
 }

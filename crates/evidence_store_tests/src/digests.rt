@@ -1,8 +1,8 @@
 //! The digests of a store's items, and which items it has.
 
-use crate::samples::{Nodes, Store, ZEROS, make_nodes, new_store, take};
+use crate::samples::{Nodes, ZEROS, make_nodes, new_store, take};
 use evidence_item::Item;
-use evidence_store::Evidence;
+use evidence_store::{Evidence, IndexedStore, PlainStore};
 use log_chain::Hash;
 use ref_programs::Tally;
 use sha2::{Digest, Sha256};
@@ -69,7 +69,8 @@ fn digests_are_those_of_the_texts(rt: HostRuntime) -> Result<(), Fail> {
         count: 3,
         digests: true,
     };
-    assert!(rt; digests_told::<Store<Tally>>(rt.alloc())? == expected);
+    assert!(rt; digests_told::<PlainStore<Tally>>(rt.alloc())? == expected);
+    assert!(rt; digests_told::<IndexedStore<Tally>>(rt.alloc())? == expected);
     Ok(())
 }
 
@@ -88,6 +89,7 @@ fn holds_it<S: Evidence<Tally>>(alloc: Global) -> Result<[bool; 2], Fail> {
 
 #[test]
 fn a_store_has_what_it_took(rt: HostRuntime) -> Result<(), Fail> {
-    assert!(rt; holds_it::<Store<Tally>>(rt.alloc())? == [false, true]);
+    assert!(rt; holds_it::<PlainStore<Tally>>(rt.alloc())? == [false, true]);
+    assert!(rt; holds_it::<IndexedStore<Tally>>(rt.alloc())? == [false, true]);
     Ok(())
 }

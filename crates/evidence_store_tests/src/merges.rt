@@ -1,8 +1,8 @@
 //! Three witnesses of the same items, which came in three orders, or to one of them each and crosswise to the others.
 
-use crate::samples::{Nodes, Store, ZEROS, make_nodes, new_store, take_copy};
+use crate::samples::{Nodes, ZEROS, make_nodes, new_store, take_copy};
 use evidence_item::Item;
-use evidence_store::Evidence;
+use evidence_store::{Evidence, IndexedStore, PlainStore};
 use log_chain::Hash;
 use ref_programs::Tally;
 use std::alloc::Global;
@@ -150,21 +150,20 @@ fn ordered_alike<S: Evidence<Tally>>(alloc: Global) -> Result<bool, Fail> {
 
 #[test]
 fn items_come_in_three_orders(rt: HostRuntime) -> Result<(), Fail> {
-    assert!(rt; ordered_alike::<Store<Tally>>(rt.alloc())?);
+    assert!(rt; ordered_alike::<PlainStore<Tally>>(rt.alloc())?);
+    assert!(rt; ordered_alike::<IndexedStore<Tally>>(rt.alloc())?);
     Ok(())
 }
 
 #[test]
 fn items_go_from_store_to_store(rt: HostRuntime) -> Result<(), Fail> {
-    let merged = merge_three::<Store<Tally>>(rt.alloc())?;
-    assert!(rt;
-        merged
-            == Merged {
-                new: [2, 0, 4, 2, 1],
-                before: [false, false],
-                after: [true, true],
-                alike: true,
-            }
-    );
+    let expected = Merged {
+        new: [2, 0, 4, 2, 1],
+        before: [false, false],
+        after: [true, true],
+        alike: true,
+    };
+    assert!(rt; merge_three::<PlainStore<Tally>>(rt.alloc())? == expected);
+    assert!(rt; merge_three::<IndexedStore<Tally>>(rt.alloc())? == expected);
     Ok(())
 }

@@ -2,9 +2,9 @@
 
 ghost use Rattle.std.specs.Prelude.{◌≡◌};
 
-use crate::samples::{Store, new_store};
+use crate::samples::new_store;
 use crate::texts::{Text, text_of_two};
-use evidence_store::{Evidence, Importer};
+use evidence_store::{Evidence, Importer, IndexedStore, PlainStore};
 use ref_programs::Tally;
 use std::alloc::Global;
 use std::test::Fail;
@@ -87,40 +87,59 @@ const OTHER_MAGIC: Told = Told {
     is_written: false,
 };
 
+/// Whether this is made of the text, in pieces of any length.
+fn tells_in_pieces<S: Evidence<Tally>>(
+    alloc: Global,
+    on: &Text,
+    text: &[u8],
+    expected: Told,
+) -> Result<bool, Fail> {
+    for length in [1, 7, 4096] {
+        if read_in_pieces::<S>(alloc, on, text, length)? != expected {
+            return Ok(false);
+        }
+    }
+    Ok(true)
+}
+
+/// Whether a store reads the text of two items that it wrote.
+fn reads_the_whole<S: Evidence<Tally>>(alloc: Global) -> Result<bool, Fail> {
+    let on = text_of_two::<S>(alloc)?;
+    tells_in_pieces::<S>(alloc, &on, &on.text, READ)
+}
+
 #[test]
 fn pieces_of_any_length_are_read_as_the_whole(rt: HostRuntime) -> Result<(), Fail> {
-    let on = text_of_two::<Store<Tally>>(rt.alloc())?;
-    for length in [1, 7, 4096] {
-        let told = read_in_pieces::<Store<Tally>>(rt.alloc(), &on, &on.text, length)?;
-        assert_eq!(rt; told, READ);
-    }
+    assert!(rt; reads_the_whole::<PlainStore<Tally>>(rt.alloc())?);
+    assert!(rt; reads_the_whole::<IndexedStore<Tally>>(rt.alloc())?);
     Ok(())
+}
+
+/// Whether a store refuses that text at its end where its last byte is missing.
+fn misses_the_last_byte<S: Evidence<Tally>>(alloc: Global) -> Result<bool, Fail> {
+    let on = text_of_two::<S>(alloc)?;
+    let [cut @ .., _] = on.text.as_slice() else {
+        return Err("no text")?;
+    };
+    tells_in_pieces::<S>(alloc, &on, cut, CUT_OFF)
 }
 
 #[test]
 fn a_text_without_its_last_byte_is_cut_off_at_the_end(rt: HostRuntime) -> Result<(), Fail> {
-    let on = text_of_two::<Store<Tally>>(rt.alloc())?;
-    let [cut @ .., _] = on.text.as_slice() else {
-        return Err("no text")?;
-    };
-    for length in [1, 7, 4096] {
-        let told = read_in_pieces::<Store<Tally>>(rt.alloc(), &on, cut, length)?;
-        assert_eq!(rt; told, CUT_OFF);
-    }
+    assert!(rt; misses_the_last_byte::<PlainStore<Tally>>(rt.alloc())?);
+    assert!(rt; misses_the_last_byte::<IndexedStore<Tally>>(rt.alloc())?);
     Ok(())
+}
+
+/// Whether another text is refused, and stays so.
+fn refuses_another<S: Evidence<Tally>>(alloc: Global) -> Result<bool, Fail> {
+    let on = text_of_two::<S>(alloc)?;
+    tells_in_pieces::<S>(alloc, &on, b"PRPACK01\0\0\0\0\0\0\0\0", OTHER_MAGIC)
 }
 
 #[test]
 fn a_refused_piece_stays_refused(rt: HostRuntime) -> Result<(), Fail> {
-    let on = text_of_two::<Store<Tally>>(rt.alloc())?;
-    for length in [1, 7, 4096] {
-        let told = read_in_pieces::<Store<Tally>>(
-            rt.alloc(),
-            &on,
-            b"PRPACK01\0\0\0\0\0\0\0\0",
-            length,
-        )?;
-        assert_eq!(rt; told, OTHER_MAGIC);
-    }
+    assert!(rt; refuses_another::<PlainStore<Tally>>(rt.alloc())?);
+    assert!(rt; refuses_another::<IndexedStore<Tally>>(rt.alloc())?);
     Ok(())
 }

@@ -1,10 +1,10 @@
 //! One log, before stores whose nodes are to follow one program and another.
 
-use crate::samples::{Nodes, Start, Store, entry, make_nodes, receipt};
+use crate::samples::{Nodes, Start, entry, make_nodes, receipt};
 use authenticators::NodeId;
 use evidence_item::{Item, check_item};
 use evidence_set::Indication;
-use evidence_store::Evidence;
+use evidence_store::{Evidence, IndexedStore, PlainStore};
 use log_chain::Entry;
 use log_chain::kind::SEND;
 use ref_programs::{Relay, Tally};
@@ -64,12 +64,24 @@ fn said_of<P: Program + Drop, S: Evidence<P>>(
     said_with::<P, S>(alloc, program, &mut store, &shown.log)
 }
 
+/// What a store of nodes that are to follow Tally says of node 2, and one of nodes that are to follow Relay.
+fn said_of_both<S: Evidence<Tally>, T: Evidence<Relay>>(
+    alloc: Global,
+    shown: &Shown,
+) -> Result<(Indication, Indication), Fail> {
+    let tally = said_of::<Tally, S>(alloc, &Tally, shown)?;
+    let relay = said_of::<Relay, T>(alloc, &Relay, shown)?;
+    Ok((tally, relay))
+}
+
 /// Node 2 follows Tally, and sends what Relay does not.
 #[test]
 fn a_log_conforms_to_one_program(rt: HostRuntime) -> Result<(), Fail> {
     let shown = show_exchange(rt.alloc())?;
-    let tally = said_of::<Tally, Store<Tally>>(rt.alloc(), &Tally, &shown)?;
-    let relay = said_of::<Relay, Store<Relay>>(rt.alloc(), &Relay, &shown)?;
-    assert!(rt; (tally, relay) == (Indication::Trusted, Indication::Exposed));
+    let expected = (Indication::Trusted, Indication::Exposed);
+    let plain = said_of_both::<PlainStore<Tally>, PlainStore<Relay>>(rt.alloc(), &shown)?;
+    assert!(rt; plain == expected);
+    let indexed = said_of_both::<IndexedStore<Tally>, IndexedStore<Relay>>(rt.alloc(), &shown)?;
+    assert!(rt; indexed == expected);
     Ok(())
 }

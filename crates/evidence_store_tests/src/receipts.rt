@@ -1,13 +1,13 @@
 //! What node 1 sends as a node does, in node 2's log: as it was sent, and otherwise.
 
 use crate::samples::{
-    Nodes, Start, Store, entry, key_of, make_nodes, new_store, receipt, said_by, take_copy, turned,
+    Nodes, Start, entry, key_of, make_nodes, new_store, receipt, said_by, take_copy, turned,
 };
 use authenticators::NodeId;
 use commitment::{Message, Node};
 use evidence_item::{Item, Reason, Verdict, check_item};
 use evidence_set::Indication;
-use evidence_store::Evidence;
+use evidence_store::{Evidence, IndexedStore, PlainStore};
 use log_chain::kind::{SEND, TIMER};
 use log_chain::{Entry, Hash};
 use ref_programs::Tally;
@@ -149,9 +149,9 @@ const fn deviating(at: usize, reason: Reason) -> Seen {
     }
 }
 
-#[test]
-fn a_message_is_quoted_as_it_was_sent(rt: HostRuntime) -> Result<(), Fail> {
-    let mut on = send_one(rt.alloc())?;
+/// Whether each quote is seen as is told of it.
+fn sees_each_quote<S: Evidence<Tally>>(alloc: Global) -> Result<bool, Fail> {
+    let mut on = send_one(alloc)?;
     for (start, change, expected) in [
         (Start::Init, Changed::Nothing, CONFORMING),
         (
@@ -180,11 +180,17 @@ fn a_message_is_quoted_as_it_was_sent(rt: HostRuntime) -> Result<(), Fail> {
             deviating(1, Reason::BadReceipt),
         ),
     ] {
-        assert_eq!(rt;
-            seen_of_quote::<Store<Tally>>(rt.alloc(), &mut on, start, change)?,
-            expected
-        );
+        if seen_of_quote::<S>(alloc, &mut on, start, change)? != expected {
+            return Ok(false);
+        }
     }
+    Ok(true)
+}
+
+#[test]
+fn a_message_is_quoted_as_it_was_sent(rt: HostRuntime) -> Result<(), Fail> {
+    assert!(rt; sees_each_quote::<PlainStore<Tally>>(rt.alloc())?);
+    assert!(rt; sees_each_quote::<IndexedStore<Tally>>(rt.alloc())?);
     Ok(())
 }
 
@@ -214,14 +220,23 @@ fn seen_of_two<S: Evidence<Tally>>(
     seen_beside_log::<S>(alloc, on, segment)
 }
 
-/// Between the two receipts node 2 sends its total to node 1, as is awaited; or its timer ticks.
+/// What is seen where node 2 sends its total to node 1 between the two receipts, as is awaited; and where its timer ticks.
+fn seen_of_twice<S: Evidence<Tally>>(alloc: Global) -> Result<[Seen; 2], Fail> {
+    let total = [0, 0, 0, 1, b'T', 0, 0, 0, 0, 0, 0, 0, 5];
+    let mut on = send_one(alloc)?;
+    Ok([
+        seen_of_two::<S>(alloc, &mut on, SEND, &total)?,
+        seen_of_two::<S>(alloc, &mut on, TIMER, &[0; 8])?,
+    ])
+}
+
 #[test]
 fn a_message_is_received_once(rt: HostRuntime) -> Result<(), Fail> {
-    let total = [0, 0, 0, 1, b'T', 0, 0, 0, 0, 0, 0, 0, 5];
-    let mut on = send_one(rt.alloc())?;
-    let sent = seen_of_two::<Store<Tally>>(rt.alloc(), &mut on, SEND, &total)?;
-    let ticked = seen_of_two::<Store<Tally>>(rt.alloc(), &mut on, TIMER, &[0; 8])?;
-    assert_eq!(rt; sent, deviating(3, Reason::DuplicateReceipt));
-    assert_eq!(rt; ticked, deviating(2, Reason::MissingOutput));
+    let expected = [
+        deviating(3, Reason::DuplicateReceipt),
+        deviating(2, Reason::MissingOutput),
+    ];
+    assert!(rt; seen_of_twice::<PlainStore<Tally>>(rt.alloc())? == expected);
+    assert!(rt; seen_of_twice::<IndexedStore<Tally>>(rt.alloc())? == expected);
     Ok(())
 }

@@ -13,9 +13,6 @@ use ref_programs::Tally;
 use std::alloc::Global;
 use std::test::Fail;
 
-/// The store that the tests are put to. Each scene asks only that it is a store of evidence.
-pub(crate) type Store<P> = evidence_store::PlainStore<P>;
-
 pub(crate) const ZEROS: Hash = Hash([0; 32]);
 
 /// A node's number, and a key that is equal to the node's.

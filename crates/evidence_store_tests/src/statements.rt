@@ -1,10 +1,10 @@
 //! Two statements of node 1 on one entry, and the first of them once more.
 
-use crate::samples::{Nodes, Said, Store, ZEROS, make_nodes, new_store, said_by, take_copy};
+use crate::samples::{Nodes, Said, ZEROS, make_nodes, new_store, said_by, take_copy};
 use authenticators::NodeId;
 use evidence_item::Item;
 use evidence_set::Indication;
-use evidence_store::Evidence;
+use evidence_store::{Evidence, IndexedStore, PlainStore};
 use log_chain::Hash;
 use proofs::{Parts, check_proof};
 use ref_programs::Tally;
@@ -124,14 +124,19 @@ const fn kept_with(one: Indication, proved: Proved) -> Kept {
 /// Each signature makes an item of its own, and one statement is no fault.
 #[test]
 fn a_statement_is_signed_twice(rt: HostRuntime) -> Result<(), Fail> {
-    let kept = keep_two::<Store<Tally>>(rt.alloc(), ZEROS, ZEROS)?;
-    assert!(rt; kept == kept_with(Indication::Trusted, Proved::Nothing));
+    let expected = kept_with(Indication::Trusted, Proved::Nothing);
+    assert!(rt; keep_two::<PlainStore<Tally>>(rt.alloc(), ZEROS, ZEROS)? == expected);
+    assert!(rt; keep_two::<IndexedStore<Tally>>(rt.alloc(), ZEROS, ZEROS)? == expected);
     Ok(())
 }
 
 #[test]
 fn an_entry_has_two_hashes(rt: HostRuntime) -> Result<(), Fail> {
-    let kept = keep_two::<Store<Tally>>(rt.alloc(), ZEROS, Hash([1; 32]))?;
-    assert!(rt; kept == kept_with(Indication::Exposed, Proved::ByStatements(1)));
+    let (other, expected) = (
+        Hash([1; 32]),
+        kept_with(Indication::Exposed, Proved::ByStatements(1)),
+    );
+    assert!(rt; keep_two::<PlainStore<Tally>>(rt.alloc(), ZEROS, other)? == expected);
+    assert!(rt; keep_two::<IndexedStore<Tally>>(rt.alloc(), ZEROS, other)? == expected);
     Ok(())
 }

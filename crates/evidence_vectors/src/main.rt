@@ -1,6 +1,7 @@
 //! Holds items and stores of evidence against what other code makes of the same bytes.
 //!
-//! Standard input has lines `directory HEX`, and behind each of them lines of four kinds, each of which is answered anew.
+//! Standard input has lines `directory HEX`, and behind each of them lines of four kinds, each of which is answered anew, those of stores
+//! by each kind of store.
 //! - `tally ITEM ANSWER` and `relay ITEM ANSWER`: decoding and checking an item under the program of that name. The item is
 //!   hexadecimal, `-` where it has no bytes, and the answer is `refused NUMBER NAME`, `valid` (of an item that is no segment),
 //!   `conforms`, or `deviates PLACE NUMBER NAME`.
@@ -21,21 +22,41 @@ mod items;
 
 use anyhow::{Result, bail};
 use authenticators::Directory;
+use evidence_store::{Evidence, IndexedStore, PlainStore};
 use ref_programs::{Relay, Tally};
 use std::alloc::Global;
 use std::io::{self, BufRead, BufReader};
 
-/// The store that the lines are put to. All else here asks only that it is one of evidence.
-type Store = evidence_store::PlainStore<Tally>;
+/// Whether a store answers a line of stores as it says.
+fn store_agrees<S: Evidence<Tally>>(
+    alloc: Global,
+    directory: &Directory,
+    word: &str,
+    rest: &str,
+) -> Result<bool> {
+    match word {
+        "store" => answers::agrees::<S>(alloc, directory, rest),
+        "cuts" => cuts::agrees::<S>(alloc, directory, rest),
+        _ => bail!("no such line"),
+    }
+}
+
+/// Whether each kind of store does. That one does and another one does not is an error.
+fn stores_agree(alloc: Global, directory: &Directory, word: &str, rest: &str) -> Result<bool> {
+    let plain = store_agrees::<PlainStore<Tally>>(alloc, directory, word, rest)?;
+    let indexed = store_agrees::<IndexedStore<Tally>>(alloc, directory, word, rest)?;
+    if plain != indexed {
+        bail!("two kinds of stores differ");
+    }
+    Ok(plain)
+}
 
 /// Whether the line is answered as it says.
 fn agrees(alloc: Global, directory: &Directory, word: &str, rest: &str) -> Result<bool> {
     match word {
         "tally" => items::agrees(alloc, &Tally, directory, rest),
         "relay" => items::agrees(alloc, &Relay, directory, rest),
-        "store" => answers::agrees::<Store>(alloc, directory, rest),
-        "cuts" => cuts::agrees::<Store>(alloc, directory, rest),
-        _ => bail!("no such line"),
+        _ => stores_agree(alloc, directory, word, rest),
     }
 }
 

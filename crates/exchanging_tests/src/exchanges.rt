@@ -5,7 +5,7 @@ ghost use Rattle.std.specs.Prelude.{◌≡◌, ◌∷◌, [], All, IfOk};
 use authenticators::{Authenticator, Directory, NodeId, statement_text};
 use evidence_item::{Item, check_item};
 use evidence_set::Indication;
-use evidence_store::{Evidence, PlainStore};
+use evidence_store::{Evidence, IndexedStore, PlainStore};
 use exchanging::{ExchangeFault, Pass, SharedStore, exchange};
 use lms_sign::{LmsType, OtsType, SecretKey};
 use log_chain::{ByteString, Hash};
@@ -15,8 +15,6 @@ use std::alloc::Global;
 use std::sync::Wait;
 use std::test::Fail;
 use std::thread::Threads;
-
-type Shared = SharedStore<Tally, PlainStore<Tally>>;
 
 #[test]
 fn refusals_have_numbers_names_and_lines(rt: HostRuntime) -> Result<(), Fail> {
@@ -55,10 +53,13 @@ fn statement(alloc: Global, key: &mut SecretKey, byte: u8) -> Result<Item, Fail>
 }
 
 /// A store of one caller that was opened empty under the directory, with its caller's pass.
-fn open_one(alloc: Global, directory: &Directory) -> Result<(Shared, Pass), Fail>
+fn open_one<S: Evidence<Tally>>(
+    alloc: Global,
+    directory: &Directory,
+) -> Result<(SharedStore<Tally, S>, Pass), Fail>
     ensures { IfOk result (λ r. r.0.directory ≡ directory.now) }
 {
-    let store = PlainStore::new(alloc, directory.try_clone()?)?;
+    let store = S::new(alloc, directory.try_clone()?)?;
     let (shared, mut passes) = SharedStore::open(alloc, store, 1)?;
     let Some(pass) = passes.pop() else {
         unreachable!();
@@ -67,17 +68,17 @@ fn open_one(alloc: Global, directory: &Directory) -> Result<(Shared, Pass), Fail
 }
 
 /// A store of one caller that took node 1's statement with this byte, with its caller's pass.
-fn store_with<R: Wait>(
+fn store_with<S: Evidence<Tally>, R: Wait>(
     rt: &R,
     alloc: Global,
     key: &mut SecretKey,
     directory: &Directory,
     byte: u8,
-) -> Result<(Shared, Pass), Fail>
+) -> Result<(SharedStore<Tally, S>, Pass), Fail>
     ensures { IfOk result (λ r. r.0.directory ≡ directory.now) }
 {
     let item = statement(alloc, key, byte)?;
-    let (shared, mut pass) = open_one(alloc, directory)?;
+    let (shared, mut pass) = open_one::<S>(alloc, directory)?;
     let checked = check_item(alloc, &Tally, shared.directory(), item)?;
     shared.take(rt, &mut pass, checked)?;
     Ok((shared, pass))
@@ -85,9 +86,9 @@ fn store_with<R: Wait>(
 
 /// Stores under one directory, and a pass for each.
 #[derive(Drop)]
-struct Stores {
+struct Stores<S: Evidence<Tally>> {
     directory: Directory,
-    stores: Vec<Shared>,
+    stores: Vec<SharedStore<Tally, S>>,
     passes: Vec<Pass>,
 }
 
@@ -107,13 +108,13 @@ fn make_directory(alloc: Global, key: &SecretKey) -> Result<Directory, Fail> {
 }
 
 /// Two stores, each of which took one of two statements on one entry with different hashes.
-fn two_stores<R: Wait>(rt: &R, alloc: Global) -> Result<Stores, Fail>
+fn two_stores<S: Evidence<Tally>, R: Wait>(rt: &R, alloc: Global) -> Result<Stores<S>, Fail>
     ensures { IfOk result (λ r. All (λ s. s.directory ≡ r.directory) r.stores.items) }
 {
     let mut key = make_key(alloc)?;
     let directory = make_directory(alloc, &key)?;
-    let (first, first_pass) = store_with(rt, alloc, &mut key, &directory, 1)?;
-    let (second, second_pass) = store_with(rt, alloc, &mut key, &directory, 2)?;
+    let (first, first_pass) = store_with::<S, R>(rt, alloc, &mut key, &directory, 1)?;
+    let (second, second_pass) = store_with::<S, R>(rt, alloc, &mut key, &directory, 2)?;
     let stores = list_of_two(alloc, first, second)?;
     let passes = list_of_two(alloc, first_pass, second_pass)?;
     Ok(Stores {
@@ -137,7 +138,7 @@ struct Left {
 }
 
 /// What the store says.
-fn left_of(store: &PlainStore<Tally>, calls: usize) -> Result<Left, Fail> {
+fn left_of<S: Evidence<Tally>>(store: &S, calls: usize) -> Result<Left, Fail> {
     let text = store.export()?;
     Ok(Left {
         calls,
@@ -148,16 +149,20 @@ fn left_of(store: &PlainStore<Tally>, calls: usize) -> Result<Left, Fail> {
 }
 
 /// Closes the store, and tells what it says.
-fn close_one(alloc: Global, shared: Shared, pass: Pass) -> Result<Left, Fail> {
+fn close_one<S: Evidence<Tally>>(
+    alloc: Global,
+    shared: SharedStore<Tally, S>,
+    pass: Pass,
+) -> Result<Left, Fail> {
     let calls = pass.calls().len();
     let mut passes = Vec::new(alloc);
     passes.push(pass)?;
     let closed = shared.close(passes)?;
-    left_of(&closed.store, calls)
+    left_of::<S>(&closed.store, calls)
 }
 
 /// Closes the last store with the last pass, and tells what it says.
-fn close_last(alloc: Global, on: &mut Stores) -> Result<Option<Left>, Fail> {
+fn close_last<S: Evidence<Tally>>(alloc: Global, on: &mut Stores<S>) -> Result<Option<Left>, Fail> {
     let (Some(shared), Some(pass)) = (on.stores.pop(), on.passes.pop()) else {
         return Ok(None);
     };
@@ -166,33 +171,43 @@ fn close_last(alloc: Global, on: &mut Stores) -> Result<Option<Left>, Fail> {
 }
 
 /// What the two stores say after an exchange, the second one first.
-fn said_after_exchange<R: Threads + Wait + Sync>(
+fn said_after_exchange<S: Evidence<Tally> + Send, R: Threads + Wait + Sync>(
     rt: &R,
     alloc: Global,
 ) -> Result<(Option<Left>, Option<Left>), Fail> {
-    let mut on = two_stores(rt, alloc)?;
+    let mut on: Stores<S> = two_stores(rt, alloc)?;
     exchange(rt, alloc, &Tally, &on.directory, &on.stores, &mut on.passes)?;
     let second = close_last(alloc, &mut on)?;
     let first = close_last(alloc, &mut on)?;
     Ok((second, first))
 }
 
+/// Whether both stores say the same after an exchange: three calls, two items, and that node 1 is exposed.
+fn both_have_both<S: Evidence<Tally> + Send, R: Threads + Wait + Sync>(
+    rt: &R,
+    alloc: Global,
+) -> Result<bool, Fail> {
+    let (second, first) = said_after_exchange::<S, R>(rt, alloc)?;
+    let same = second == first;
+    let Some(left) = first else {
+        return Ok(false);
+    };
+    Ok(same && left.calls == 3 && left.count == 2 && left.told == Indication::Exposed)
+}
+
 #[test]
 fn conflicting_statements_are_exchanged(rt: HostRuntime) -> Result<(), Fail> {
-    let (second, first) = said_after_exchange(&rt, rt.alloc())?;
-    assert!(rt; second == first);
-    let Some(left) = first else {
-        panic!(rt; "a store is missing")
-    };
-    assert!(rt; left.calls == 3);
-    assert!(rt; left.count == 2);
-    assert!(rt; left.told == Indication::Exposed);
+    assert!(rt; both_have_both::<PlainStore<Tally>, HostRuntime>(&rt, rt.alloc())?);
+    assert!(rt; both_have_both::<IndexedStore<Tally>, HostRuntime>(&rt, rt.alloc())?);
     Ok(())
 }
 
 /// The number of the refusal of an exchange of two stores with one pass, and how many calls the pass then has.
-fn with_one_pass<R: Threads + Wait + Sync>(rt: &R, alloc: Global) -> Result<(u8, usize), Fail> {
-    let mut on = two_stores(rt, alloc)?;
+fn with_one_pass<S: Evidence<Tally> + Send, R: Threads + Wait + Sync>(
+    rt: &R,
+    alloc: Global,
+) -> Result<(u8, usize), Fail> {
+    let mut on: Stores<S> = two_stores(rt, alloc)?;
     on.passes.truncate(1);
     let number = match exchange(rt, alloc, &Tally, &on.directory, &on.stores, &mut on.passes) {
         Ok(()) => 0,
@@ -204,8 +219,9 @@ fn with_one_pass<R: Threads + Wait + Sync>(rt: &R, alloc: Global) -> Result<(u8,
 
 #[test]
 fn two_stores_and_one_pass_are_refused(rt: HostRuntime) -> Result<(), Fail> {
-    let (number, calls) = with_one_pass(&rt, rt.alloc())?;
-    assert!(rt; number == 94);
-    assert!(rt; calls == 1);
+    let plain = with_one_pass::<PlainStore<Tally>, HostRuntime>(&rt, rt.alloc())?;
+    assert!(rt; plain == (94, 1));
+    let indexed = with_one_pass::<IndexedStore<Tally>, HostRuntime>(&rt, rt.alloc())?;
+    assert!(rt; indexed == (94, 1));
     Ok(())
 }

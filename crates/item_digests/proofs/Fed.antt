@@ -5,7 +5,7 @@ use Rattle.std.proofs.lemmas.List.{flat_map_more}
 use Rattle.sha2.specs.declared.Sha256.{Sha256}
 use Rattle.sha2.specs.Hashers.{Holds256}
 use Rattle.log_chain.specs.Fields.{bytes_text}
-use Rattle.item_digests.specs.within.Feeding.{Feeds}
+use Rattle.item_digests.specs.Feeding.{Feeds}
 
 -- one text and then another
 pub both_fed : (x y z : Sha256) (a b : List ℕ) → Feeds x y a → Feeds y z b → Feeds x z (a ++ b)

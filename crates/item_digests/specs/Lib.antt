@@ -1,2 +1,2 @@
 pub mod Digests
-pub mod within
+pub mod Feeding

@@ -7,19 +7,21 @@ ghost use Rattle.log_chain.specs.declared.limits.TheConstants.{MOST_ENTRIES};
 ghost use Rattle.log_chain.specs.Fields.{IsListUpTo, bytes_text, counted_text};
 ghost use Rattle.item_forms.specs.Forms.{shown};
 ghost use Rattle.item_forms.specs.Spelling.{Fits, FitsAck, FitsAudit, FitsAuth, FitsEntry, FitsMessage, FitsSegment, FitsStatement, ack_spelling, audit_spelling, auth_spelling, entry_spelling, message_spelling, optional_spelling, segment_spelling, spelling, statement_spelling};
-ghost use Rattle.item_digests.specs.within.Feeding.{Feeds};
+ghost use Rattle.item_digests.specs.Feeding.{Feeds};
 
 use commitment::Message;
 use item_forms::{AckItem, AuditChallenge, Authenticator, Entry, Form, Hash, Segment, Statement};
 use sha2::{Digest, Sha256};
 
-fn feed_u8(hasher: &mut Sha256, value: u8)
+/// Hashes one byte more.
+pub fn feed_u8(hasher: &mut Sha256, value: u8)
     ensures { Feeds hasher.old hasher.new (value ∷ []) }
 {
     hasher.update([value]);
 }
 
-fn feed_u32(hasher: &mut Sha256, value: u32)
+/// Hashes a number of four bytes more.
+pub fn feed_u32(hasher: &mut Sha256, value: u32)
     ensures { Feeds hasher.old hasher.new (to_be_bytes w32 value) }
 {
     hasher.update(value.to_be_bytes());
@@ -31,14 +33,15 @@ fn feed_u64(hasher: &mut Sha256, value: u64)
     hasher.update(value.to_be_bytes());
 }
 
-fn feed_hash(hasher: &mut Sha256, hash: Hash)
+/// Hashes a hash more.
+pub fn feed_hash(hasher: &mut Sha256, hash: Hash)
     ensures { Feeds hasher.old hasher.new hash }
 {
     hasher.update(hash.0);
 }
 
-/// A length of four bytes, and the bytes.
-fn feed_bytes(hasher: &mut Sha256, bytes: &[u8])
+/// Hashes a length of four bytes more, and the bytes.
+pub fn feed_bytes(hasher: &mut Sha256, bytes: &[u8])
     requires { length bytes.now < 2 ^ 32 }
     ensures { Feeds hasher.old hasher.new (bytes_text bytes.now) }
 {
@@ -55,7 +58,8 @@ fn feed_statement(hasher: &mut Sha256, statement: &Statement)
     feed_bytes(hasher, statement.sig.as_slice());
 }
 
-fn feed_entry(hasher: &mut Sha256, entry: &Entry)
+/// Hashes an entry more, as a segment's spelling has it.
+pub fn feed_entry(hasher: &mut Sha256, entry: &Entry)
     requires { FitsEntry entry.now }
     ensures { Feeds hasher.old hasher.new (entry_spelling entry.now) }
 {

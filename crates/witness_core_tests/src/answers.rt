@@ -2,13 +2,11 @@
 
 use crate::testing::{Signer, copy_of, make_signer, make_world, statement, take, tell};
 use authenticators::{Directory, NodeId};
-use evidence_store::PlainStore;
+use evidence_store::{Evidence, IndexedStore, PlainStore};
 use ref_programs::Tally;
 use std::alloc::Global;
 use std::test::Fail;
 use witness_core::{Cause, Event, World, run};
-
-type TallyWorld = World<Tally, PlainStore<Tally>>;
 
 #[test]
 fn refusals_have_numbers_names_and_lines(rt: HostRuntime) -> Result<(), Fail> {
@@ -42,15 +40,19 @@ fn refusals_have_numbers_names_and_lines(rt: HostRuntime) -> Result<(), Fail> {
 }
 
 /// A world of so many witnesses without items.
-fn world_of(alloc: Global, signer: &Signer, count: u64) -> Result<Box<TallyWorld>, Fail> {
+fn world_of<S: Evidence<Tally>>(
+    alloc: Global,
+    signer: &Signer,
+    count: u64,
+) -> Result<Box<World<Tally, S>>, Fail> {
     make_world(alloc, &signer.directory, count)
 }
 
 /// The replies to a statement that one witness takes twice, to another one's summary, to the pack of all that the first has against
 /// it, to that pack's delivery at the other, twice, to a question, and to an export.
-fn replies_to_one_statement(alloc: Global) -> Result<[(u8, u64); 8], Fail> {
+fn replies_to_one_statement<S: Evidence<Tally>>(alloc: Global) -> Result<[(u8, u64); 8], Fail> {
     let mut signer = make_signer(alloc)?;
-    let mut world = world_of(alloc, &signer, 2)?;
+    let mut world: Box<World<Tally, S>> = world_of(alloc, &signer, 2)?;
     let item = statement(alloc, &mut signer, 5, 7)?;
     let again = copy_of(alloc, &item)?;
     let world = &mut world;
@@ -92,28 +94,26 @@ fn replies_to_one_statement(alloc: Global) -> Result<[(u8, u64); 8], Fail> {
 /// for the signature and its length. Its store has 20 more.
 #[test]
 fn each_event_has_its_reply(rt: HostRuntime) -> Result<(), Fail> {
-    let replies = replies_to_one_statement(rt.alloc())?;
-    assert_eq!(rt;
-        replies,
-        [
-            (1, 1),
-            (1, 0),
-            (2, 0),
-            (3, 0),
-            (4, 1),
-            (4, 0),
-            (5, 0),
-            (6, 2417)
-        ]
-    );
+    let expected = [
+        (1, 1),
+        (1, 0),
+        (2, 0),
+        (3, 0),
+        (4, 1),
+        (4, 0),
+        (5, 0),
+        (6, 2417),
+    ];
+    assert!(rt; replies_to_one_statement::<PlainStore<Tally>>(rt.alloc())? == expected);
+    assert!(rt; replies_to_one_statement::<IndexedStore<Tally>>(rt.alloc())? == expected);
     Ok(())
 }
 
 /// Two witnesses of whom the first has one statement: what is told of the first one's outline, of the second one's outline, of the second
 /// one's short summary against each, of the first one's packs against both summaries, and of their deliveries at the second.
-fn replies_to_outlines(alloc: Global) -> Result<[(u8, u64); 8], Fail> {
+fn replies_to_outlines<S: Evidence<Tally>>(alloc: Global) -> Result<[(u8, u64); 8], Fail> {
     let mut signer = make_signer(alloc)?;
-    let mut world = world_of(alloc, &signer, 2)?;
+    let mut world: Box<World<Tally, S>> = world_of(alloc, &signer, 2)?;
     let item = statement(alloc, &mut signer, 5, 7)?;
     let world = &mut world;
     take(alloc, &Tally, world, 0, item)?;
@@ -145,37 +145,46 @@ fn replies_to_outlines(alloc: Global) -> Result<[(u8, u64); 8], Fail> {
 }
 
 /// What the witness's short summary against the outline is told.
-fn short(alloc: Global, world: &mut TallyWorld, witness: u64, outline: u64) -> (u8, u64) {
+fn short<S: Evidence<Tally>>(
+    alloc: Global,
+    world: &mut World<Tally, S>,
+    witness: u64,
+    outline: u64,
+) -> (u8, u64) {
     tell(alloc, world, Event::Short { witness, outline })
 }
 
 /// What the witness's pack against the summary is told.
-fn pack_against(alloc: Global, world: &mut TallyWorld, witness: u64, summary: u64) -> (u8, u64) {
+fn pack_against<S: Evidence<Tally>>(
+    alloc: Global,
+    world: &mut World<Tally, S>,
+    witness: u64,
+    summary: u64,
+) -> (u8, u64) {
     tell(alloc, world, Event::Pack { witness, summary })
 }
 
 #[test]
 fn outlines_and_short_summaries_have_numbers(rt: HostRuntime) -> Result<(), Fail> {
-    assert_eq!(rt;
-        replies_to_outlines(rt.alloc())?,
-        [
-            (7, 0),
-            (7, 1),
-            (2, 0),
-            (2, 1),
-            (3, 0),
-            (3, 1),
-            (4, 0),
-            (4, 1)
-        ]
-    );
+    let expected = [
+        (7, 0),
+        (7, 1),
+        (2, 0),
+        (2, 1),
+        (3, 0),
+        (3, 1),
+        (4, 0),
+        (4, 1),
+    ];
+    assert!(rt; replies_to_outlines::<PlainStore<Tally>>(rt.alloc())? == expected);
+    assert!(rt; replies_to_outlines::<IndexedStore<Tally>>(rt.alloc())? == expected);
     Ok(())
 }
 
 /// What a witness with two statements of one number says of their node.
-fn says_of_two_statements(alloc: Global) -> Result<(u8, u64), Fail> {
+fn says_of_two_statements<S: Evidence<Tally>>(alloc: Global) -> Result<(u8, u64), Fail> {
     let mut signer = make_signer(alloc)?;
-    let mut world = world_of(alloc, &signer, 1)?;
+    let mut world: Box<World<Tally, S>> = world_of(alloc, &signer, 1)?;
     let one = statement(alloc, &mut signer, 5, 7)?;
     let other = statement(alloc, &mut signer, 5, 8)?;
     take(alloc, &Tally, &mut world, 0, one)?;
@@ -189,14 +198,15 @@ fn says_of_two_statements(alloc: Global) -> Result<(u8, u64), Fail> {
 
 #[test]
 fn two_statements_expose(rt: HostRuntime) -> Result<(), Fail> {
-    assert_eq!(rt; says_of_two_statements(rt.alloc())?, (5, 2));
+    assert!(rt; says_of_two_statements::<PlainStore<Tally>>(rt.alloc())? == (5, 2));
+    assert!(rt; says_of_two_statements::<IndexedStore<Tally>>(rt.alloc())? == (5, 2));
     Ok(())
 }
 
 /// What pack 0 brings to its own maker, twice.
-fn delivered_at_home(alloc: Global) -> Result<[(u8, u64); 2], Fail> {
+fn delivered_at_home<S: Evidence<Tally>>(alloc: Global) -> Result<[(u8, u64); 2], Fail> {
     let mut signer = make_signer(alloc)?;
-    let mut world = world_of(alloc, &signer, 1)?;
+    let mut world: Box<World<Tally, S>> = world_of(alloc, &signer, 1)?;
     let item = statement(alloc, &mut signer, 5, 7)?;
     let world = &mut world;
     tell(alloc, world, Event::Summarise { witness: 0 });
@@ -231,14 +241,15 @@ fn delivered_at_home(alloc: Global) -> Result<[(u8, u64); 2], Fail> {
 
 #[test]
 fn a_pack_at_its_maker_brings_nothing(rt: HostRuntime) -> Result<(), Fail> {
-    assert_eq!(rt; delivered_at_home(rt.alloc())?, [(4, 0), (4, 0)]);
+    assert!(rt; delivered_at_home::<PlainStore<Tally>>(rt.alloc())? == [(4, 0), (4, 0)]);
+    assert!(rt; delivered_at_home::<IndexedStore<Tally>>(rt.alloc())? == [(4, 0), (4, 0)]);
     Ok(())
 }
 
 /// The refusals of events in a world of one witness that made one summary, after which it makes another one.
-fn refusals_in_a_small_world(alloc: Global) -> Result<[(u8, u64); 8], Fail> {
+fn refusals_in_a_small_world<S: Evidence<Tally>>(alloc: Global) -> Result<[(u8, u64); 8], Fail> {
     let signer = make_signer(alloc)?;
-    let mut world = world_of(alloc, &signer, 1)?;
+    let mut world: Box<World<Tally, S>> = world_of(alloc, &signer, 1)?;
     let world = &mut world;
     let node = NodeId(3);
     tell(alloc, world, Event::Summarise { witness: 0 });
@@ -277,26 +288,25 @@ fn refusals_in_a_small_world(alloc: Global) -> Result<[(u8, u64); 8], Fail> {
 
 #[test]
 fn refusals_come_in_their_order(rt: HostRuntime) -> Result<(), Fail> {
-    assert_eq!(rt;
-        refusals_in_a_small_world(rt.alloc())?,
-        [
-            (0, 80),
-            (0, 81),
-            (0, 81),
-            (0, 80),
-            (0, 82),
-            (0, 80),
-            (0, 81),
-            (2, 1)
-        ]
-    );
+    let expected = [
+        (0, 80),
+        (0, 81),
+        (0, 81),
+        (0, 80),
+        (0, 82),
+        (0, 80),
+        (0, 81),
+        (2, 1),
+    ];
+    assert!(rt; refusals_in_a_small_world::<PlainStore<Tally>>(rt.alloc())? == expected);
+    assert!(rt; refusals_in_a_small_world::<IndexedStore<Tally>>(rt.alloc())? == expected);
     Ok(())
 }
 
 /// Of two summaries and a pack against a third: how many events are done, how many replies there are, and the refusal's number.
-fn refused_pack(alloc: Global) -> Result<(u64, u64, u8), Fail> {
+fn refused_pack<S: Evidence<Tally>>(alloc: Global) -> Result<(u64, u64, u8), Fail> {
     let signer = make_signer(alloc)?;
-    let mut world = world_of(alloc, &signer, 1)?;
+    let mut world: Box<World<Tally, S>> = world_of(alloc, &signer, 1)?;
     let events = [
         Event::Summarise { witness: 0 },
         Event::Summarise { witness: 0 },
@@ -314,13 +324,14 @@ fn refused_pack(alloc: Global) -> Result<(u64, u64, u8), Fail> {
 
 #[test]
 fn a_refusal_comes_with_the_replies_before_it(rt: HostRuntime) -> Result<(), Fail> {
-    assert_eq!(rt; refused_pack(rt.alloc())?, (2, 2, 81));
+    assert!(rt; refused_pack::<PlainStore<Tally>>(rt.alloc())? == (2, 2, 81));
+    assert!(rt; refused_pack::<IndexedStore<Tally>>(rt.alloc())? == (2, 2, 81));
     Ok(())
 }
 
 /// What is answered where nobody is a witness.
-fn replies_without_witnesses(alloc: Global) -> Result<[(u8, u64); 2], Fail> {
-    let mut world: Box<TallyWorld> = make_world(alloc, &Directory::new(alloc), 0)?;
+fn replies_without_witnesses<S: Evidence<Tally>>(alloc: Global) -> Result<[(u8, u64); 2], Fail> {
+    let mut world: Box<World<Tally, S>> = make_world(alloc, &Directory::new(alloc), 0)?;
     let world = &mut world;
     Ok([
         tell(alloc, world, Event::Summarise { witness: 0 }),
@@ -330,6 +341,9 @@ fn replies_without_witnesses(alloc: Global) -> Result<[(u8, u64); 2], Fail> {
 
 #[test]
 fn nobody_is_a_witness(rt: HostRuntime) -> Result<(), Fail> {
-    assert_eq!(rt; replies_without_witnesses(rt.alloc())?, [(0, 80), (0, 80)]);
+    assert!(rt; replies_without_witnesses::<PlainStore<Tally>>(rt.alloc())? == [(0, 80), (0, 80)]);
+    assert!(rt;
+        replies_without_witnesses::<IndexedStore<Tally>>(rt.alloc())? == [(0, 80), (0, 80)]
+    );
     Ok(())
 }

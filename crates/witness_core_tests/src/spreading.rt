@@ -4,7 +4,7 @@
 use crate::samples::make_sample;
 use crate::testing::{copy_of, make_world, take, tell};
 use evidence_item::Item;
-use evidence_store::{Evidence, PlainStore};
+use evidence_store::{Evidence, IndexedStore, PlainStore};
 use log_chain::Hash;
 use ref_programs::Tally;
 use replay_verifier::Program;
@@ -13,12 +13,10 @@ use std::alloc::Global;
 use std::test::Fail;
 use witness_core::{Event, World};
 
-type TallyWorld = World<Tally, PlainStore<Tally>>;
-
 /// The witnesses take the items that these pairs of a witness and an item name.
-fn give(
+fn give<S: Evidence<Tally>>(
     alloc: Global,
-    world: &mut TallyWorld,
+    world: &mut World<Tally, S>,
     items: &[Box<Item>; 5],
     pairs: &[(u64, usize)],
 ) -> Result<(), Fail> {
@@ -57,7 +55,13 @@ enum Kind {
 const PAIRS: [(u64, u64); 6] = [(0, 1), (0, 2), (1, 0), (1, 2), (2, 0), (2, 1)];
 
 /// The witness makes a summary for the one who packs.
-fn summarise(alloc: Global, world: &mut TallyWorld, kind: Kind, witness: u64, packer: u64) {
+fn summarise<S: Evidence<Tally>>(
+    alloc: Global,
+    world: &mut World<Tally, S>,
+    kind: Kind,
+    witness: u64,
+    packer: u64,
+) {
     match kind {
         Kind::Whole => tell(alloc, world, Event::Summarise { witness }),
         Kind::Short => tell(
@@ -72,7 +76,7 @@ fn summarise(alloc: Global, world: &mut TallyWorld, kind: Kind, witness: u64, pa
 }
 
 /// Each witness makes an outline, then summaries for both others, and then packs against the summaries of both others.
-fn make_packs(alloc: Global, world: &mut TallyWorld, kind: Kind) {
+fn make_packs<S: Evidence<Tally>>(alloc: Global, world: &mut World<Tally, S>, kind: Kind) {
     for witness in 0..3 {
         tell(alloc, world, Event::Outline { witness });
     }
@@ -89,7 +93,11 @@ fn make_packs(alloc: Global, world: &mut TallyWorld, kind: Kind) {
 }
 
 /// Delivers packs, each to a witness.
-fn deliver(alloc: Global, world: &mut TallyWorld, deliveries: &[(u64, u64)]) {
+fn deliver<S: Evidence<Tally>>(
+    alloc: Global,
+    world: &mut World<Tally, S>,
+    deliveries: &[(u64, u64)],
+) {
     for (pack, witness) in deliveries {
         let event = Event::Deliver {
             pack: *pack,
@@ -109,7 +117,7 @@ struct Exports {
 }
 
 /// The SHA-256 value of what the witness exports.
-fn exported(world: &TallyWorld, witness: usize) -> Result<Hash, Fail> {
+fn exported<S: Evidence<Tally>>(world: &World<Tally, S>, witness: usize) -> Result<Hash, Fail> {
     match world.stores().get(witness) {
         Some(store) => Ok(Hash(Sha256::digest(&store.export()?))),
         None => Ok(Hash([0; 32])),
@@ -117,22 +125,22 @@ fn exported(world: &TallyWorld, witness: usize) -> Result<Hash, Fail> {
 }
 
 /// Three witnesses take the items of these pairs, make packs, and get these deliveries.
-fn spread(
+fn spread<S: Evidence<Tally>>(
     alloc: Global,
     kind: Kind,
     pairs: &[(u64, usize)],
     deliveries: &[(u64, u64)],
 ) -> Result<Exports, Fail> {
     let sample = make_sample(alloc)?;
-    let mut world: Box<TallyWorld> = make_world(alloc, &sample.directory, 3)?;
-    give(alloc, &mut world, &sample.items, pairs)?;
-    let together = Hash(Sha256::digest(&merged(alloc, &world)?));
-    make_packs(alloc, &mut world, kind);
-    deliver(alloc, &mut world, deliveries);
+    let mut world: Box<World<Tally, S>> = make_world(alloc, &sample.directory, 3)?;
+    give::<S>(alloc, &mut world, &sample.items, pairs)?;
+    let together = Hash(Sha256::digest(&merged::<Tally, S>(alloc, &world)?));
+    make_packs::<S>(alloc, &mut world, kind);
+    deliver::<S>(alloc, &mut world, deliveries);
     Ok(Exports {
-        first: exported(&world, 0)?,
-        second: exported(&world, 1)?,
-        third: exported(&world, 2)?,
+        first: exported::<S>(&world, 0)?,
+        second: exported::<S>(&world, 1)?,
+        third: exported::<S>(&world, 2)?,
         together,
     })
 }
@@ -156,9 +164,13 @@ fn is_all(alloc: Global, exports: &Exports) -> Result<bool, Fail> {
 }
 
 /// Whether all is everywhere at the end, with summaries of both kinds.
-fn spreads(alloc: Global, pairs: &[(u64, usize)], deliveries: &[(u64, u64)]) -> Result<bool, Fail> {
-    let whole = spread(alloc, Kind::Whole, pairs, deliveries)?;
-    let short = spread(alloc, Kind::Short, pairs, deliveries)?;
+fn spreads<S: Evidence<Tally>>(
+    alloc: Global,
+    pairs: &[(u64, usize)],
+    deliveries: &[(u64, u64)],
+) -> Result<bool, Fail> {
+    let whole = spread::<S>(alloc, Kind::Whole, pairs, deliveries)?;
+    let short = spread::<S>(alloc, Kind::Short, pairs, deliveries)?;
     Ok(is_all(alloc, &whole)? && is_all(alloc, &short)?)
 }
 
@@ -175,7 +187,9 @@ fn packs_that_are_lost(rt: HostRuntime) -> Result<(), Fail> {
         (2, 4),
         (2, 0),
     ];
-    assert!(rt; spreads(rt.alloc(), &takes, &[(5, 1), (2, 0), (4, 0), (3, 2)])?);
+    let deliveries = [(5, 1), (2, 0), (4, 0), (3, 2)];
+    assert!(rt; spreads::<PlainStore<Tally>>(rt.alloc(), &takes, &deliveries)?);
+    assert!(rt; spreads::<IndexedStore<Tally>>(rt.alloc(), &takes, &deliveries)?);
     Ok(())
 }
 
@@ -199,7 +213,8 @@ fn packs_that_are_doubled(rt: HostRuntime) -> Result<(), Fail> {
         (0, 0),
         (1, 1),
     ];
-    assert!(rt; spreads(rt.alloc(), &takes, &twice)?);
+    assert!(rt; spreads::<PlainStore<Tally>>(rt.alloc(), &takes, &twice)?);
+    assert!(rt; spreads::<IndexedStore<Tally>>(rt.alloc(), &takes, &twice)?);
     Ok(())
 }
 
@@ -207,12 +222,8 @@ fn packs_that_are_doubled(rt: HostRuntime) -> Result<(), Fail> {
 #[test]
 fn packs_that_cross(rt: HostRuntime) -> Result<(), Fail> {
     let takes = [(1, 4), (0, 3), (0, 2), (2, 1), (1, 0)];
-    assert!(rt;
-        spreads(
-            rt.alloc(),
-            &takes,
-            &[(0, 2), (2, 2), (4, 1), (1, 1), (3, 0), (5, 0)],
-        )?
-    );
+    let crosswise = [(0, 2), (2, 2), (4, 1), (1, 1), (3, 0), (5, 0)];
+    assert!(rt; spreads::<PlainStore<Tally>>(rt.alloc(), &takes, &crosswise)?);
+    assert!(rt; spreads::<IndexedStore<Tally>>(rt.alloc(), &takes, &crosswise)?);
     Ok(())
 }

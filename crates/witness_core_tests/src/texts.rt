@@ -5,7 +5,7 @@ use crate::spreading::ALL;
 use crate::testing::copy_of;
 use authenticators::Directory;
 use evidence_item::{Item, check_item};
-use evidence_store::{Evidence, PlainStore};
+use evidence_store::{Evidence, IndexedStore, PlainStore};
 use log_chain::Hash;
 use ref_programs::Tally;
 use sha2::{Digest, Sha256};
@@ -13,16 +13,14 @@ use std::alloc::Global;
 use std::test::Fail;
 use transfer::{Outline, Pack, Summary, apply, outline, pack, short_summary};
 
-type Store = PlainStore<Tally>;
-
 /// A store under the directory, without items.
-fn new_store(alloc: Global, directory: &Directory) -> Result<Box<Store>, Fail> {
-    let store = Store::new(alloc, directory.try_clone()?)?;
+fn new_store<S: Evidence<Tally>>(alloc: Global, directory: &Directory) -> Result<Box<S>, Fail> {
+    let store = S::new(alloc, directory.try_clone()?)?;
     Ok(Box::new(alloc, store)?)
 }
 
 /// The store takes a copy of the item.
-fn take(alloc: Global, store: &mut Store, item: &Item) -> Result<(), Fail> {
+fn take<S: Evidence<Tally>>(alloc: Global, store: &mut S, item: &Item) -> Result<(), Fail> {
     let copy = copy_of(alloc, item)?;
     let checked = check_item(alloc, &Tally, store.directory(), Box::into_inner(copy))?;
     store.take(checked)?;
@@ -30,40 +28,52 @@ fn take(alloc: Global, store: &mut Store, item: &Item) -> Result<(), Fail> {
 }
 
 /// A store that has the items at these places of the sample.
-fn store_with(alloc: Global, sample: &Sample, places: &[usize]) -> Result<Box<Store>, Fail> {
-    let mut store = new_store(alloc, &sample.directory)?;
+fn store_with<S: Evidence<Tally>>(
+    alloc: Global,
+    sample: &Sample,
+    places: &[usize],
+) -> Result<Box<S>, Fail> {
+    let mut store: Box<S> = new_store(alloc, &sample.directory)?;
     for place in places {
         if let Some(item) = sample.items.get(*place) {
-            take(alloc, &mut store, item)?;
+            take::<S>(alloc, &mut store, item)?;
         }
     }
     Ok(store)
 }
 
 /// The text of the store's outline.
-fn text_of_outline(alloc: Global, store: &Store) -> Result<Vec<u8>, Fail> {
+fn text_of_outline<S: Evidence<Tally>>(alloc: Global, store: &S) -> Result<Vec<u8>, Fail> {
     let told = outline(alloc, store)?;
     Ok(told.to_bytes(alloc)?)
 }
 
 /// The text of the store's short summary against the outline of this text.
-fn text_of_summary(alloc: Global, store: &Store, told: &[u8]) -> Result<Vec<u8>, Fail> {
+fn text_of_summary<S: Evidence<Tally>>(
+    alloc: Global,
+    store: &S,
+    told: &[u8],
+) -> Result<Vec<u8>, Fail> {
     let outline = Outline::from_bytes(alloc, told)?;
     let named = short_summary(alloc, store, &outline)?;
     Ok(named.to_bytes(alloc)?)
 }
 
 /// The text of the sender's pack for the receiver, against its short summary against the sender's outline.
-fn text_of_pack(alloc: Global, sender: &Store, receiver: &Store) -> Result<Vec<u8>, Fail> {
-    let told = text_of_outline(alloc, sender)?;
-    let named = text_of_summary(alloc, receiver, &told)?;
+fn text_of_pack<S: Evidence<Tally>>(
+    alloc: Global,
+    sender: &S,
+    receiver: &S,
+) -> Result<Vec<u8>, Fail> {
+    let told = text_of_outline::<S>(alloc, sender)?;
+    let named = text_of_summary::<S>(alloc, receiver, &told)?;
     let summary = Summary::from_bytes(alloc, &named)?;
     let given = pack(alloc, sender, &summary)?;
     Ok(given.to_bytes(alloc)?)
 }
 
 /// The store takes the items of the pack of this text.
-fn deliver(alloc: Global, store: &mut Store, text: &[u8]) -> Result<(), Fail> {
+fn deliver<S: Evidence<Tally>>(alloc: Global, store: &mut S, text: &[u8]) -> Result<(), Fail> {
     let given: Pack<Tally> = Pack::from_bytes(alloc, &Tally, store.directory(), text)?;
     apply(alloc, store, &given)?;
     Ok(())
@@ -71,13 +81,13 @@ fn deliver(alloc: Global, store: &mut Store, text: &[u8]) -> Result<(), Fail> {
 
 /// Three stores of the sample's items.
 #[derive(Drop)]
-struct Three {
-    first: Box<Store>,
-    second: Box<Store>,
-    third: Box<Store>,
+struct Three<S: Drop> {
+    first: Box<S>,
+    second: Box<S>,
+    third: Box<S>,
 }
 
-fn three_stores(alloc: Global) -> Result<Three, Fail> {
+fn three_stores<S: Evidence<Tally>>(alloc: Global) -> Result<Three<S>, Fail> {
     let sample = make_sample(alloc)?;
     Ok(Three {
         first: store_with(alloc, &sample, &[0, 1])?,
@@ -87,38 +97,39 @@ fn three_stores(alloc: Global) -> Result<Three, Fail> {
 }
 
 /// Each sends its packs before it gets any. The second one's for the first, which has the segment, comes twice; the first one's are lost.
-fn spread(alloc: Global, stores: &mut Three) -> Result<(), Fail> {
-    let for_first = text_of_pack(alloc, &stores.second, &stores.first)?;
-    let more_for_first = text_of_pack(alloc, &stores.third, &stores.first)?;
-    let for_second = text_of_pack(alloc, &stores.third, &stores.second)?;
-    let for_third = text_of_pack(alloc, &stores.second, &stores.third)?;
-    deliver(alloc, &mut stores.third, &for_third)?;
-    deliver(alloc, &mut stores.first, &for_first)?;
-    deliver(alloc, &mut stores.first, &more_for_first)?;
-    deliver(alloc, &mut stores.first, &for_first)?;
-    deliver(alloc, &mut stores.second, &for_second)
+fn spread<S: Evidence<Tally>>(alloc: Global, stores: &mut Three<S>) -> Result<(), Fail> {
+    let for_first = text_of_pack::<S>(alloc, &stores.second, &stores.first)?;
+    let more_for_first = text_of_pack::<S>(alloc, &stores.third, &stores.first)?;
+    let for_second = text_of_pack::<S>(alloc, &stores.third, &stores.second)?;
+    let for_third = text_of_pack::<S>(alloc, &stores.second, &stores.third)?;
+    deliver::<S>(alloc, &mut stores.third, &for_third)?;
+    deliver::<S>(alloc, &mut stores.first, &for_first)?;
+    deliver::<S>(alloc, &mut stores.first, &more_for_first)?;
+    deliver::<S>(alloc, &mut stores.first, &for_first)?;
+    deliver::<S>(alloc, &mut stores.second, &for_second)
 }
 
 /// Whether the store's text is that of the five items.
-fn has_all(alloc: Global, store: &Store) -> Result<bool, Fail> {
+fn has_all<S: Evidence<Tally>>(alloc: Global, store: &S) -> Result<bool, Fail> {
     let text = store.export()?;
     let hash = Hash(Sha256::digest(&text));
     Ok(format!(in alloc; "{hash}")?.as_str() == ALL)
 }
 
-fn spreads_by_texts(alloc: Global) -> Result<[bool; 3], Fail> {
-    let mut stores = three_stores(alloc)?;
-    spread(alloc, &mut stores)?;
+fn spreads_by_texts<S: Evidence<Tally>>(alloc: Global) -> Result<[bool; 3], Fail> {
+    let mut stores: Three<S> = three_stores(alloc)?;
+    spread::<S>(alloc, &mut stores)?;
     Ok([
-        has_all(alloc, &stores.first)?,
-        has_all(alloc, &stores.second)?,
-        has_all(alloc, &stores.third)?,
+        has_all::<S>(alloc, &stores.first)?,
+        has_all::<S>(alloc, &stores.second)?,
+        has_all::<S>(alloc, &stores.third)?,
     ])
 }
 
 #[test]
 fn items_spread_by_texts(rt: HostRuntime) -> Result<(), Fail> {
-    assert_eq!(rt; spreads_by_texts(rt.alloc())?, [true, true, true]);
+    assert!(rt; spreads_by_texts::<PlainStore<Tally>>(rt.alloc())? == [true, true, true]);
+    assert!(rt; spreads_by_texts::<IndexedStore<Tally>>(rt.alloc())? == [true, true, true]);
     Ok(())
 }
 
@@ -147,8 +158,8 @@ fn pack_fault(alloc: Global, directory: &Directory, text: &[u8]) -> u8 {
 }
 
 /// The fault of the texts that are cut off where it is one and the same, else 255; and the fault of the whole text.
-fn faults_of_outline(alloc: Global, store: &Store) -> Result<(u8, u8), Fail> {
-    let text = text_of_outline(alloc, store)?;
+fn faults_of_outline<S: Evidence<Tally>>(alloc: Global, store: &S) -> Result<(u8, u8), Fail> {
+    let text = text_of_outline::<S>(alloc, store)?;
     let mut fault = outline_fault(alloc, b"");
     for len in 0..text.len() {
         let (front, _) = text.split_at(len);
@@ -160,9 +171,13 @@ fn faults_of_outline(alloc: Global, store: &Store) -> Result<(u8, u8), Fail> {
 }
 
 /// The same of the short summary against another store's outline.
-fn faults_of_summary(alloc: Global, store: &Store, other: &Store) -> Result<(u8, u8), Fail> {
-    let told = text_of_outline(alloc, other)?;
-    let text = text_of_summary(alloc, store, &told)?;
+fn faults_of_summary<S: Evidence<Tally>>(
+    alloc: Global,
+    store: &S,
+    other: &S,
+) -> Result<(u8, u8), Fail> {
+    let told = text_of_outline::<S>(alloc, other)?;
+    let text = text_of_summary::<S>(alloc, store, &told)?;
     let mut fault = summary_fault(alloc, b"");
     for len in 0..text.len() {
         let (front, _) = text.split_at(len);
@@ -174,8 +189,12 @@ fn faults_of_summary(alloc: Global, store: &Store, other: &Store) -> Result<(u8,
 }
 
 /// The same of the pack for another store.
-fn faults_of_pack(alloc: Global, store: &Store, other: &Store) -> Result<(u8, u8), Fail> {
-    let text = text_of_pack(alloc, store, other)?;
+fn faults_of_pack<S: Evidence<Tally>>(
+    alloc: Global,
+    store: &S,
+    other: &S,
+) -> Result<(u8, u8), Fail> {
+    let text = text_of_pack::<S>(alloc, store, other)?;
     let mut fault = pack_fault(alloc, store.directory(), b"");
     for len in 0..text.len() {
         let (front, _) = text.split_at(len);
@@ -187,17 +206,22 @@ fn faults_of_pack(alloc: Global, store: &Store, other: &Store) -> Result<(u8, u8
 }
 
 /// Of the third store's texts for the second.
-fn faults_of_texts(alloc: Global) -> Result<[(u8, u8); 3], Fail> {
-    let stores = three_stores(alloc)?;
+fn faults_of_texts<S: Evidence<Tally>>(alloc: Global) -> Result<[(u8, u8); 3], Fail> {
+    let stores: Three<S> = three_stores(alloc)?;
     Ok([
-        faults_of_outline(alloc, &stores.third)?,
-        faults_of_summary(alloc, &stores.second, &stores.third)?,
-        faults_of_pack(alloc, &stores.second, &stores.third)?,
+        faults_of_outline::<S>(alloc, &stores.third)?,
+        faults_of_summary::<S>(alloc, &stores.second, &stores.third)?,
+        faults_of_pack::<S>(alloc, &stores.second, &stores.third)?,
     ])
 }
 
 #[test]
 fn texts_that_are_cut_off_are_truncated(rt: HostRuntime) -> Result<(), Fail> {
-    assert_eq!(rt; faults_of_texts(rt.alloc())?, [(40, 0), (40, 0), (40, 0)]);
+    let expected = [(40, 0), (40, 0), (40, 0)];
+    assert_eq!(rt; faults_of_texts::<PlainStore<Tally>>(rt.alloc())?, expected);
+    assert_eq!(rt;
+        faults_of_texts::<IndexedStore<Tally>>(rt.alloc())?,
+        expected
+    );
     Ok(())
 }

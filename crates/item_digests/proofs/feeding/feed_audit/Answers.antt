@@ -1,7 +1,7 @@
 use Rattle.std.proofs.Common.{subst}
 use Rattle.item_forms.specs.declared.forms.AuditChallenge.{AuditChallenge}
 use Rattle.item_forms.specs.Spelling.{audit_spelling}
-use Rattle.item_digests.specs.within.Feeding.{Feeds}
+use Rattle.item_digests.specs.Feeding.{Feeds}
 use Rattle.item_digests.proofs.Fed.{both_fed}
 use Rattle.item_digests.proofs.feeding.feed_audit.Goals as goal
 

@@ -1,7 +1,7 @@
 use Rattle.std.proofs.Common.{take}
 use Rattle.std.specs.List.{flat_map}
 use Rattle.item_forms.specs.Spelling.{entry_spelling}
-use Rattle.item_digests.specs.within.Feeding.{Feeds}
+use Rattle.item_digests.specs.Feeding.{Feeds}
 use Rattle.item_digests.proofs.feeding.feed_each.Given as goal
 
 abbrev pub invariant-loop-entry : goal.invariant-loop-entry

@@ -1,7 +1,7 @@
 use Rattle.std.proofs.Common.{subst}
 use Rattle.commitment.specs.declared.message.Message.{Message}
 use Rattle.item_forms.specs.Spelling.{message_spelling}
-use Rattle.item_digests.specs.within.Feeding.{Feeds}
+use Rattle.item_digests.specs.Feeding.{Feeds}
 use Rattle.item_digests.proofs.Fed.{both_fed, bytes_fed}
 use Rattle.item_digests.proofs.feeding.feed_message.Goals as goal
 

@@ -3,7 +3,7 @@ use Rattle.log_chain.specs.declared.entry.Entry.{Entry}
 use Rattle.log_chain.specs.Fields.{counted_text}
 use Rattle.item_forms.specs.declared.forms.Segment.{Segment}
 use Rattle.item_forms.specs.Spelling.{entry_spelling, segment_spelling}
-use Rattle.item_digests.specs.within.Feeding.{Feeds}
+use Rattle.item_digests.specs.Feeding.{Feeds}
 use Rattle.item_digests.proofs.Fed.{both_fed, bytes_fed}
 use Rattle.item_digests.proofs.feeding.feed_segment.Goals as goal
 

@@ -2,7 +2,7 @@ use Rattle.std.proofs.Common.{sym, subst}
 use Rattle.item_forms.specs.declared.forms.Form.{Form}
 use Rattle.item_forms.specs.Forms.{shown}
 use Rattle.item_forms.specs.Spelling.{spelling}
-use Rattle.item_digests.specs.within.Feeding.{Feeds}
+use Rattle.item_digests.specs.Feeding.{Feeds}
 use Rattle.item_digests.proofs.Fed.{both_fed}
 use Rattle.item_digests.proofs.feeding.feed_tagged.Goals as goal
 

@@ -1,0 +1,8 @@
+use Rattle.std.proofs.Common.{◌≡◌, map, take}
+use Rattle.std.specs.Prelude.{slice_get}
+use Rattle.std.specs.List.{flat_map}
+use Rattle.node_tables.specs.Places.{named_item}
+use Rattle.indexed_store.proofs.challenges.challenges_at.Given as goal
+
+abbrev pub invariant-loop-place : goal.invariant-loop-place
+invariant-loop-place g l = map (λ i. i.now) l.found.items ≡ flat_map (λ i. named_item (slice_get l.items i)) (take l.place-index l.places)

@@ -1,0 +1,79 @@
+//! The challenges against a node that are open.
+
+ghost use Rattle.std.specs.Prelude.{◌≡◌, ◌↔◌, ◌++◌, ℕ, IfOk, OnOk, map, slice_get, true};
+ghost use Rattle.std.specs.List.{Contains, flat_map};
+ghost use Rattle.std.specs.List.Sorted.{IsStrictlySortedBy};
+ghost use Rattle.authenticators.specs.Directory.{is_listed};
+ghost use Rattle.item_forms.specs.Pieces.{Piece, by_bytes};
+ghost use Rattle.evidence_set.specs.Indications.{IsUnanswered};
+ghost use Rattle.evidence_set.specs.ItemSets.{Has, set_of};
+ghost use Rattle.node_tables.specs.Indexed.{IsIndexed};
+ghost use Rattle.node_tables.specs.Places.{IsAgainstAt, named_item};
+
+use authenticators::{Directory, NodeId};
+use evidence_item::Item;
+use kept_items::KeptItem;
+use node_tables::{Table, place_of};
+use outcome::Memory;
+use replay_verifier::Program;
+use replay_verifier::laws::deviating_lists_do_not_conform;
+use std::alloc::Global;
+use tiered_vec::TieredVec;
+
+/// Puts the challenge at a place behind those that were found.
+fn lend<'a, P>(
+    found: &mut Vec<&'a Item>,
+    items: &'a [KeptItem<P>],
+    node: NodeId,
+    place: u32,
+) -> Result<(), Memory>
+    requires { IsAgainstAt items.now node place }
+    ensures { OnOk result (map (λ i. i.now) found.new.items ≡ map (λ i. i.now) found.old.items ++ named_item (slice_get items.now place)) }
+{
+    let Some(kept) = items.get(place as usize) else {
+        return Ok(());
+    };
+    if let Some(item) = kept.as_item() {
+        found.push(item)?;
+    }
+    Ok(())
+}
+
+/// The challenges against the node at these places, in their order.
+fn challenges_at<'a, P>(
+    alloc: Global,
+    items: &'a [KeptItem<P>],
+    node: NodeId,
+    places: &[u32],
+) -> Result<Vec<&'a Item>, Memory>
+    requires { (i : ℕ) → Contains places.now i → IsAgainstAt items.now node i }
+    ensures { IfOk result (λ found. map (λ i. i.now) found.items ≡ flat_map (λ i. named_item (slice_get items.now i)) places.now) }
+{
+    let mut found = Vec::with_capacity(alloc, places.len())?;
+    for place in places {
+        lend(&mut found, items, node, *place)?;
+    }
+    Ok(found)
+}
+
+/// The challenges against a listed node that no item answers, in the order of the items' spellings: they stand so in its table.
+pub(crate) fn open_challenges<'a, P: Program>(
+    alloc: Global,
+    directory: &Directory,
+    items: &'a [KeptItem<P>],
+    order: &TieredVec<u32>,
+    tables: &[Table],
+    node: NodeId,
+) -> Result<Vec<&'a Item>, Memory>
+    requires store { IsIndexed directory.now P.means items.now order.now.items tables.now }
+    requires listed { is_listed directory.now node ≡ true }
+    ensures members { IfOk result (λ found. (x : Piece) → Contains (map (λ i. i.now) found.items) x ↔ (Has (set_of items.now) x × IsUnanswered directory.now (set_of items.now) node x.fields)) }
+    ensures ascending { IfOk result (λ found. IsStrictlySortedBy by_bytes (map (λ i. i.now) found.items)) }
+{
+    deviating_lists_do_not_conform::<P::State>();
+    let Some(i) = place_of(tables, node) else {
+        return Ok(Vec::new(alloc));
+    };
+    let found = challenges_at(alloc, items, node, &tables[i].unanswered)?;
+    Ok(found)
+}

@@ -1,0 +1,150 @@
+//! The items of a set in their order.
+
+ghost use Rattle.std.specs.Prelude.{◌≡◌, ◌++◌, ℕ, IfOk, IfSome, OnOk, Some, map, option_map, slice_get};
+ghost use Rattle.std.specs.List.{Contains, flat_map};
+ghost use Rattle.item_digests.specs.Digests.{digest_of};
+ghost use Rattle.evidence_item.specs.Checking.{Checked as TheChecked};
+ghost use Rattle.evidence_set.specs.Exports.{export_of};
+ghost use Rattle.evidence_set.specs.ItemSets.{count, listed, set_of};
+ghost use Rattle.node_tables.specs.Places.{IsOrder, named_item};
+
+use containers::{HasItem, write_all};
+use evidence::MAGIC;
+use evidence_item::{Checked, Hash};
+use kept_items::KeptItem;
+use log_chain::FieldWriter;
+use outcome::Memory;
+use std::alloc::Global;
+use tiered_vec::TieredVec;
+
+/// How many items the set has.
+pub(crate) fn count<P>(items: &[KeptItem<P>], order: &TieredVec<u32>) -> u64
+    requires { IsOrder items.now order.now.items }
+    ensures { result ≡ count (set_of items.now) }
+{
+    order.len() as u64
+}
+
+/// The item at a place of the order, where there is one.
+fn kept_at<'a, P>(
+    items: &'a [KeptItem<P>],
+    order: &TieredVec<u32>,
+    n: u64,
+) -> Option<&'a KeptItem<P>>
+    requires { IsOrder items.now order.now.items }
+    ensures item { option_map (λ k. k.now.item) result ≡ slice_get (listed (set_of items.now)) n }
+    ensures kept { IfSome result (λ k. Contains items.now k.now) }
+{
+    let Some(place) = order.get(n as usize) else {
+        return None;
+    };
+    match items.get(*place as usize) {
+        None => None,
+        Some(kept) => Some(kept),
+    }
+}
+
+/// A copy of the item at a place of the order, where there is one.
+pub(crate) fn item_at<P>(
+    alloc: Global,
+    items: &[KeptItem<P>],
+    order: &TieredVec<u32>,
+    n: u64,
+) -> Result<Option<Checked<P>>, Memory>
+    requires { IsOrder items.now order.now.items }
+    ensures item { IfOk result (λ found. option_map (λ (c : TheChecked). c.item) found ≡ slice_get (listed (set_of items.now)) n) }
+    ensures kept { IfOk result (λ found. IfSome found (λ c. Contains items.now c)) }
+{
+    match kept_at(items, order, n) {
+        None => Ok(None),
+        Some(kept) => Ok(Some(kept.to_checked(alloc)?)),
+    }
+}
+
+/// The digest of the item at a place of the order, where there is one.
+pub(crate) fn digest_at<P>(items: &[KeptItem<P>], order: &TieredVec<u32>, n: u64) -> Option<Hash>
+    requires { IsOrder items.now order.now.items }
+    ensures { result ≡ option_map digest_of (slice_get (listed (set_of items.now)) n) }
+{
+    match kept_at(items, order, n) {
+        None => None,
+        Some(kept) => Some(kept.digest()),
+    }
+}
+
+/// A kept item that is lent.
+#[derive(Clone, Copy, Drop)]
+struct Lent<'a, P> {
+    kept: &'a KeptItem<P>,
+}
+
+impl<'a, P> HasItem for Lent<'a, P> {
+    ghost piece = { λ lent. lent.kept.now.item };
+
+    fn encoded_len(&self) -> usize {
+        self.kept.encoded_len()
+    }
+
+    fn write(&self, writer: &mut FieldWriter) -> Result<(), Memory> {
+        self.kept.write(writer)
+    }
+}
+
+/// Puts the item at a place behind those that are lent.
+fn lend<'a, P>(
+    found: &mut Vec<Lent<'a, P>>,
+    items: &'a [KeptItem<P>],
+    place: u32,
+) -> Result<(), Memory>
+    ensures { OnOk result (map (λ l. l.kept.now.item) found.new.items ≡ map (λ l. l.kept.now.item) found.old.items ++ named_item (slice_get items.now place)) }
+{
+    let Some(kept) = items.get(place as usize) else {
+        return Ok(());
+    };
+    found.push(Lent { kept })?;
+    Ok(())
+}
+
+/// Puts the item that stands at a place of the order behind those that are lent.
+fn lend_at<'a, P>(
+    found: &mut Vec<Lent<'a, P>>,
+    items: &'a [KeptItem<P>],
+    order: &TieredVec<u32>,
+    n: usize,
+) -> Result<(), Memory>
+    ensures { OnOk result ((place : ℕ) → slice_get order.now.items n ≡ Some place → map (λ l. l.kept.now.item) found.new.items ≡ map (λ l. l.kept.now.item) found.old.items ++ named_item (slice_get items.now place)) }
+{
+    let Some(place) = order.get(n) else {
+        return Ok(());
+    };
+    lend(found, items, *place)
+}
+
+/// The items in their order, lent.
+fn in_order<'a, P>(
+    alloc: Global,
+    items: &'a [KeptItem<P>],
+    order: &TieredVec<u32>,
+) -> Result<Vec<Lent<'a, P>>, Memory>
+    ensures { IfOk result (λ lent. map (λ l. l.kept.now.item) lent.items ≡ flat_map (λ i. named_item (slice_get items.now i)) order.now.items) }
+{
+    let mut found: Vec<Lent<'a, P>> = Vec::with_capacity(alloc, order.len())?;
+    for n in 0..order.len() {
+        lend_at(&mut found, items, order, n)?;
+    }
+    Ok(found)
+}
+
+/// The text of the set.
+pub(crate) fn export<P>(
+    alloc: Global,
+    items: &[KeptItem<P>],
+    order: &TieredVec<u32>,
+) -> Result<Vec<u8>, Memory>
+    requires { IsOrder items.now order.now.items }
+    ensures { IfOk result (λ text. text.items ≡ export_of (set_of items.now)) }
+{
+    let lent = in_order(alloc, items, order)?;
+    let text = write_all(alloc, MAGIC, &lent)?;
+    Ok(text)
+}

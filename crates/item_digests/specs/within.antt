@@ -1,3 +1,0 @@
--- Words of private code.
-
-pub mod Feeding

@@ -1,0 +1,18 @@
+-- Texts that are hashed one behind the other.
+use Rattle.std.proofs.Common.{◌≡◌, ℕ, ◌+◌, List, [], ◌∷◌, ◌++◌, take, sym, subst, append_assoc}
+use Rattle.std.specs.List.{flat_map}
+use Rattle.std.proofs.lemmas.List.{flat_map_more}
+use Rattle.sha2.specs.declared.Sha256.{Sha256}
+use Rattle.sha2.specs.Hashers.{Holds256}
+use Rattle.item_digests.specs.Feeding.{Feeds}
+
+-- one text and then another
+pub both_fed : (x y z : Sha256) (a b : List ℕ) → Feeds x y a → Feeds y z b → Feeds x z (a ++ b)
+both_fed x y z a b first second m held = subst (Holds256 z) (append_assoc m a b) (second (m ++ a) (first m held))
+
+-- one part more of a list
+pub part_fed : {X : Type 0} (text : X → List ℕ) (xs : List X) (i : ℕ) (p : X) (x y z : Sha256) → take (i + 1) xs ≡ take i xs ++ p ∷ [] → Feeds x y (flat_map text (take i xs)) → Feeds y z (text p)
+    → Feeds x z (flat_map text (take (i + 1) xs))
+part_fed {X = X} text xs i p x y z more first second m held =
+    subst (λ (ys : List X). Holds256 z (m ++ flat_map text ys)) (sym more)
+    (subst (Holds256 z) (flat_map_more text m (take i xs) p) (second (m ++ flat_map text (take i xs)) (first m held)))

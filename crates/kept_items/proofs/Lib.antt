@@ -1,0 +1,9 @@
+mod Entries
+mod Fed
+mod Found
+mod Made
+mod Orders
+mod Pairs
+mod Reached
+mod Singles
+mod Spelled

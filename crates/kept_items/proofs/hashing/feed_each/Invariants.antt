@@ -1,0 +1,8 @@
+use Rattle.std.proofs.Common.{take}
+use Rattle.std.specs.List.{flat_map}
+use Rattle.item_digests.specs.Feeding.{Feeds}
+use Rattle.kept_items.specs.within.Shared.{shared_spelling}
+use Rattle.kept_items.proofs.hashing.feed_each.Given as goal
+
+abbrev pub invariant-loop-handle : goal.invariant-loop-handle
+invariant-loop-handle l = Feeds l.initial.hasher l.hasher (flat_map shared_spelling (take l.handle-index l.handles))

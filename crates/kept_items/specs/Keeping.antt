@@ -1,0 +1,76 @@
+-- What can be kept, and what an item tells of a node.
+use Rattle.std.specs.Prelude.{◌≡◌, ◌≤◌, ◌-◌, ℕ, List, Option, Some, None, length, true, if◌then◌else◌, IfSome}
+use Rattle.log_chain.specs.Chain.{hashes}
+use Rattle.authenticators.specs.declared.authenticator.Authenticator.{Authenticator}
+use Rattle.authenticators.specs.Directory.{Listing}
+use Rattle.replay_verifier.specs.Deviation.{is_base}
+use Rattle.item_forms.specs.declared.forms.Fields.{Fields}
+use Rattle.item_forms.specs.declared.forms.Fields.TheVariants as form
+use Rattle.item_forms.specs.declared.forms.Segment.{Segment}
+use Rattle.item_forms.specs.Segments.{first_seq, last_seq}
+use Rattle.evidence_item.specs.declared.findings.Findings.{Findings}
+use Rattle.evidence_item.specs.Checking.{AreFindings, Checked, IsFound, findings_of}
+use Rattle.kept_evidence.specs.Kept.{found_hashes}
+use Rattle.kept_evidence.specs.Telling.{denies, found_quotes}
+use Rattle.kept_items.specs.declared.reach.Reach.{Reach}
+
+-- ---- what can be kept
+
+-- Of a segment the hash of each entry was found, and for each entry whether it quotes genuinely.
+pub record IsFoundSegment (s : Segment) (f : Option Findings) : Type 0 where
+  pub hashed : found_hashes f ≡ Some (hashes s.prev s.entries)
+  pub quoted : length (found_quotes f) ≡ length s.entries
+
+abbrev pub CanBeKeptWith : Fields → Option Findings → Type 0
+CanBeKeptWith (form.Auth a) f = Unit {0}
+CanBeKeptWith (form.Segment s) f = IsFoundSegment s f
+CanBeKeptWith (form.Audit c) f = Unit {0}
+CanBeKeptWith (form.Send m) f = Unit {0}
+CanBeKeptWith (form.Ack a) f = Unit {0}
+
+-- A segment can be kept where this was found of it, and any other item can.
+abbrev pub CanBeKept : Checked → Type 0
+CanBeKept c = CanBeKeptWith c.item.fields c.findings
+
+-- ---- of whom an item tells
+
+-- The node of a segment, and the node that a challenge is against or that answers it by an acknowledgement.
+abbrev pub subject : Fields → Option ℕ
+subject (form.Auth a) = None
+subject (form.Segment s) = Some s.node
+subject (form.Audit c) = Some c.node
+subject (form.Send m) = Some m.to
+subject (form.Ack a) = Some a.message.to
+
+-- ---- which statements can contradict a segment
+
+-- The least number of a statement that can contradict a segment after this hash whose first number is this.
+abbrev pub low_number : List ℕ → ℕ → ℕ
+low_number prev first = if is_base prev then 0 else first - 1
+
+-- Of a segment the least and the greatest number of a statement that can contradict it.
+abbrev pub reach : Fields → Option Reach
+reach (form.Auth a) = None
+reach (form.Segment s) = Some (record { low = low_number s.prev (first_seq s.entries); last = last_seq s.entries })
+reach (form.Audit c) = None
+reach (form.Send m) = None
+reach (form.Ack a) = None
+
+-- ---- laws, which `laws` proves
+
+-- An item of which everything was found can be kept.
+abbrev pub FoundItemsCanBeKept : Type 0
+FoundItemsCanBeKept = (ds : Listing) (c : Checked) → c.findings ≡ findings_of ds c.item.fields → CanBeKept c
+
+-- So can an item whose findings are its own, where there are findings of what has any.
+abbrev pub CheckedItemsCanBeKept : Type 0
+CheckedItemsCanBeKept = (ds : Listing) (c : Checked) → IfSome c.findings (AreFindings ds c.item.fields) → IsFound c.item.fields c.findings → CanBeKept c
+
+-- The number lies within the reach.
+pub record IsWithin (n : ℕ) (r : Reach) : Type 0 where
+  pub from : r.low ≤ n
+  pub to : n ≤ r.last
+
+-- A statement that contradicts a segment lies within its reach.
+abbrev pub DenialsAreWithinReach : Type 0
+DenialsAreWithinReach = (a : Authenticator) (x : Fields) (r : Reach) → reach x ≡ Some r → denies a x ≡ true → IsWithin a.seq r

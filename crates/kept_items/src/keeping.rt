@@ -1,0 +1,129 @@
+//! Keeping a checked item.
+
+ghost use Rattle.std.specs.Prelude.{◌≡◌, IfErr, IfNone, IfOk, IfSome, false, true};
+ghost use Rattle.evidence_item.specs.Checking.{is_segment};
+ghost use Rattle.kept_items.specs.Keeping.{CanBeKept};
+
+use crate::handle::share_each;
+use crate::item::KeptItem;
+use crate::segment::KeptSegment;
+use evidence_item::{Checked, Findings, Form};
+use kept_entries::EntryPool;
+use outcome::Memory;
+use std::alloc::Global;
+use std::marker::Model;
+
+/// Memory ran out; the item is given back as it was.
+#[derive(Drop)]
+pub struct KeepRefused<P>(pub Checked<P>);
+
+/// An item that is about to be kept, with what it takes to give it back. A contract sees the checked item.
+#[derive(Drop)]
+pub struct Keeping<P> {
+    item: KeptItem<P>,
+    given: Option<Checked<P>>,
+}
+
+impl<P> Model for Keeping<P> {
+    ghost use Rattle.evidence_item.specs.Checking.{Checked};
+    ghost use Rattle.std.specs.Coded.{codes};
+    ghost use Rattle.item_forms.specs.Pieces.{fits_code};
+    ghost use Rattle.kept_items.specs.within.Items.{IsGivenBy};
+
+    ghost Value = { Checked };
+
+    ghost coded = { Prim.hlevel (codes, fits_code) };
+
+    ghost view = { λ k. k.item };
+
+    ghost invariant = { λ k. IsGivenBy k.item k.given };
+}
+
+impl<P> Keeping<P> {
+    /// The item as it will be kept.
+    pub fn item(&self) -> &KeptItem<P>
+        ensures { result.now ≡ self.now }
+    {
+        &self.item
+    }
+
+    /// The item as it is kept from now on.
+    pub fn commit(self) -> KeptItem<P>
+        ensures { result ≡ self }
+    {
+        self.item
+    }
+
+    /// The item as it was before. It takes no memory.
+    pub fn give_back(self) -> Checked<P>
+        ensures { result ≡ self }
+    {
+        let Keeping { item, given } = self;
+        match given {
+            None => item.into_single(),
+            Some(checked) => checked,
+        }
+    }
+}
+
+/// The segment with its entries shared; none where the item is no segment.
+fn shared_segment<P>(
+    alloc: Global,
+    pool: &mut EntryPool,
+    checked: &Checked<P>,
+) -> Result<Option<KeptSegment>, Memory>
+    requires { CanBeKept checked.now }
+    ensures none { IfOk result (λ o. IfNone o (is_segment checked.now.item.fields ≡ false)) }
+    ensures some { IfOk result (λ o. IfSome o (λ k. k ≡ checked.now)) }
+    ensures segment { IfOk result (λ o. IfSome o (λ k. is_segment k.item.fields ≡ true)) }
+{
+    let Form::Segment(segment) = checked.item().form() else {
+        return Ok(None);
+    };
+    let Some(Findings::Segment(found)) = checked.findings() else {
+        return Ok(None);
+    };
+    let handles = share_each(
+        alloc,
+        pool,
+        segment.prev,
+        segment.entries.as_slice(),
+        found.hashes.as_slice(),
+        found.quotes.as_slice(),
+    )?;
+    let sig = segment.sig.try_clone(alloc)?;
+    let kept = KeptSegment::from_parts(
+        segment.node,
+        segment.prev,
+        handles,
+        sig,
+        checked.verdict().copied(),
+    );
+    Ok(Some(kept))
+}
+
+impl<P> KeptItem<P> {
+    /// Makes what is kept of the item: of a segment handles of its entries, each kept once, of anything else the item itself. Where
+    /// memory runs out the item is given back.
+    pub fn keep(
+        alloc: Global,
+        pool: &mut EntryPool,
+        checked: Checked<P>,
+    ) -> Result<Keeping<P>, KeepRefused<P>>
+        requires { CanBeKept checked }
+        ensures kept { IfOk result (λ k. k ≡ checked) }
+        ensures given_back { IfErr result (λ r. r.0 ≡ checked) }
+    {
+        match shared_segment(alloc, pool, &checked) {
+            Err(Memory) => Err(KeepRefused(checked)),
+            Ok(None) => Ok(Keeping {
+                item: KeptItem::single(checked),
+                given: None,
+            }),
+            Ok(Some(segment)) => Ok(Keeping {
+                item: KeptItem::segment(segment),
+                given: Some(checked),
+            }),
+        }
+    }
+}

@@ -1,0 +1,18 @@
+//! What follows of the definitions. Each function does nothing, and is called to tell the prover what its contract says.
+
+ghost use Rattle.kept_items.specs.Keeping.{CheckedItemsCanBeKept, DenialsAreWithinReach, FoundItemsCanBeKept};
+
+/// An item of which everything was found can be kept.
+pub fn found_items_can_be_kept()
+    ensures { FoundItemsCanBeKept }
+{}
+
+/// So can an item whose findings are its own, where there are findings of what has any.
+pub fn checked_items_can_be_kept()
+    ensures { CheckedItemsCanBeKept }
+{}
+
+/// A statement that contradicts a segment lies within its reach.
+pub fn denials_are_within_reach()
+    ensures { DenialsAreWithinReach }
+{}

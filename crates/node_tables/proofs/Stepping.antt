@@ -1,0 +1,235 @@
+-- What happens to the tables of all nodes, from what happens to one.
+use Rattle.std.proofs.Common.{◌≡◌, ◌≢◌, ℕ, zero, suc, ◌+◌, ◌-◌, ◌<◌, ◌≤◌, Bool, true, false, List, get_or, Option, Some, None, refl, sym, ap, subst, ◌∙◌, inl, inr, ⊎_elim, arith}
+use Rattle.std.specs.Prelude.{◌==◌, slice_get, slice_set}
+use Rattle.std.specs.List.{Contains}
+use Rattle.std.specs.Ordering.{nat_cmp}
+use Rattle.std.specs.declared.cmp.Ordering.TheVariants.{Equal}
+use Rattle.std.specs.Cmp.{IsTotalOrder}
+use Rattle.std.proofs.lemmas.Bool.{cases_lt}
+use Rattle.std.proofs.lemmas.Bool.Decides.{Decides-eqb}
+use Rattle.std.proofs.lemmas.Cmp.{nat_cmp_total, on_total, ranked, tied_itself}
+use Rattle.std.proofs.lemmas.Option.{same_Some, slice_get-get_or}
+use Rattle.authenticators.specs.declared.authenticator.Authenticator.{Authenticator}
+use Rattle.evidence_item.specs.Checking.{Checked}
+use Rattle.node_tables.specs.declared.row.Row.{Row}
+use Rattle.node_tables.specs.declared.table.Table.{Table}
+use Rattle.node_tables.specs.Rows.{stated_at}
+use Rattle.node_tables.specs.Steps.{AllTables, AscendByNode, EachBecomes, by_node, is_of, position_of, room, wanted}
+use Rattle.node_tables.specs.Tables.{Says}
+use Rattle.node_tables.specs.within.Bringing.{OneTakenBack, StatementStep, StatementsStep, TakenBack, one_of}
+use Rattle.node_tables.proofs.Places.{ascending_by_pairs, contains_at, in_order, set_cases}
+
+pub becomes_set : (R : Table → Table → Type 0) (xs : List Table) (i : ℕ) (t u : Table) → slice_get xs i ≡ Some t → R t u
+    → ((j : ℕ) (v : Table) → slice_get xs j ≡ Some v → j ≢ i → R v v) → EachBecomes R xs (slice_set xs i u)
+becomes_set R xs i t u at step others j w h = ⊎_elim
+    (λ (e : (j ≡ i) × (w ≡ u)). (t, ap (λ n. slice_get xs n) e.0 ∙ at, subst (λ (x : Table). R t x) (sym e.1) step))
+    (λ (e : (j ≢ i) × (slice_get xs j ≡ Some w)). (w, e.1, others j w e.1 e.0))
+    (set_cases xs i j u w h)
+
+pub all_set : (P : Table → Type 0) (xs : List Table) (i : ℕ) (u : Table) → AllTables P xs → P u → AllTables P (slice_set xs i u)
+all_set P xs i u all here j w h = ⊎_elim
+    (λ (e : (j ≡ i) × (w ≡ u)). subst P (sym e.1) here)
+    (λ (e : (j ≢ i) × (slice_get xs j ≡ Some w)). all j w e.1)
+    (set_cases xs i j u w h)
+
+pub by_node_total : IsTotalOrder by_node
+by_node_total = on_total (λ (t : Table). t.node) nat_cmp_total
+
+-- numbers that compare as equal are the same
+pub nat_equal : (m n : ℕ) → nat_cmp m n ≡ Equal → m ≡ n
+nat_equal m n h = ranked m n Equal (sym h)
+
+-- two tables of one node are one
+pub distinct : (tables : List Table) (i j : ℕ) (t u : Table) → AscendByNode tables → slice_get tables i ≡ Some t → slice_get tables j ≡ Some u → t.node ≡ u.node → i ≡ j
+distinct tables i j t u up at_i at_j same =
+    let itself : by_node t u ≡ by_node t t = ap (nat_cmp t.node) (sym same) in
+    let back : by_node u t ≡ by_node t t = ap (λ n. nat_cmp n t.node) (sym same) in
+    let tied = tied_itself by_node_total t in
+    ⊎_elim
+    (λ lt. let less = in_order by_node tables i j t u up at_i at_j lt in absurd (cc (less, itself, tied)))
+    (λ le. ⊎_elim
+    (λ lt. let less = in_order by_node tables j i u t up at_j at_i lt in absurd (cc (less, back, tied)))
+    (λ (ge : i ≤ j). omega (arith, le, ge))
+    (cases_lt j i))
+    (cases_lt i j)
+
+-- tables that come of ascending ones, each of the same node, ascend
+pub ascend_still : (R : Table → Table → Type 0) (old new : List Table) → ((t u : Table) → R t u → u.node ≡ t.node) → EachBecomes R old new → AscendByNode old → AscendByNode new
+ascend_still R old new same each up = ascending_by_pairs by_node new (λ i j d lt inside.
+    let from_i = each i (get_or new i d) (slice_get-get_or new i d (omega (arith, lt, inside))) in
+    let from_j = each j (get_or new j d) (slice_get-get_or new j d inside) in
+    ap (λ n. nat_cmp n (get_or new j d).node) (same from_i.0 (get_or new i d) from_i.2) ∙ ap (nat_cmp from_i.0.node) (same from_j.0 (get_or new j d) from_j.2)
+    ∙ in_order by_node old i j from_i.0 from_j.0 up from_i.1 from_j.1 lt)
+
+-- ---- one statement
+
+module _ (items : List Checked) (row : Row) where
+  pub statement_still : (t : Table) → ((a : Authenticator) → stated_at items row ≡ Some a → a.node ≢ t.node) → StatementStep items row t t
+  statement_still t other = record {
+    node = refl;
+    says = λ a. (λ has. inl has, λ h. ⊎_elim (λ has. has) (λ (e : (stated_at items row ≡ Some a) × (a.node ≡ t.node)). absurd (other a e.0 e.1)) h);
+    spans = refl;
+    unanswered = refl;
+    room = omega arith;
+    other_room = λ _. omega arith;
+  }
+
+  -- nothing comes to tables of other nodes
+  pub all_still : (tables : List Table) → ((a : Authenticator) → stated_at items row ≡ Some a → (t : Table) → Contains tables t → t.node ≢ a.node) → EachBecomes (StatementStep items row) tables tables
+  all_still tables other i u at = (u, at, statement_still u (λ a is same. other a is u (contains_at tables i u at) (sym same)))
+
+  pub put_at : (tables : List Table) (i : ℕ) (t u : Table) (a : Authenticator) → AscendByNode tables → slice_get tables i ≡ Some t → stated_at items row ≡ Some a → t.node ≡ a.node → StatementStep items row t u
+      → EachBecomes (StatementStep items row) tables (slice_set tables i u)
+  put_at tables i t u a up at is own step = becomes_set (StatementStep items row) tables i t u at step (λ j v there other. statement_still v (λ b names same.
+      other (distinct tables j i v t up there at (sym same ∙ ap (λ (x : Authenticator). x.node) (same_Some b a (sym names ∙ is)) ∙ sym own))))
+
+-- ---- the statements of an item
+
+-- more positions have no fewer statements of the node
+wanted_more : (g : ℕ → Option Authenticator) (k j : ℕ) → wanted g k j ≤ wanted g (suc k) j
+wanted_more g k j = by_case (is_of j (g k)) refl
+  where
+    by_case : (b : Bool) → is_of j (g k) ≡ b → wanted g k j ≤ wanted g (suc k) j
+    by_case true e = rw e (omega arith)
+    by_case false e = rw e (omega arith)
+
+pub wanted_rises : (g : ℕ → Option Authenticator) (k n j : ℕ) → wanted g k j ≤ wanted g (n + k) j
+wanted_rises g k zero j = let e : zero + k ≡ k = omega arith in subst (λ m. wanted g k j ≤ wanted g m j) (sym e) (omega arith)
+wanted_rises g k (suc n) j =
+    let e : suc n + k ≡ suc (n + k) = omega arith in
+    subst (λ m. wanted g k j ≤ wanted g m j) (sym e) (omega (arith, wanted_rises g k n j, wanted_more g (n + k) j))
+
+pub wanted_here : (g : ℕ → Option Authenticator) (k : ℕ) (a : Authenticator) → g k ≡ Some a → wanted g (suc k) a.node ≡ wanted g k a.node + 1
+wanted_here g k a is =
+    let of_node : is_of a.node (g k) ≡ true = ap (is_of a.node) is ∙ (Decides-eqb a.node a.node).1 refl in
+    rw of_node refl
+
+-- ---- one position after the other
+
+module _ (items : List Checked) (n : ℕ) where
+  abbrev pub at : ℕ → Row
+  at k = record { item = n; position = k }
+
+  -- Nothing came yet.
+  pub none_yet : (t : Table) → StatementsStep items n zero t t
+  none_yet t = record {
+    node = refl;
+    says = λ a. (λ has. inl has, λ h. ⊎_elim (λ has. has) (λ (e : (p : ℕ) × (p < zero) × (position_of items n p ≡ Some a) × (a.node ≡ t.node)). absurd (omega (arith, e.1))) h);
+    spans = refl;
+    unanswered = refl;
+    room = omega arith;
+  }
+
+  room_then : (k j : ℕ) (b : Bool) (m r s : ℕ) → is_of j (position_of items n k) ≡ b → m ≤ r + wanted (position_of items n) k j → r ≤ s + 1 → (b ≡ false → r ≤ s) → m ≤ s + wanted (position_of items n) (suc k) j
+  room_then k j true m r s e one two same = rw e (omega (arith, one, two))
+  room_then k j false m r s e one two same = let eq : r ≤ s = same refl in rw e (omega (arith, one, eq))
+
+  not_of : (j : ℕ) (o : Option Authenticator) → is_of j o ≡ false → (a : Authenticator) → o ≡ Some a → a.node ≢ j
+  not_of j o e a is same = let yes : is_of j o ≡ true = ap (is_of j) is ∙ (Decides-eqb a.node j).1 same in cc (e, yes)
+
+  -- One position more.
+  pub one_more : (k : ℕ) (t u v : Table) → StatementsStep items n k t u → StatementStep items (at k) u v → StatementsStep items n (k + 1) t v
+  one_more k t u v before step =
+      let suc_k : k + 1 ≡ suc k = omega arith in
+      record {
+        node = step.node ∙ before.node;
+        says = λ a. (
+          λ has. ⊎_elim
+              (λ (h : Says items u.rows.items a). ⊎_elim
+              (λ old. inl old)
+              (λ (e : (p : ℕ) × (p < k) × (position_of items n p ≡ Some a) × (a.node ≡ t.node)). inr (e.0, omega (arith, e.1), e.2, e.3))
+              ((before.says a).0 h))
+              (λ (e : (stated_at items (at k) ≡ Some a) × (a.node ≡ u.node)). inr (k, omega arith, e.0, e.1 ∙ before.node))
+              ((step.says a).0 has),
+          λ h. (step.says a).1 (⊎_elim
+              (λ (old : Says items t.rows.items a). inl ((before.says a).1 (inl old)))
+              (λ (e : (p : ℕ) × (p < k + 1) × (position_of items n p ≡ Some a) × (a.node ≡ t.node)). ⊎_elim
+              (λ lt. inl ((before.says a).1 (inr (e.0, lt, e.2, e.3))))
+              (λ le.
+              let is : e.0 ≡ k = omega (arith, e.1, le) in
+              inr (subst (λ p. position_of items n p ≡ Some a) is e.2, e.3 ∙ sym before.node))
+              (cases_lt e.0 k))
+              h),
+        );
+        spans = step.spans ∙ before.spans;
+        unanswered = step.unanswered ∙ before.unanswered;
+        room = subst (λ m. room t ≤ room v + wanted (position_of items n) m t.node) (sym suc_k)
+            (room_then k t.node (is_of t.node (position_of items n k)) (room t) (room u) (room v) refl before.room step.room
+            (λ e. step.other_room (λ a is same. not_of t.node (position_of items n k) e a is (same ∙ before.node))));
+      }
+
+  pub each_more : (k : ℕ) (old mid new : List Table) → EachBecomes (StatementsStep items n k) old mid → EachBecomes (StatementStep items (at k)) mid new → EachBecomes (StatementsStep items n (k + 1)) old new
+  each_more k old mid new before step i v there =
+      let (u, in_mid, second) = step i v there in
+      let (t, in_old, first) = before i u in_mid in
+      (t, in_old, one_more k t u v first second)
+
+  -- There is room for the statement at each position.
+  pub room_at : (count k : ℕ) (old now : List Table) → k < count → AllTables (λ (t : Table). wanted (position_of items n) count t.node ≤ room t) old → EachBecomes (StatementsStep items n k) old now
+      → (a : Authenticator) → stated_at items (at k) ≡ Some a → AllTables (λ (t : Table). t.node ≡ a.node → 1 ≤ room t) now
+  room_at count k old now lt all before a is i u there own =
+      let (t, in_old, step) = before i u there in
+      let enough = all i t in_old in
+      let g = position_of items n in
+      let here : wanted g (suc k) a.node ≡ wanted g k a.node + 1 = wanted_here g k a is in
+      let up : wanted g (suc k) a.node ≤ wanted g ((count - suc k) + suc k) a.node = wanted_rises g (suc k) (count - suc k) a.node in
+      let last : (count - suc k) + suc k ≡ count = omega (arith, lt) in
+      let most : wanted g (suc k) a.node ≤ wanted g count a.node = subst (λ m. wanted g (suc k) a.node ≤ wanted g m a.node) last up in
+      let node : t.node ≡ a.node = sym step.node ∙ own in
+      let from : wanted g count a.node ≤ room t = subst (λ j. wanted g count j ≤ room t) node enough in
+      let left : room t ≤ room u + wanted g k a.node = subst (λ j. room t ≤ room u + wanted g k j) node step.room in
+      omega (arith, here, most, from, left)
+
+-- ---- what is taken back of the promises
+
+not_is_of : (j : ℕ) (o : Option Authenticator) → ((a : Authenticator) → o ≡ Some a → a.node ≢ j) → is_of j o ≡ false
+not_is_of j None other = refl
+not_is_of j (Some a) other = by_case (a.node == j) refl
+  where
+    by_case : (b : Bool) → (a.node == j) ≡ b → (a.node == j) ≡ false
+    by_case true e = absurd (other a refl ((Decides-eqb a.node j).0 e))
+    by_case false e = e
+
+-- Nothing is taken back of the tables of other nodes.
+pub kept_promise : (o : Option Authenticator) (t : Table) → ((a : Authenticator) → o ≡ Some a → a.node ≢ t.node) → OneTakenBack o t t
+kept_promise o t other =
+    let e = not_is_of t.node o other in
+    let zero_is : one_of t.node o ≡ 0 = rw e refl in
+    record { node = refl; promised = omega (arith, zero_is); bodies = refl }
+
+pub all_promises_kept : (o : Option Authenticator) (tables : List Table) → ((a : Authenticator) → o ≡ Some a → (t : Table) → Contains tables t → t.node ≢ a.node) → EachBecomes (OneTakenBack o) tables tables
+all_promises_kept o tables other i u at = (u, at, kept_promise o u (λ a is same. other a is u (contains_at tables i u at) (sym same)))
+
+pub promise_taken_at : (o : Option Authenticator) (tables : List Table) (i : ℕ) (t u : Table) (a : Authenticator) → AscendByNode tables → slice_get tables i ≡ Some t → o ≡ Some a → t.node ≡ a.node
+    → u.node ≡ t.node → u.promised ≡ t.promised - 1 → u.bodies ≡ t.bodies → EachBecomes (OneTakenBack o) tables (slice_set tables i u)
+promise_taken_at o tables i t u a up at is own node promised bodies =
+    let of_node : is_of t.node o ≡ true = ap (is_of t.node) is ∙ (Decides-eqb a.node t.node).1 (sym own) in
+    let one_is : one_of t.node o ≡ 1 = rw of_node refl in
+    becomes_set (OneTakenBack o) tables i t u at (record { node = node; promised = omega (arith, promised, one_is); bodies = bodies }) (λ j v there other. kept_promise o v (λ b names same.
+    other (distinct tables j i v t up there at (sym same ∙ ap (λ (x : Authenticator). x.node) (same_Some b a (sym names ∙ is)) ∙ sym own))))
+
+module _ (items : List Checked) (n : ℕ) where
+  pub none_taken_back : (t : Table) → TakenBack items n zero t t
+  none_taken_back t = record { node = refl; promised = omega arith; bodies = refl }
+
+  wanted_next : (k j : ℕ) (b : Bool) → is_of j (position_of items n k) ≡ b → wanted (position_of items n) (suc k) j ≡ wanted (position_of items n) k j + one_of j (position_of items n k)
+  wanted_next k j true e = rw e refl
+  wanted_next k j false e = rw e (omega arith)
+
+  one_more_back : (k : ℕ) (t u v : Table) → TakenBack items n k t u → OneTakenBack (stated_at items (at items n k)) u v → TakenBack items n (k + 1) t v
+  one_more_back k t u v before step =
+      let suc_k : k + 1 ≡ suc k = omega arith in
+      let o = position_of items n k in
+      let here : v.promised ≡ u.promised - one_of t.node o = subst (λ j. v.promised ≡ u.promised - one_of j o) before.node step.promised in
+      let more = wanted_next k t.node (is_of t.node o) refl in
+      record {
+        node = step.node ∙ before.node;
+        promised = subst (λ m. v.promised ≡ t.promised - wanted (position_of items n) m t.node) (sym suc_k) (omega (arith, here, before.promised, more));
+        bodies = step.bodies ∙ before.bodies;
+      }
+
+  pub each_more_back : (k : ℕ) (old mid new : List Table) → EachBecomes (TakenBack items n k) old mid → EachBecomes (OneTakenBack (stated_at items (at items n k))) mid new → EachBecomes (TakenBack items n (k + 1)) old new
+  each_more_back k old mid new before step i v there =
+      let (u, in_mid, second) = step i v there in
+      let (t, in_old, first) = before i u in_mid in
+      (t, in_old, one_more_back k t u v first second)

@@ -1,0 +1,232 @@
+-- An item more in the tables of all nodes.
+use Rattle.std.proofs.Common.{◌≡◌, ◌≢◌, ℕ, ◌<◌, ◌≤◌, Bool, true, false, not, List, [], ◌∷◌, ◌++◌, length, Option, Some, None, refl, sym, ap, subst, ◌∙◌, ◌⊎◌, inl, inr, ⊎_elim, arith}
+use Rattle.std.specs.Prelude.{◌↔◌, ◌&&◌, ◌||◌, slice_get, vec_capacity, vec_len}
+use Rattle.std.specs.List.{Contains}
+use Rattle.std.proofs.lemmas.Option.{same_Some, slice_get_within}
+use Rattle.authenticators.specs.declared.authenticator.Authenticator.{Authenticator}
+use Rattle.item_forms.specs.declared.forms.Fields.{Fields}
+use Rattle.evidence_item.specs.Checking.{Checked}
+use Rattle.evidence_set.specs.Challenges.{is_against}
+use Rattle.kept_evidence.specs.Kept.{Keeps}
+use Rattle.kept_evidence.specs.Telling.{IsSegmentOf, is_answered, told_answers}
+use Rattle.node_tables.specs.declared.table.Table.{Table}
+use Rattle.node_tables.specs.Indexed.{IsSaid, IsTable}
+use Rattle.node_tables.specs.Places.{AscendBySpelling, HasBodyRoom, IsAgainstAt, IsOpenAt}
+use Rattle.kept_items.specs.Positions.{positions, stated}
+use Rattle.node_tables.specs.Rooms.{HasRoomFor, IsRoomier}
+use Rattle.node_tables.specs.declared.row.Row.{Row}
+use Rattle.node_tables.specs.declared.span.Span.{Span}
+use Rattle.node_tables.specs.Rows.{AreRowsOf, stated_by}
+use Rattle.node_tables.specs.Steps.{AllTables, EachBecomes, position_of, room, wanted}
+use Rattle.node_tables.specs.Tables.{AreSpans, DoNotFall, IsSegmentAt, IsTold, IsUpToDate, Says, Stands}
+use Rattle.node_tables.specs.within.Bringing.{StatementsStep}
+use Rattle.node_tables.specs.within.Placing.{AreAgainst, AreOthers, BodyStep, IsNewAmong, ItemStep, answered_by, answers_at, subject_by}
+use Rattle.node_tables.proofs.Grown.{any_more, at_cases, last_at, says_grown, still_at}
+use Rattle.node_tables.proofs.Places.{contains_at}
+use Rattle.node_tables.proofs.Positioned.{within}
+
+-- ---- one item in one table
+
+pub item_step : (items : List Checked) (n k : ℕ) (t u v : Table) → StatementsStep items n k t u → BodyStep items n u v → ItemStep items n k t v
+item_step items n k t u v one other = record {
+  node = other.node ∙ one.node;
+  says = λ a. subst (λ w. Says items w.items a ↔ (Says items t.rows.items a ⊎ ((p : ℕ) × (p < k) × (position_of items n p ≡ Some a) × (a.node ≡ t.node)))) (sym other.rows) (one.says a);
+  stands = λ i. subst (λ j. Stands v.spans.items i ↔ (Stands t.spans.items i ⊎ ((i ≡ n) × IsSegmentAt items j n))) one.node
+      (subst (λ w. Stands v.spans.items i ↔ (Stands w.items i ⊎ ((i ≡ n) × IsSegmentAt items u.node n))) one.spans (other.stands i));
+  unanswered = λ i. subst (λ j. Contains v.unanswered.items i ↔ ((Contains t.unanswered.items i × (answers_at items i n ≡ false)) ⊎ ((i ≡ n) × IsOpenAt items j n))) one.node
+      (subst (λ w. Contains v.unanswered.items i ↔ ((Contains w.items i × (answers_at items i n ≡ false)) ⊎ ((i ≡ n) × IsOpenAt items u.node n))) one.unanswered (other.unanswered i));
+}
+
+pub others_still : (items : List Checked) (n k : ℕ) (old mid : List Table) → EachBecomes (StatementsStep items n k) old mid → AllTables (λ (t : Table). AreOthers items t.node n t.spans.items) old → AllTables (λ (t : Table). AreOthers items t.node n t.spans.items) mid
+others_still items n k old mid each all i u at =
+    let (t, in_old, step) = each i u at in
+    subst (λ j. AreOthers items j n u.spans.items) (sym step.node) (subst (λ w. AreOthers items t.node n w.items) (sym step.spans) (all i t in_old))
+
+pub asked_still : (items : List Checked) (n k : ℕ) (old mid : List Table) → EachBecomes (StatementsStep items n k) old mid → AllTables (λ (t : Table). AscendBySpelling items t.unanswered.items) old → AllTables (λ (t : Table). AscendBySpelling items t.unanswered.items) mid
+asked_still items n k old mid each all i u at =
+    let (t, in_old, step) = each i u at in
+    subst (λ w. AscendBySpelling items w.items) (sym step.unanswered) (all i t in_old)
+
+pub new_still : (items : List Checked) (n k : ℕ) (old mid : List Table) → EachBecomes (StatementsStep items n k) old mid → AllTables (λ (t : Table). IsNewAmong items n t.unanswered.items) old → AllTables (λ (t : Table). IsNewAmong items n t.unanswered.items) mid
+new_still items n k old mid each all i u at =
+    let (t, in_old, step) = each i u at in
+    subst (λ w. IsNewAmong items n w.items) (sym step.unanswered) (all i t in_old)
+
+pub against_still : (items : List Checked) (n k : ℕ) (old mid : List Table) → EachBecomes (StatementsStep items n k) old mid → AllTables (AreAgainst items) old → AllTables (AreAgainst items) mid
+against_still items n k old mid each all i u at m has =
+    let (t, in_old, step) = each i u at in
+    subst (λ j. IsAgainstAt items j m) (sym step.node) (all i t in_old m (subst (λ w. Contains w.items m) step.unanswered has))
+
+pub room_of : (items : List Checked) (n k : ℕ) (x : Checked) → slice_get items n ≡ Some x → (t : Table) → wanted (stated x) k t.node ≤ room t → wanted (position_of items n) k t.node ≤ room t
+room_of items n k x at t h = subst (λ (o : Option Checked). wanted (stated_by o) k t.node ≤ room t) (sym at) h
+
+-- ---- one item more
+
+module _ (items : List Checked) (x : Checked) where
+  abbrev pub more : List Checked
+  more = items ++ x ∷ []
+
+  abbrev n : ℕ
+  n = length items
+
+  some_by : (o : Option Checked) (k : ℕ) (a : Authenticator) → stated_by o k ≡ Some a → (c : Checked) × (o ≡ Some c)
+  some_by None k a h = absurd cc
+  some_by (Some c) k a h = (c, refl)
+
+  -- what is said by more items
+  pub said_or : (a : Authenticator) → IsSaid more a ↔ (IsSaid items a ⊎ ((p : ℕ) × (p < positions x.item.fields) × (position_of more n p ≡ Some a)))
+  said_or a = (
+    λ (m, k, h).
+        let (c, at) = some_by (slice_get more m) k a h in
+        ⊎_elim
+        (λ old. inl (m, k, ap (λ (o : Option Checked). stated_by o k) (old ∙ sym at) ∙ h))
+        (λ (e : (m ≡ n) × (c ≡ x)). inr (k, within x.item.fields x.findings k a (sym (ap (λ (o : Option Checked). stated_by o k) (at ∙ ap Some e.1)) ∙ h), subst (λ i. position_of more i k ≡ Some a) e.0 h))
+        (at_cases items x m c at),
+    λ h. ⊎_elim
+        (λ (old : IsSaid items a).
+        let (c, at) = some_by (slice_get items old.0) old.1 a old.2 in
+        (old.0, old.1, ap (λ (o : Option Checked). stated_by o old.1) (still_at items x old.0 c at ∙ sym at) ∙ old.2))
+        (λ (new : (p : ℕ) × (p < positions x.item.fields) × (position_of more n p ≡ Some a)). (n, new.0, new.2))
+        h,
+  )
+
+  -- the segments among more items
+  pub segment_or : (j i : ℕ) → IsSegmentAt more j i ↔ (IsSegmentAt items j i ⊎ ((i ≡ n) × IsSegmentAt more j n))
+  segment_or j i = (
+    λ (c, at, of). ⊎_elim
+        (λ old. inl (c, old, of))
+        (λ (e : (i ≡ n) × (c ≡ x)). inr (e.0, (x, last_at items x, subst (λ (k : Checked). IsSegmentOf j k.item.fields) e.1 of)))
+        (at_cases items x i c at),
+    λ h. ⊎_elim
+        (λ (old : IsSegmentAt items j i). (old.0, still_at items x i old.0 old.1, old.2))
+        (λ (new : (i ≡ n) × IsSegmentAt more j n). subst (IsSegmentAt more j) (sym new.0) new.1)
+        h,
+  )
+
+  not_last : (i : ℕ) (c : Checked) → slice_get items i ≡ Some c → i ≢ n
+  not_last i c at same = let lt = slice_get_within items i c at in omega (arith, lt, same)
+
+  pub others_here : (j : ℕ) (t : Table) → t.node ≡ j → ((i : ℕ) → Stands t.spans.items i ↔ IsSegmentAt items j i) → AreOthers more j n t.spans.items
+  others_here j t own stands i = (
+    λ h. let old = (stands i).0 h in ((segment_or j i).1 (inl old), not_last i old.0 old.1),
+    λ (h, other). ⊎_elim (λ old. (stands i).1 old) (λ (e : (i ≡ n) × IsSegmentAt more j n). absurd (other e.0)) ((segment_or j i).0 h),
+  )
+
+  -- ---- challenges
+
+  both : (a b : Bool) → (a && not b) ≡ true → (a ≡ true) × (b ≡ false)
+  both true true h = absurd cc
+  both true false h = (refl, refl)
+  both false b h = absurd cc
+
+  open_so : (a b : Bool) → a ≡ true → b ≡ false → (a && not b) ≡ true
+  open_so true false h e = refl
+  open_so true true h e = absurd cc
+  open_so false b h e = absurd cc
+
+  neither : (a b : Bool) → (a || b) ≡ false → (a ≡ false) × (b ≡ false)
+  neither true b h = absurd cc
+  neither false b h = (refl, h)
+
+  nor : (a b : Bool) → a ≡ false → b ≡ false → (a || b) ≡ false
+  nor true b h e = absurd cc
+  nor false b h e = e
+
+  answered_more : (y : Fields) → is_answered more y ≡ (is_answered items y || told_answers y x)
+  answered_more y = any_more (told_answers y) items x
+
+  answers_last : (i : ℕ) (c : Checked) → slice_get items i ≡ Some c → answers_at more i n ≡ told_answers c.item.fields x
+  answers_last i c at = ap (λ (o : Option Checked). answered_by o (slice_get more n)) (still_at items x i c at) ∙ ap (answered_by (Some c)) (last_at items x)
+
+  pub new_here : (t : Table) → IsTable items t → (Keeps items x.item → ⊥) → IsNewAmong more n t.unanswered.items
+  new_here t table absent i c d has at_i at_n same =
+      let (e, there, open_e) = (table.unanswered i).0 has in
+      let is_x : d ≡ x = same_Some d x (sym at_n ∙ last_at items x) in
+      let is_c : e ≡ c = same_Some e c (sym (still_at items x i e there) ∙ at_i) in
+      absent (e, contains_at items i e there, ap (λ (k : Checked). k.item) is_c ∙ same ∙ ap (λ (k : Checked). k.item) is_x)
+
+  pub against_here : (j i : ℕ) → IsOpenAt items j i → IsAgainstAt more j i
+  against_here j i (c, at, h) = (c, still_at items x i c at, (both (is_against j c.item.fields) (is_answered items c.item.fields) h).0)
+
+  pub open_or : (j i : ℕ) → IsOpenAt more j i ↔ ((IsOpenAt items j i × (answers_at more i n ≡ false)) ⊎ ((i ≡ n) × IsOpenAt more j n))
+  open_or j i = (
+    λ (c, at, h). ⊎_elim
+        (λ old.
+        let t = both (is_against j c.item.fields) (is_answered more c.item.fields) h in
+        let parts = neither (is_answered items c.item.fields) (told_answers c.item.fields x) (sym (answered_more c.item.fields) ∙ t.1) in
+        inl ((c, old, open_so (is_against j c.item.fields) (is_answered items c.item.fields) t.0 parts.0), answers_last i c old ∙ parts.1))
+        (λ (e : (i ≡ n) × (c ≡ x)). inr (e.0, subst (IsOpenAt more j) e.0 (c, at, h)))
+        (at_cases items x i c at),
+    λ h. ⊎_elim
+        (λ (old : IsOpenAt items j i × (answers_at more i n ≡ false)).
+        let (c, at, is) = old.0 in
+        let t = both (is_against j c.item.fields) (is_answered items c.item.fields) is in (
+          c,
+          still_at items x i c at,
+          open_so (is_against j c.item.fields) (is_answered more c.item.fields) t.0
+              (answered_more c.item.fields ∙ nor (is_answered items c.item.fields) (told_answers c.item.fields x) t.1 (sym (answers_last i c at) ∙ old.1)),
+        ))
+        (λ (new : (i ≡ n) × IsOpenAt more j n). subst (IsOpenAt more j) (sym new.0) new.1)
+        h,
+  )
+
+  -- ---- the table
+
+  -- After the item came, the table has just what more items say of its node.
+  pub table_more : (t u : Table) → IsTable items t → ItemStep more n (positions x.item.fields) t u → IsTold more u → AscendBySpelling more u.unanswered.items → IsTable more u
+  table_more t u before step told asked = record {
+    told = told;
+    asked = asked;
+    says = λ a. (
+      λ has. ⊎_elim
+          (λ old.
+          let is = (before.says a).0 ((says_grown items x t before.told a).0 old) in
+          ((said_or a).1 (inl is.0), is.1 ∙ sym step.node))
+          (λ (new : (p : ℕ) × (p < positions x.item.fields) × (position_of more n p ≡ Some a) × (a.node ≡ t.node)). ((said_or a).1 (inr (new.0, new.1, new.2)), new.3 ∙ sym step.node))
+          ((step.says a).0 has),
+      λ h. (step.says a).1 (⊎_elim
+          (λ old. inl ((says_grown items x t before.told a).1 ((before.says a).1 (old, h.1 ∙ step.node))))
+          (λ (new : (p : ℕ) × (p < positions x.item.fields) × (position_of more n p ≡ Some a)). inr (new.0, new.1, new.2, h.1 ∙ step.node))
+          ((said_or a).0 h.0)),
+    );
+    stands = λ i. subst (λ j. Stands u.spans.items i ↔ IsSegmentAt more j i) (sym step.node) (
+      λ h. (segment_or t.node i).1 (⊎_elim (λ old. inl ((before.stands i).0 old)) (λ new. inr new) ((step.stands i).0 h)),
+      λ h. (step.stands i).1 (⊎_elim (λ old. inl ((before.stands i).1 old)) (λ new. inr new) ((segment_or t.node i).0 h)),
+    );
+    unanswered = λ i. subst (λ j. Contains u.unanswered.items i ↔ IsOpenAt more j i) (sym step.node) (
+      λ h. (open_or t.node i).1 (⊎_elim
+          (λ (old : Contains t.unanswered.items i × (answers_at more i n ≡ false)). inl ((before.unanswered i).0 old.0, old.1))
+          (λ new. inr new) ((step.unanswered i).0 h)),
+      λ h. (step.unanswered i).1 (⊎_elim
+          (λ (old : IsOpenAt items t.node i × (answers_at more i n ≡ false)). inl ((before.unanswered i).1 old.0, old.1))
+          (λ new. inr new) ((open_or t.node i).0 h)),
+    );
+  }
+
+-- A table with more room has what it had.
+pub table_roomier : (items : List Checked) (t u : Table) → IsRoomier t u → IsTable items t → IsTable items u
+table_roomier items t u same before = record {
+  told = record {
+    held = before.told.held;
+    rows = subst (λ (l : List Row). AreRowsOf items l before.told.held) (sym same.rows) before.told.rows;
+    ascending = before.told.ascending;
+    own = λ a has. before.told.own a has ∙ sym same.node;
+    by_low = subst DoNotFall (sym same.spans) before.told.by_low;
+    spans = subst (λ (l : List Span). AreSpans items u.node l) (sym same.spans) (subst (λ j. AreSpans items j t.spans.items) (sym same.node) before.told.spans);
+    told = subst (λ (l : List Span). IsUpToDate items before.told.held l u.exposure) (sym same.spans) (subst (IsUpToDate items before.told.held t.spans.items) (sym same.exposure) before.told.told);
+  };
+  says = λ a. subst (λ j. Says items u.rows.items a ↔ (IsSaid items a × (a.node ≡ j))) (sym same.node) (subst (λ (l : List Row). Says items l a ↔ (IsSaid items a × (a.node ≡ t.node))) (sym same.rows) (before.says a));
+  stands = λ i. subst (λ j. Stands u.spans.items i ↔ IsSegmentAt items j i) (sym same.node) (subst (λ (l : List Span). Stands l i ↔ IsSegmentAt items t.node i) (sym same.spans) (before.stands i));
+  unanswered = λ i. subst (λ j. Contains u.unanswered.items i ↔ IsOpenAt items j i) (sym same.node) (subst (λ (l : List ℕ). Contains l i ↔ IsOpenAt items t.node i) (sym same.unanswered) (before.unanswered i));
+  asked = subst (AscendBySpelling items) (sym same.unanswered) before.asked;
+}
+
+pub body_room_of : (items : List Checked) (n k : ℕ) (x : Checked) → slice_get items n ≡ Some x → (old mid : List Table) → EachBecomes (StatementsStep items n k) old mid → AllTables (HasRoomFor x) old
+    → AllTables (λ (t : Table). subject_by (slice_get items n) ≡ Some t.node → HasBodyRoom t) mid
+body_room_of items n k x here old mid each all i u at own =
+    let (t, in_old, step) = each i u at in
+    let enough = (all i t in_old).body (sym (ap subject_by here) ∙ own ∙ ap (λ j. Some j) step.node) in
+    record {
+      spans = subst (λ v. vec_len v < vec_capacity v) (sym step.spans) enough.spans;
+      unanswered = subst (λ v. vec_len v < vec_capacity v) (sym step.unanswered) enough.unanswered;
+    }

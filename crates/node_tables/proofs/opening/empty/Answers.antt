@@ -1,0 +1,6 @@
+use Rattle.std.proofs.Common.{refl}
+use Rattle.node_tables.proofs.Opened.{empty_table}
+use Rattle.node_tables.proofs.opening.empty.Goals as goal
+
+pub returns-clause-table : goal.returns-clause-table
+returns-clause-table c = empty_table _ c.new.ensures c.new-2.ensures.items c.new-3.ensures.items refl

@@ -1,0 +1,21 @@
+use Rattle.node_tables.specs.Rooms.{IsRoomier, KeepsPromises}
+use Rattle.node_tables.specs.within.Promising.{AreReleased}
+use Rattle.node_tables.proofs.Reserved.{each_both, each_then, kept_released, roomier_then}
+use Rattle.node_tables.proofs.Stepping.{ascend_still}
+use Rattle.node_tables.proofs.reserving.promise_or_release.Goals as goal
+
+pub release_first-requires : goal.release_first-requires
+release_first-requires g c = ascend_still IsRoomier c.args.tables.now c.promise_at.new.tables (λ t u step. step.node) c.promise_at.ensures.same c.requires
+
+pub returns-clause-same : goal.returns-clause-same
+returns-clause-same g c =
+    let x = c.args.kept.now in
+    let k = c.args.position in
+    each_then IsRoomier (AreReleased x k) IsRoomier (λ t u v a b. roomier_then t u v a b.roomier) c.args.tables.now c.promise_at.new.tables c.release_first.new.tables c.promise_at.ensures.same c.release_first.ensures
+
+pub returns-clause-refused : goal.returns-clause-refused
+returns-clause-refused g c =
+    let x = c.args.kept.now in
+    let k = c.args.position in
+    each_then (λ t u. IsRoomier t u × KeepsPromises t u) (AreReleased x k) (AreReleased x k) (λ t u v a b. kept_released x k t u v a.0 a.1 b) c.args.tables.now c.promise_at.new.tables c.release_first.new.tables
+    (each_both IsRoomier KeepsPromises c.args.tables.now c.promise_at.new.tables c.promise_at.ensures.same c.in-Err.ensures.refused) c.release_first.ensures

@@ -1,0 +1,56 @@
+-- How a store with an index is kept.
+use Rattle.std.specs.List.{Contains}
+use Rattle.std.specs.Prelude.{◌≡◌, ℕ, true, List, Some, None, ◌≢◌, ◌↔◌, [], ◌∷◌, ◌++◌}
+use Rattle.authenticators.specs.Directory.{Listing, is_listed}
+use Rattle.authenticators.specs.declared.authenticator.Authenticator.{Authenticator}
+use Rattle.replay_verifier.specs.Meaning.{Meaning}
+use Rattle.evidence_item.specs.Checking.{Checked}
+use Rattle.evidence_set.specs.declared.indication.Indication.TheVariants.{Trusted, Suspected, Exposed}
+use Rattle.evidence_set.specs.declared.indication.Indication.{Indication}
+use Rattle.kept_evidence.specs.Kept.{Keeps, IsWhole}
+use Rattle.node_tables.specs.Places.{AscendBySpelling, IsOpenAt, IsOrder}
+use Rattle.node_tables.specs.Rooms.{HasRoomFor}
+use Rattle.node_tables.specs.Steps.{AllTables, AscendByNode, position_of}
+use Rattle.node_tables.specs.Tables.{IsSegmentAt, Stands, Says, IsTold}
+use Rattle.node_tables.specs.declared.exposure.Exposure.{Exposure}
+use Rattle.node_tables.specs.declared.table.Table.{Table}
+
+-- The statement stands in some item.
+abbrev pub IsSaid : List Checked → Authenticator → Type 0
+IsSaid items a = (n k : ℕ) × (position_of items n k ≡ Some a)
+
+-- The table of a node has just what the items say of it: their statements of it, its segments, and, in the order of their spellings,
+-- the challenges against it that nothing answers; and it keeps what exposes the node, if something does.
+pub record IsTable (items : List Checked) (t : Table) : Type 0 where
+  pub told : IsTold items t
+  pub says : (a : Authenticator) → Says items t.rows.items a ↔ (IsSaid items a × (a.node ≡ t.node))
+  pub stands : (i : ℕ) → Stands t.spans.items i ↔ IsSegmentAt items t.node i
+  pub unanswered : (i : ℕ) → Contains t.unanswered.items i ↔ IsOpenAt items t.node i
+  pub asked : AscendBySpelling items t.unanswered.items
+
+-- Some table is of node j.
+abbrev pub HasNode : List Table → ℕ → Type 0
+HasNode tables j = (t : Table) × Contains tables t × (t.node ≡ j)
+
+-- The items are checked, their order is that of their spellings, and each node that is listed has one table.
+pub record IsIndexed {S : Type 0} (ds : Listing) (program : Meaning S) (items : List Checked) (order : List ℕ) (tables : List Table) : Type 0 where
+  pub ordered : IsOrder items order
+  pub whole : (c : Checked) → Contains items c → IsWhole ds program c
+  pub ascending : AscendByNode tables
+  pub listed : (j : ℕ) → is_listed ds j ≡ true → HasNode tables j
+  pub each : AllTables (IsTable items) tables
+
+-- The tables are those of all items but the last, whose spelling none of the others has, and have room for it.
+pub record AreOfOthers (items : List Checked) (tables : List Table) : Type 0 where
+  pub others : List Checked
+  pub last : Checked
+  pub split : items ≡ others ++ last ∷ []
+  pub absent : Keeps others last.item → ⊥
+  pub each : AllTables (IsTable others) tables
+  pub room : AllTables (HasRoomFor last) tables
+
+-- What the table of a node tells.
+abbrev pub Tells : Table → Indication → Type 0
+Tells t Exposed = (e : Exposure) × (t.exposure ≡ Some e)
+Tells t Suspected = (t.exposure ≡ None) × (t.unanswered.items ≢ [])
+Tells t Trusted = (t.exposure ≡ None) × (t.unanswered.items ≡ [])

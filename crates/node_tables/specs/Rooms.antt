@@ -1,0 +1,79 @@
+-- Room that is made before anything changes, and what was promised.
+use Rattle.std.specs.Prelude.{◌≡◌, ℕ, List, Some, ◌+◌, ◌≤◌, ◌-◌, [], ◌∷◌}
+use Rattle.evidence_item.specs.Checking.{Checked}
+use Rattle.kept_items.specs.Keeping.{subject}
+use Rattle.kept_items.specs.Positions.{stated, positions}
+use Rattle.node_tables.specs.Places.{HasBodyRoom, bodies, open_room, span_room}
+use Rattle.node_tables.specs.Steps.{room, wanted}
+use Rattle.node_tables.specs.declared.table.Table.{Table}
+
+-- The table has what it had, and no less room.
+pub record IsRoomier (t u : Table) : Type 0 where
+  pub node : u.node ≡ t.node
+  pub rows : u.rows.items ≡ t.rows.items
+  pub spans : u.spans.items ≡ t.spans.items
+  pub unanswered : u.unanswered.items ≡ t.unanswered.items
+  pub exposure : u.exposure ≡ t.exposure
+  pub room : room t ≤ room u
+  pub span_room : span_room t ≤ span_room u
+  pub open_room : open_room t ≤ open_room u
+
+-- As much was promised to the table as before.
+pub record KeepsPromises (t u : Table) : Type 0 where
+  pub promised : u.promised ≡ t.promised
+  pub bodies : u.bodies ≡ t.bodies
+
+-- So many statements and bodies of its node were promised to the table, beside all that were promised before.
+pub record AreMany (w b : ℕ) (t u : Table) : Type 0 where
+  pub roomier : IsRoomier t u
+  pub statements : u.promised ≡ t.promised + w
+  pub rows : 1 ≤ w → t.promised + w ≤ room u
+  pub bodies : u.bodies ≡ t.bodies + b
+  pub spans : 1 ≤ b → t.bodies + b ≤ span_room u
+  pub unanswered : 1 ≤ b → t.bodies + b ≤ open_room u
+
+-- What an item needs, and what the items of a list need, in the table of node j.
+abbrev pub rows_of : Checked → ℕ → ℕ
+rows_of x j = wanted (stated x) (positions x.item.fields) j
+
+abbrev pub bodies_of : Checked → ℕ → ℕ
+bodies_of x j = bodies (subject x.item.fields) j
+
+abbrev pub sum_of : (Checked → ℕ → ℕ) → List Checked → ℕ → ℕ
+sum_of f [] j = 0
+sum_of f (x ∷ xs) j = f x j + sum_of f xs j
+
+-- The items of the list were promised.
+abbrev pub AreReady : List Checked → Table → Table → Type 0
+AreReady xs t u = AreMany (sum_of rows_of xs t.node) (sum_of bodies_of xs t.node) t u
+
+-- The table has room for all items of the list.
+pub record HasRoomForAll (xs : List Checked) (u : Table) : Type 0 where
+  pub rows : sum_of rows_of xs u.node ≤ room u
+  pub spans : sum_of bodies_of xs u.node ≤ span_room u
+  pub unanswered : sum_of bodies_of xs u.node ≤ open_room u
+
+-- What the item takes of the rooms of any table, at most; what was promised of it is taken back.
+pub record ItemRooms (x : Checked) (t u : Table) : Type 0 where
+  pub node : u.node ≡ t.node
+  pub rows : room t ≤ room u + rows_of x t.node
+  pub spans : span_room t ≤ span_room u + bodies_of x t.node
+  pub unanswered : open_room t ≤ open_room u + bodies_of x t.node
+  pub promised : u.promised ≡ t.promised - rows_of x t.node
+  pub bodies : u.bodies ≡ t.bodies - bodies_of x t.node
+
+-- The table has room for the whole item.
+pub record HasRoomFor (x : Checked) (u : Table) : Type 0 where
+  pub statements : wanted (stated x) (positions x.item.fields) u.node ≤ room u
+  pub body : subject x.item.fields ≡ Some u.node → HasBodyRoom u
+
+-- There is room for the whole item.
+pub record IsReady (x : Checked) (t u : Table) : Type 0 where
+  pub many : AreMany (rows_of x t.node) (bodies_of x t.node) t u
+  pub enough : HasRoomFor x u
+
+-- What was promised of the whole item is taken back; the table has what it had, and no less room.
+pub record IsReleased (x : Checked) (t u : Table) : Type 0 where
+  pub roomier : IsRoomier t u
+  pub promised : u.promised ≡ t.promised - rows_of x t.node
+  pub bodies : u.bodies ≡ t.bodies - bodies_of x t.node

@@ -1,0 +1,4 @@
+-- The words by which private code keeps its promises. A reader of the public contracts needs none of them.
+pub mod Bringing
+pub mod Placing
+pub mod Promising

@@ -1,0 +1,142 @@
+-- What a statement or a segment more brings against its node, and what happens to a table with it.
+use Rattle.std.specs.List.{Contains}
+use Rattle.std.specs.Prelude.{◌≡◌, ℕ, Bool, true, false, List, Option, Some, None, Result, Ok, Err, ◌≢◌, ◌+◌, ◌↔◌, ◌⊎◌, ◌&&◌, ◌==◌, ◌≤◌, ◌<◌, ◌-◌, not, length, slice_index_or, nat_le, nat_lt, if◌then◌else◌}
+use Rattle.std.specs.Str.{bytes_eq}
+use Rattle.std.specs.declared.cmp.Ordering.TheVariants.{Less, Greater}
+use Rattle.std.specs.declared.cmp.Ordering.{Ordering}
+use Rattle.authenticators.specs.StatementSet.{by_fields}
+use Rattle.authenticators.specs.declared.authenticator.Authenticator.{Authenticator}
+use Rattle.item_forms.specs.declared.forms.Fields.{Fields}
+use Rattle.evidence_item.specs.Checking.{Checked}
+use Rattle.kept_evidence.specs.Telling.{denies}
+use Rattle.node_tables.specs.Rows.{stated_at}
+use Rattle.node_tables.specs.Steps.{room, wanted, position_of, is_of}
+use Rattle.node_tables.specs.Tables.{Stands, Says, denies_at, deviates_at}
+use Rattle.node_tables.specs.declared.exposure.Exposure.TheVariants as exposure
+use Rattle.node_tables.specs.declared.exposure.Exposure.{Exposure}
+use Rattle.node_tables.specs.declared.row.Row.{Row}
+use Rattle.node_tables.specs.declared.span.Span.{Span}
+use Rattle.node_tables.specs.declared.table.Table.{Table}
+
+-- How a row's statement compares with another; a row that names none is above all.
+abbrev pub order_by : Option Authenticator → Authenticator → Ordering
+order_by None a = Greater
+order_by (Some b) a = by_fields b a
+
+abbrev pub order_at : List Checked → Row → Authenticator → Ordering
+order_at items r a = order_by (stated_at items r) a
+
+-- What passes the test stands before the edge.
+abbrev pub side : Bool → Ordering
+side true = Less
+side false = Greater
+
+-- The edge that such a search found.
+abbrev pub edge_of : Result ℕ ℕ → ℕ
+edge_of (Ok i) = i
+edge_of (Err i) = i
+
+-- The row's statement has the number and another hash.
+abbrev pub two_by : Option Authenticator → Authenticator → Bool
+two_by None a = false
+two_by (Some b) a = (b.seq == a.seq) && not (bytes_eq b.hash a.hash)
+
+abbrev pub two_at : List Checked → Row → Authenticator → Bool
+two_at items r a = two_by (stated_at items r) a
+
+-- No row beside the place has the number of the statement and another hash.
+pub record NoneBeside (items : List Checked) (rows : List Row) (place : ℕ) (a : Authenticator) : Type 0 where
+  pub before : (d : Row) → 1 ≤ place → two_at items (slice_index_or rows (place - 1) d) a ≡ false
+  pub behind : (d : Row) → place < length rows → two_at items (slice_index_or rows place d) a ≡ false
+
+-- It brings nothing against the node.
+pub record BringsNothing (items : List Checked) (rows : List Row) (spans : List Span) (place : ℕ) (a : Authenticator) : Type 0 where
+  pub beside : NoneBeside items rows place a
+  pub undenied : (p : Span) → Contains spans p → denies_at items a p.item ≡ false
+
+-- It exposes the node, with a row or a segment that is kept.
+abbrev pub IsBrought : List Checked → List Row → List Span → Row → Authenticator → Exposure → Type 0
+IsBrought items rows spans row a (exposure.TwoHashes r q) = (r ≡ row) × Contains rows q × (two_at items q a ≡ true)
+IsBrought items rows spans row a (exposure.Denied r i) = (r ≡ row) × Stands spans i × (denies_at items a i ≡ true)
+IsBrought items rows spans row a (exposure.Deviates i) = ⊥
+
+-- What exposes the node after the statement, by what did before.
+abbrev pub IsNext : List Checked → List Row → List Span → ℕ → Row → Authenticator → Option Exposure → Option Exposure → Type 0
+IsNext items rows spans place row a (Some e) o = o ≡ Some e
+IsNext items rows spans place row a None None = BringsNothing items rows spans place a
+IsNext items rows spans place row a None (Some e) = IsBrought items rows spans row a e
+
+-- A statement comes.
+pub record StatementStep (items : List Checked) (row : Row) (t u : Table) : Type 0 where
+  pub node : u.node ≡ t.node
+  pub says : (a : Authenticator) → Says items u.rows.items a ↔ (Says items t.rows.items a ⊎ ((stated_at items row ≡ Some a) × (a.node ≡ t.node)))
+  pub spans : u.spans ≡ t.spans
+  pub unanswered : u.unanswered ≡ t.unanswered
+  pub room : t.rows.room ≤ u.rows.room + 1
+  pub other_room : ((a : Authenticator) → stated_at items row ≡ Some a → a.node ≢ t.node) → t.rows.room ≤ u.rows.room
+
+-- The statement of the row contradicts the item.
+abbrev pub denied_by_row : Option Authenticator → Fields → Bool
+denied_by_row None x = false
+denied_by_row (Some a) x = denies a x
+
+-- The statement of the row has a number below this one; one that is at most this one.
+abbrev pub below_by : Option Authenticator → ℕ → Bool
+below_by None n = false
+below_by (Some a) n = nat_lt a.seq n
+
+abbrev pub up_to_by : Option Authenticator → ℕ → Bool
+up_to_by None n = false
+up_to_by (Some a) n = nat_le a.seq n
+
+-- Where among the rows those stand whose statements have the numbers from low up to last.
+pub record AreBetween (items : List Checked) (rows : List Row) (low last start end : ℕ) : Type 0 where
+  pub inside : end ≤ length rows
+  pub around : (k : ℕ) (r : Row) (a : Authenticator) → k < length rows → stated_at items (slice_index_or rows k r) ≡ Some a → low ≤ a.seq → a.seq ≤ last → (start ≤ k) × (k < end)
+
+-- The segment brings nothing against the node.
+pub record SegmentBringsNothing (items : List Checked) (rows : List Row) (place : ℕ) : Type 0 where
+  pub undenied : (a : Authenticator) → Says items rows a → denies_at items a place ≡ false
+  pub conforming : deviates_at items place ≡ false
+
+-- It exposes the node, with a row that is kept or by itself.
+abbrev pub IsBroughtBySegment : List Checked → List Row → ℕ → Exposure → Type 0
+IsBroughtBySegment items rows place (exposure.TwoHashes r q) = ⊥
+IsBroughtBySegment items rows place (exposure.Denied r i) = (i ≡ place) × Contains rows r × ((a : Authenticator) × (stated_at items r ≡ Some a) × (denies_at items a place ≡ true))
+IsBroughtBySegment items rows place (exposure.Deviates i) = (i ≡ place) × (deviates_at items place ≡ true)
+
+abbrev pub IsNextBySegment : List Checked → List Row → ℕ → Option Exposure → Option Exposure → Type 0
+IsNextBySegment items rows place (Some e) o = o ≡ Some e
+IsNextBySegment items rows place None None = SegmentBringsNothing items rows place
+IsNextBySegment items rows place None (Some e) = IsBroughtBySegment items rows place e
+
+-- The segment at a place comes.
+pub record SegmentStep (items : List Checked) (place : ℕ) (t u : Table) : Type 0 where
+  pub node : u.node ≡ t.node
+  pub rows : u.rows ≡ t.rows
+  pub stands : (i : ℕ) → Stands u.spans.items i ↔ (Stands t.spans.items i ⊎ (i ≡ place))
+  pub unanswered : u.unanswered ≡ t.unanswered
+
+-- The first statements of the item at a place come.
+pub record StatementsStep (items : List Checked) (n k : ℕ) (t u : Table) : Type 0 where
+  pub node : u.node ≡ t.node
+  pub says : (a : Authenticator) → Says items u.rows.items a ↔ (Says items t.rows.items a ⊎ ((p : ℕ) × (p < k) × (position_of items n p ≡ Some a) × (a.node ≡ t.node)))
+  pub spans : u.spans ≡ t.spans
+  pub unanswered : u.unanswered ≡ t.unanswered
+  pub room : room t ≤ room u + wanted (position_of items n) k t.node
+
+-- Whether the statement is of the node, as a number.
+abbrev pub one_of : ℕ → Option Authenticator → ℕ
+one_of j o = if is_of j o then 1 else 0
+
+-- The promise of the statement is taken back, in the table of its node.
+pub record OneTakenBack (o : Option Authenticator) (t u : Table) : Type 0 where
+  pub node : u.node ≡ t.node
+  pub promised : u.promised ≡ t.promised - one_of t.node o
+  pub bodies : u.bodies ≡ t.bodies
+
+-- The promises of the first statements of the item at a place are taken back.
+pub record TakenBack (items : List Checked) (n k : ℕ) (t u : Table) : Type 0 where
+  pub node : u.node ≡ t.node
+  pub promised : u.promised ≡ t.promised - wanted (position_of items n) k t.node
+  pub bodies : u.bodies ≡ t.bodies

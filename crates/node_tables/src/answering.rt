@@ -1,0 +1,104 @@
+//! Which challenges are answered.
+
+ghost use Rattle.std.specs.Prelude.{◌≡◌, ◌↔◌, ◌≤◌, IsTrue, Some, false, not, slice_get, true, vec_capacity, vec_len};
+ghost use Rattle.std.specs.List.{filter, list_any};
+ghost use Rattle.evidence_set.specs.Challenges.{is_against};
+ghost use Rattle.kept_evidence.specs.Telling.{is_answered};
+ghost use Rattle.node_tables.specs.declared.span.Span.{Span as TheSpan};
+ghost use Rattle.node_tables.specs.Places.{IsAcknowledged, IsOrder};
+ghost use Rattle.node_tables.specs.within.Placing.{AreOthers, HasAcknowledgement, answers_at};
+
+use crate::order::GroupProbe;
+use crate::span::Span;
+use authenticators::NodeId;
+use evidence_item::{Form, Message};
+use item_forms::Group;
+use kept_items::KeptItem;
+use tiered_vec::TieredVec;
+
+/// Whether the item at the one place answers that at the other.
+fn answers_at<P>(items: &[KeptItem<P>], challenge: u32, answer: u32) -> bool
+    ensures { result ≡ answers_at items.now challenge answer }
+{
+    let Some(challenge) = items.get(challenge as usize) else {
+        return false;
+    };
+    match items.get(answer as usize) {
+        None => false,
+        Some(answer) => answer.answers(challenge),
+    }
+}
+
+/// Takes away the challenges that the item at a place answers.
+pub(crate) fn close<P>(items: &[KeptItem<P>], unanswered: &mut Vec<u32>, answer: u32)
+    ensures items { unanswered.new.items ≡ filter (λ i. not (answers_at items.now i answer)) unanswered.old.items }
+    ensures len { vec_len unanswered.new ≤ vec_len unanswered.old }
+    ensures capacity { vec_capacity unanswered.new ≡ vec_capacity unanswered.old }
+{
+    unanswered.retain(|challenge| !answers_at(items, *challenge, answer));
+}
+
+/// Whether one of the segments answers the challenge at a place.
+fn one_answers<P>(items: &[KeptItem<P>], spans: &[Span], challenge: u32) -> bool
+    ensures { result ≡ list_any (λ (p : TheSpan). answers_at items.now challenge p.item) spans.now }
+{
+    for span in spans {
+        if answers_at(items, challenge, span.item) {
+            return true;
+        }
+    }
+    false
+}
+
+/// Whether an item acknowledges a message of this one's sender, receiver and number. It is looked up by binary search.
+fn is_acknowledged<P>(items: &[KeptItem<P>], order: &TieredVec<u32>, message: &Message) -> bool
+    requires { IsOrder items.now order.now.items }
+    ensures { IsTrue result ↔ IsAcknowledged items.now message.now }
+{
+    let group = Group::Acknowledgements(message);
+    let probe = GroupProbe {
+        items,
+        group: &group,
+    };
+    order.search(&probe).is_ok()
+}
+
+/// Whether the item is a send challenge of which a message is acknowledged.
+fn has_acknowledgement<P>(
+    items: &[KeptItem<P>],
+    order: &TieredVec<u32>,
+    challenge: &KeptItem<P>,
+) -> bool
+    requires { IsOrder items.now order.now.items }
+    ensures { IsTrue result ↔ HasAcknowledgement items.now challenge.now.item.fields }
+{
+    let Some(item) = challenge.as_item() else {
+        return false;
+    };
+    match item.form() {
+        Form::Send(message) => is_acknowledged(items, order, message),
+        Form::Auth(_) | Form::Segment(_) | Form::Audit(_) | Form::Ack(_) => false,
+    }
+}
+
+/// Whether some item answers the challenge against the node at the place. It looks at the node's segments, which are those that are
+/// given.
+pub(crate) fn is_answered<P>(
+    items: &[KeptItem<P>],
+    order: &TieredVec<u32>,
+    node: NodeId,
+    spans: &[Span],
+    challenge: &KeptItem<P>,
+    place: u32,
+) -> bool
+    requires order { IsOrder items.now order.now.items }
+    requires here { slice_get items.now place ≡ Some challenge.now }
+    requires against { is_against node challenge.now.item.fields ≡ true }
+    requires others { AreOthers items.now node place spans.now }
+    ensures { result ≡ is_answered items.now challenge.now.item.fields }
+{
+    if one_answers(items, spans, place) {
+        return true;
+    }
+    has_acknowledgement(items, order, challenge)
+}

@@ -1,0 +1,222 @@
+//! Putting what an item is, beside its statements, into the table of its node.
+
+ghost use Rattle.std.specs.Prelude.{◌≡◌, ◌↔◌, ◌⊎◌, ◌+◌, ◌-◌, ◌<◌, ℕ, Contains, Some, false, length, slice_get, true, vec_capacity, vec_len};
+ghost use Rattle.std.specs.List.Sorted.{IsBinarySearchResult, IsSearchInRange};
+ghost use Rattle.evidence_set.specs.Challenges.{is_against};
+ghost use Rattle.evidence_item.specs.Checking.{is_segment};
+ghost use Rattle.kept_items.specs.Keeping.{subject};
+ghost use Rattle.node_tables.specs.Places.{AscendBySpelling, HasBodyRoom, IsOrder, item_order_by};
+ghost use Rattle.node_tables.specs.Rooms.{KeepsPromises};
+ghost use Rattle.node_tables.specs.Steps.{AllTables, AscendByNode, EachBecomes};
+ghost use Rattle.node_tables.specs.Tables.{IsSegmentAt, IsTold};
+ghost use Rattle.node_tables.specs.within.Placing.{AreAgainst, AreOthers, BodyRooms, BodyRoomsOf, BodyStep, IsAckAt, IsNewAmong, subject_by};
+
+use crate::answering::{close, is_answered};
+use crate::order::compare_kept_at;
+use crate::segments::put_segment;
+use crate::table::Table;
+use crate::tables::place_of;
+use evidence_item::{Form, Item};
+use kept_items::KeptItem;
+use tiered_vec::TieredVec;
+
+/// Puts a segment: it may expose the node, and answers challenges.
+fn put_whole_segment<P>(items: &[KeptItem<P>], table: &mut Table, place: u32)
+    requires told { IsTold items.now table.old }
+    requires segment { IsSegmentAt items.now table.old.node place }
+    requires room { vec_len table.old.spans < vec_capacity table.old.spans }
+    requires asked { AscendBySpelling items.now table.old.unanswered.items }
+    ensures told { IsTold items.now table.new }
+    ensures asked { AscendBySpelling items.now table.new.unanswered.items }
+    ensures step { BodyStep items.now place table.old table.new }
+    ensures rooms { BodyRooms table.old table.new }
+    ensures counts { KeepsPromises table.old table.new }
+{
+    put_segment(items, table, place);
+    close(items, &mut table.unanswered, place);
+}
+
+/// Puts an acknowledgement: it answers challenges.
+fn put_acknowledgement<P>(items: &[KeptItem<P>], table: &mut Table, place: u32)
+    requires told { IsTold items.now table.old }
+    requires here { IsAckAt items.now place }
+    requires asked { AscendBySpelling items.now table.old.unanswered.items }
+    ensures told { IsTold items.now table.new }
+    ensures asked { AscendBySpelling items.now table.new.unanswered.items }
+    ensures step { BodyStep items.now place table.old table.new }
+    ensures rooms { BodyRooms table.old table.new }
+    ensures counts { KeepsPromises table.old table.new }
+{
+    close(items, &mut table.unanswered, place);
+}
+
+/// Where the item at a place, which is a new one, would stand among places that ascend by spelling.
+fn gap_among<P>(items: &[KeptItem<P>], places: &[u32], kept: &KeptItem<P>) -> Result<usize, usize>
+    ensures bound { IsSearchInRange result (length places.now) }
+    ensures position { IsBinarySearchResult (λ i. item_order_by (slice_get items.now i) kept.now.item) places.now result }
+{
+    places.binary_search_by(|place| compare_kept_at(items, *place, kept))
+}
+
+/// Puts the place of a new item among others, by its spelling. There is room for it.
+fn put_by_spelling<P>(items: &[KeptItem<P>], places: &mut Vec<u32>, place: u32, kept: &KeptItem<P>)
+    requires ascending { AscendBySpelling items.now places.old.items }
+    requires here { slice_get items.now place ≡ Some kept.now }
+    requires new { IsNewAmong items.now place places.old.items }
+    requires room { vec_len places.old < vec_capacity places.old }
+    ensures ascending { AscendBySpelling items.now places.new.items }
+    ensures members { (i : ℕ) → Contains places.new.items i ↔ (Contains places.old.items i ⊎ (i ≡ place)) }
+    ensures len { vec_len places.new ≡ vec_len places.old + 1 }
+    ensures capacity { vec_capacity places.new ≡ vec_capacity places.old }
+{
+    let Err(gap) = gap_among(items, places, kept) else {
+        return;
+    };
+    let _ = places.insert(gap, place);
+}
+
+/// Puts a challenge, which is open unless something answers it.
+fn put_challenge<P>(
+    items: &[KeptItem<P>],
+    order: &TieredVec<u32>,
+    table: &mut Table,
+    place: u32,
+    kept: &KeptItem<P>,
+)
+    requires order { IsOrder items.now order.now.items }
+    requires told { IsTold items.now table.old }
+    requires here { slice_get items.now place ≡ Some kept.now }
+    requires against { is_against table.old.node kept.now.item.fields ≡ true }
+    requires others { AreOthers items.now table.old.node place table.old.spans.items }
+    requires room { vec_len table.old.unanswered < vec_capacity table.old.unanswered }
+    requires asked { AscendBySpelling items.now table.old.unanswered.items }
+    requires new { IsNewAmong items.now place table.old.unanswered.items }
+    ensures told { IsTold items.now table.new }
+    ensures asked { AscendBySpelling items.now table.new.unanswered.items }
+    ensures step { BodyStep items.now place table.old table.new }
+    ensures rooms { BodyRooms table.old table.new }
+    ensures counts { KeepsPromises table.old table.new }
+{
+    if is_answered(items, order, table.node, &table.spans, kept, place) {
+        return;
+    }
+    put_by_spelling(items, &mut table.unanswered, place, kept);
+}
+
+/// Puts what an item that is no segment is, beside its statements, into the table of its node.
+fn put_other<P>(
+    items: &[KeptItem<P>],
+    order: &TieredVec<u32>,
+    table: &mut Table,
+    place: u32,
+    kept: &KeptItem<P>,
+    item: &Item,
+)
+    requires order { IsOrder items.now order.now.items }
+    requires told { IsTold items.now table.old }
+    requires here { slice_get items.now place ≡ Some kept.now }
+    requires item { item.now ≡ kept.now.item }
+    requires other { is_segment item.now.fields ≡ false }
+    requires subject { subject item.now.fields ≡ Some table.old.node }
+    requires others { AreOthers items.now table.old.node place table.old.spans.items }
+    requires room { vec_len table.old.unanswered < vec_capacity table.old.unanswered }
+    requires asked { AscendBySpelling items.now table.old.unanswered.items }
+    requires new { IsNewAmong items.now place table.old.unanswered.items }
+    ensures told { IsTold items.now table.new }
+    ensures asked { AscendBySpelling items.now table.new.unanswered.items }
+    ensures step { BodyStep items.now place table.old table.new }
+    ensures rooms { BodyRooms table.old table.new }
+    ensures counts { KeepsPromises table.old table.new }
+{
+    match item.form() {
+        Form::Auth(_) | Form::Segment(_) => {}
+        Form::Ack(_) => put_acknowledgement(items, table, place),
+        Form::Audit(_) | Form::Send(_) => put_challenge(items, order, table, place, kept),
+    }
+}
+
+/// Puts what the item at a place is, beside its statements, into the table of its node.
+fn put_form<P>(
+    items: &[KeptItem<P>],
+    order: &TieredVec<u32>,
+    table: &mut Table,
+    place: u32,
+    kept: &KeptItem<P>,
+)
+    requires order { IsOrder items.now order.now.items }
+    requires told { IsTold items.now table.old }
+    requires here { slice_get items.now place ≡ Some kept.now }
+    requires subject { subject kept.now.item.fields ≡ Some table.old.node }
+    requires others { AreOthers items.now table.old.node place table.old.spans.items }
+    requires spans { vec_len table.old.spans < vec_capacity table.old.spans }
+    requires unanswered { vec_len table.old.unanswered < vec_capacity table.old.unanswered }
+    requires asked { AscendBySpelling items.now table.old.unanswered.items }
+    requires new { IsNewAmong items.now place table.old.unanswered.items }
+    ensures told { IsTold items.now table.new }
+    ensures asked { AscendBySpelling items.now table.new.unanswered.items }
+    ensures step { BodyStep items.now place table.old table.new }
+    ensures rooms { BodyRooms table.old table.new }
+    ensures counts { KeepsPromises table.old table.new }
+{
+    match kept.as_item() {
+        None => put_whole_segment(items, table, place),
+        Some(item) => put_other(items, order, table, place, kept, item),
+    }
+}
+
+/// Puts what the item at a place is, beside its statements, into the table of its node, and takes back that it was promised.
+fn put_in<P>(
+    items: &[KeptItem<P>],
+    order: &TieredVec<u32>,
+    table: &mut Table,
+    place: u32,
+    kept: &KeptItem<P>,
+)
+    requires order { IsOrder items.now order.now.items }
+    requires told { IsTold items.now table.old }
+    requires here { slice_get items.now place ≡ Some kept.now }
+    requires subject { subject kept.now.item.fields ≡ Some table.old.node }
+    requires others { AreOthers items.now table.old.node place table.old.spans.items }
+    requires spans { vec_len table.old.spans < vec_capacity table.old.spans }
+    requires unanswered { vec_len table.old.unanswered < vec_capacity table.old.unanswered }
+    requires asked { AscendBySpelling items.now table.old.unanswered.items }
+    requires new { IsNewAmong items.now place table.old.unanswered.items }
+    ensures told { IsTold items.now table.new }
+    ensures asked { AscendBySpelling items.now table.new.unanswered.items }
+    ensures step { BodyStep items.now place table.old table.new }
+    ensures rooms { BodyRooms table.old table.new }
+    ensures counts { (table.new.promised ≡ table.old.promised) × (table.new.bodies ≡ table.old.bodies - 1) }
+{
+    put_form(items, order, table, place, kept);
+    table.bodies = table.bodies.saturating_sub(1);
+}
+
+/// Puts what the item at a place is, beside its statements, into the table of its node, where there is room for it.
+pub(crate) fn put_body<P>(
+    items: &[KeptItem<P>],
+    order: &TieredVec<u32>,
+    tables: &mut [Table],
+    place: u32,
+)
+    requires order { IsOrder items.now order.now.items }
+    requires ascending { AscendByNode tables.old }
+    requires told { AllTables (IsTold items.now) tables.old }
+    requires there { place < length items.now }
+    requires others { AllTables (λ t. AreOthers items.now t.node place t.spans.items) tables.old }
+    requires against { AllTables (λ t. AreAgainst items.now t) tables.old }
+    requires asked { AllTables (λ t. AscendBySpelling items.now t.unanswered.items) tables.old }
+    requires new { AllTables (λ t. IsNewAmong items.now place t.unanswered.items) tables.old }
+    requires room { AllTables (λ t. subject_by (slice_get items.now place) ≡ Some t.node → HasBodyRoom t) tables.old }
+    ensures told { AllTables (IsTold items.now) tables.new }
+    ensures asked { AllTables (λ t. AscendBySpelling items.now t.unanswered.items) tables.new }
+    ensures step { EachBecomes (BodyStep items.now place) tables.old tables.new }
+    ensures rooms { EachBecomes (BodyRoomsOf (subject_by (slice_get items.now place))) tables.old tables.new }
+{
+    let kept = &items[place as usize];
+    let Some(node) = kept.subject() else {
+        return;
+    };
+    if let Some(i) = place_of(tables, node) {
+        put_in(items, order, &mut tables[i], place, kept);
+    }
+}

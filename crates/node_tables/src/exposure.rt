@@ -1,0 +1,14 @@
+//! What exposes a node, by places.
+
+use crate::row::Row;
+
+/// What exposes a node: by where it stands, which stays.
+#[derive(Clone, Copy, Debug)]
+pub enum Exposure {
+    /// Two statements of one number and two hashes.
+    TwoHashes(Row, Row),
+    /// A statement, and the place of a segment that it contradicts.
+    Denied(Row, u32),
+    /// The place of a segment that deviates.
+    Deviates(u32),
+}

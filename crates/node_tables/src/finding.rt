@@ -1,0 +1,144 @@
+//! What a new statement brings against its node.
+
+ghost use Rattle.std.specs.Prelude.{◌≡◌, ◌<◌, ◌≤◌, ◌-◌, IfNone, IfSome, false, length, slice_index_or, true};
+ghost use Rattle.std.specs.List.{Contains};
+ghost use Rattle.kept_items.specs.Positions.{shown};
+ghost use Rattle.node_tables.specs.declared.row.Row.{Row as TheRow};
+ghost use Rattle.node_tables.specs.declared.span.Span.{Span as TheSpan};
+ghost use Rattle.node_tables.specs.Tables.{AreSpans, DoNotFall, denies_at};
+ghost use Rattle.node_tables.specs.within.Bringing.{BringsNothing, IsBrought, NoneBeside, two_at};
+
+use crate::exposure::Exposure;
+use crate::row::{Row, said_at};
+use crate::span::Span;
+use authenticators::NodeId;
+use kept_items::{KeptItem, Said};
+use tiered_vec::TieredVec;
+
+/// Whether the row's statement has the number and another hash.
+fn is_other<P>(items: &[KeptItem<P>], row: Row, said: &Said<'_>) -> bool
+    ensures { result ≡ two_at items.now row (shown said.now) }
+{
+    match said_at(items, row) {
+        None => false,
+        Some(at) => at.seq == said.seq && at.hash != said.hash,
+    }
+}
+
+/// The row at the place, where its statement has the number and another hash.
+fn other_at<P>(
+    items: &[KeptItem<P>],
+    rows: &TieredVec<Row>,
+    place: usize,
+    said: &Said<'_>,
+) -> Option<Row>
+    ensures none { IfNone result ((d : TheRow) → place < length rows.now.items → two_at items.now (slice_index_or rows.now.items place d) (shown said.now) ≡ false) }
+    ensures some { IfSome result (λ r. Contains rows.now.items r × (two_at items.now r (shown said.now) ≡ true)) }
+{
+    match rows.get(place) {
+        None => None,
+        Some(row) => {
+            if is_other(items, *row, said) {
+                return Some(*row);
+            }
+            None
+        }
+    }
+}
+
+/// The row before the place, where its statement has the number and another hash.
+fn other_before<P>(
+    items: &[KeptItem<P>],
+    rows: &TieredVec<Row>,
+    place: usize,
+    said: &Said<'_>,
+) -> Option<Row>
+    requires { place ≤ length rows.now.items }
+    ensures none { IfNone result ((d : TheRow) → 1 ≤ place → two_at items.now (slice_index_or rows.now.items (place - 1) d) (shown said.now) ≡ false) }
+    ensures some { IfSome result (λ r. Contains rows.now.items r × (two_at items.now r (shown said.now) ≡ true)) }
+{
+    if place == 0 {
+        return None;
+    }
+    other_at(items, rows, place - 1, said)
+}
+
+/// The row beside the place whose statement has the number and another hash.
+fn other_beside<P>(
+    items: &[KeptItem<P>],
+    rows: &TieredVec<Row>,
+    place: usize,
+    said: &Said<'_>,
+) -> Option<Row>
+    requires { place ≤ length rows.now.items }
+    ensures none { IfNone result (NoneBeside items.now rows.now.items place (shown said.now)) }
+    ensures some { IfSome result (λ r. Contains rows.now.items r × (two_at items.now r (shown said.now) ≡ true)) }
+{
+    match other_before(items, rows, place, said) {
+        Some(row) => Some(row),
+        None => other_at(items, rows, place, said),
+    }
+}
+
+/// Whether the statement contradicts the item at the place, which is a segment.
+fn is_denied_at<P>(items: &[KeptItem<P>], place: u32, said: &Said<'_>) -> bool
+    ensures { result ≡ denies_at items.now (shown said.now) place }
+{
+    match items.get(place as usize) {
+        None => false,
+        Some(kept) => kept.is_denied(said),
+    }
+}
+
+/// Whether the statement's number is not above those that can contradict the segment, and the statement does.
+fn is_reached<P>(items: &[KeptItem<P>], span: &Span, said: &Said<'_>) -> bool
+    ensures yes { result ≡ true → denies_at items.now (shown said.now) span.now.item ≡ true }
+    ensures no { result ≡ false → (said.now.seq ≤ span.now.last) → denies_at items.now (shown said.now) span.now.item ≡ false }
+{
+    if said.seq > span.last {
+        return false;
+    }
+    is_denied_at(items, span.item, said)
+}
+
+/// The place of a segment that the statement contradicts. It looks at those that a statement of its number can contradict.
+fn denied_by<P>(items: &[KeptItem<P>], spans: &[Span], node: NodeId, said: &Said<'_>) -> Option<u32>
+    requires spans { AreSpans items.now node spans.now }
+    requires by_low { DoNotFall spans.now }
+    ensures none { IfNone result ((p : TheSpan) → Contains spans.now p → denies_at items.now (shown said.now) p.item ≡ false) }
+    ensures some { IfSome result (λ i. (p : TheSpan) × Contains spans.now p × (p.item ≡ i) × (denies_at items.now (shown said.now) i ≡ true)) }
+{
+    for span in spans {
+        if said.seq < span.low {
+            return None;
+        }
+        if is_reached(items, span, said) {
+            return Some(span.item);
+        }
+    }
+    None
+}
+
+/// What exposes the node with a statement more, whose place among the rows is given, where nothing did without it.
+pub(crate) fn brought_by<P>(
+    items: &[KeptItem<P>],
+    rows: &TieredVec<Row>,
+    spans: &[Span],
+    place: usize,
+    row: Row,
+    said: &Said<'_>,
+) -> Option<Exposure>
+    requires spans { AreSpans items.now said.now.node spans.now }
+    requires by_low { DoNotFall spans.now }
+    requires place { place ≤ length rows.now.items }
+    ensures none { IfNone result (BringsNothing items.now rows.now.items spans.now place (shown said.now)) }
+    ensures some { IfSome result (IsBrought items.now rows.now.items spans.now row (shown said.now)) }
+{
+    if let Some(other) = other_beside(items, rows, place, said) {
+        return Some(Exposure::TwoHashes(row, other));
+    }
+    match denied_by(items, spans, said.node, said) {
+        None => None,
+        Some(segment) => Some(Exposure::Denied(row, segment)),
+    }
+}

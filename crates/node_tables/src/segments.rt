@@ -1,0 +1,259 @@
+//! Putting a segment into the table of its node.
+
+ghost use Rattle.std.specs.Prelude.{◌≡◌, ◌↔◌, ◌⊎◌, ◌<◌, ◌≤◌, ◌+◌, IfNone, IfSome, Some, false, length, option_copied, slice_get, slice_index_or, true, vec_capacity, vec_len};
+ghost use Rattle.std.specs.List.{AllWithin, Contains};
+ghost use Rattle.std.specs.List.Sorted.{IsPartitionPoint, IsPartitionedBy};
+ghost use Rattle.authenticators.specs.declared.authenticator.Authenticator.{Authenticator as Statement};
+ghost use Rattle.kept_evidence.specs.Telling.{IsSegmentOf, deviates};
+ghost use Rattle.kept_items.specs.Keeping.{reach as reach_of};
+ghost use Rattle.node_tables.specs.declared.row.Row.{Row as TheRow};
+ghost use Rattle.node_tables.specs.declared.span.Span.{Span as TheSpan};
+ghost use Rattle.node_tables.specs.Places.{span_room};
+ghost use Rattle.node_tables.specs.Rows.{stated_at};
+ghost use Rattle.node_tables.specs.Tables.{DoNotFall, IsSegmentAt, IsTold, denies_at};
+ghost use Rattle.node_tables.specs.within.Bringing.{AreBetween, IsBroughtBySegment, IsNextBySegment, SegmentBringsNothing, SegmentStep, below_by, denied_by_row, side, up_to_by};
+
+use crate::edge::{edge_at, side};
+use crate::exposure::Exposure;
+use crate::row::{Row, said_at};
+use crate::span::Span;
+use crate::table::Table;
+use kept_items::laws::denials_are_within_reach;
+use kept_items::{KeptItem, Reach};
+use replay_verifier::Verdict;
+use std::cmp::Ordering;
+use std::ops::Range;
+use tiered_vec::{Probe, TieredVec};
+
+/// Whether the verdict is that the entries deviate.
+fn deviates(verdict: Option<&Verdict>) -> bool
+    ensures { result ≡ deviates (option_copied verdict.entry) }
+{
+    match verdict {
+        Some(Verdict::Deviates { .. }) => true,
+        Some(Verdict::Conforms) => false,
+        None => false,
+    }
+}
+
+fn is_below<P>(items: &[KeptItem<P>], row: Row, number: u64) -> bool
+    ensures { result ≡ below_by (stated_at items.now row) number }
+{
+    match said_at(items, row) {
+        None => false,
+        Some(said) => said.seq < number,
+    }
+}
+
+fn is_up_to<P>(items: &[KeptItem<P>], row: Row, number: u64) -> bool
+    ensures { result ≡ up_to_by (stated_at items.now row) number }
+{
+    match said_at(items, row) {
+        None => false,
+        Some(said) => said.seq <= number,
+    }
+}
+
+/// The edge of those whose numbers are below this one.
+#[derive_where(Clone, Copy)]
+struct Below<'a, P> {
+    items: &'a [KeptItem<P>],
+    number: u64,
+}
+
+impl<'a, P> Probe<Row> for Below<'a, P> {
+    ghost order = { λ s r. side (below_by (stated_at s.items.now r) s.number) };
+
+    fn compare(&self, row: &Row) -> Ordering {
+        side(is_below(self.items, *row, self.number))
+    }
+}
+
+/// The edge of those whose numbers are at most this one.
+#[derive_where(Clone, Copy)]
+struct UpTo<'a, P> {
+    items: &'a [KeptItem<P>],
+    number: u64,
+}
+
+impl<'a, P> Probe<Row> for UpTo<'a, P> {
+    ghost order = { λ s r. side (up_to_by (stated_at s.items.now r) s.number) };
+
+    fn compare(&self, row: &Row) -> Ordering {
+        side(is_up_to(self.items, *row, self.number))
+    }
+}
+
+/// The place up to which the numbers are below this one.
+fn edge_below<P>(items: &[KeptItem<P>], rows: &TieredVec<Row>, number: u64) -> usize
+    requires { IsPartitionedBy (λ r. below_by (stated_at items.now r) number) rows.now.items }
+    ensures inside { result ≤ length rows.now.items }
+    ensures edge { IsPartitionPoint (λ r. below_by (stated_at items.now r) number ≡ true) (λ r. below_by (stated_at items.now r) number ≡ false) rows.now.items result }
+{
+    edge_at(rows.search(&Below { items, number }))
+}
+
+/// The place up to which the numbers are at most this one.
+fn edge_up_to<P>(items: &[KeptItem<P>], rows: &TieredVec<Row>, number: u64) -> usize
+    requires { IsPartitionedBy (λ r. up_to_by (stated_at items.now r) number) rows.now.items }
+    ensures inside { result ≤ length rows.now.items }
+    ensures edge { IsPartitionPoint (λ r. up_to_by (stated_at items.now r) number ≡ true) (λ r. up_to_by (stated_at items.now r) number ≡ false) rows.now.items result }
+{
+    edge_at(rows.search(&UpTo { items, number }))
+}
+
+/// Where among the rows of a table those stand whose statements have the numbers from `low` up to `last`.
+fn rows_between<P>(items: &[KeptItem<P>], table: &Table, low: u64, last: u64) -> Range<usize>
+    requires { IsTold items.now table.now }
+    ensures { AreBetween items.now table.now.rows.items low last result.start result.end }
+{
+    let start = edge_below(items, &table.rows, low);
+    let end = edge_up_to(items, &table.rows, last);
+    start..end
+}
+
+/// Whether the statement of the row contradicts the item.
+fn denies_row<P>(items: &[KeptItem<P>], row: Row, kept: &KeptItem<P>) -> bool
+    ensures { result ≡ denied_by_row (stated_at items.now row) kept.now.item.fields }
+{
+    match said_at(items, row) {
+        None => false,
+        Some(said) => kept.is_denied(&said),
+    }
+}
+
+/// The row at the place, where its statement contradicts the item.
+fn denier_at<P>(
+    items: &[KeptItem<P>],
+    rows: &TieredVec<Row>,
+    place: usize,
+    kept: &KeptItem<P>,
+) -> Option<Row>
+    ensures none { IfNone result ((d : TheRow) → place < length rows.now.items → denied_by_row (stated_at items.now (slice_index_or rows.now.items place d)) kept.now.item.fields ≡ false) }
+    ensures some { IfSome result (λ r. Contains rows.now.items r × (denied_by_row (stated_at items.now r) kept.now.item.fields ≡ true)) }
+{
+    match rows.get(place) {
+        None => None,
+        Some(row) => {
+            if denies_row(items, *row, kept) {
+                return Some(*row);
+            }
+            None
+        }
+    }
+}
+
+/// The first of the rows from one place to another whose statement contradicts the item.
+fn denier<P>(
+    items: &[KeptItem<P>],
+    rows: &TieredVec<Row>,
+    near: &Range<usize>,
+    kept: &KeptItem<P>,
+) -> Option<Row>
+    requires { near.now.end ≤ length rows.now.items }
+    ensures none { IfNone result (AllWithin (λ (r : TheRow). denied_by_row (stated_at items.now r) kept.now.item.fields ≡ false) rows.now.items near.now.start near.now.end) }
+    ensures some { IfSome result (λ r. Contains rows.now.items r × (denied_by_row (stated_at items.now r) kept.now.item.fields ≡ true)) }
+{
+    for place in near.start..near.end {
+        if let Some(row) = denier_at(items, rows, place, kept) {
+            return Some(row);
+        }
+    }
+    None
+}
+
+/// What exposes the node with the segment more, where nothing did without it. It looks at the statements that can contradict it.
+fn brought_by_segment<P>(
+    items: &[KeptItem<P>],
+    table: &Table,
+    span: &Span,
+    kept: &KeptItem<P>,
+) -> Option<Exposure>
+    requires told { IsTold items.now table.now }
+    requires here { slice_get items.now span.now.item ≡ Some kept.now }
+    requires reach { (a : Statement) → denies_at items.now a span.now.item ≡ true → (span.now.low ≤ a.seq) × (a.seq ≤ span.now.last) }
+    ensures none { IfNone result (SegmentBringsNothing items.now table.now.rows.items span.now.item) }
+    ensures some { IfSome result (IsBroughtBySegment items.now table.now.rows.items span.now.item) }
+{
+    if deviates(kept.verdict()) {
+        return Some(Exposure::Deviates(span.item));
+    }
+    let near = rows_between(items, table, span.low, span.last);
+    match denier(items, &table.rows, &near, kept) {
+        None => None,
+        Some(row) => Some(Exposure::Denied(row, span.item)),
+    }
+}
+
+/// What exposes the node with the segment more.
+fn exposure_with<P>(
+    items: &[KeptItem<P>],
+    table: &Table,
+    span: &Span,
+    kept: &KeptItem<P>,
+) -> Option<Exposure>
+    requires told { IsTold items.now table.now }
+    requires here { slice_get items.now span.now.item ≡ Some kept.now }
+    requires reach { (a : Statement) → denies_at items.now a span.now.item ≡ true → (span.now.low ≤ a.seq) × (a.seq ≤ span.now.last) }
+    ensures { IsNextBySegment items.now table.now.rows.items span.now.item table.now.exposure result }
+{
+    match table.exposure {
+        Some(exposure) => Some(exposure),
+        None => brought_by_segment(items, table, span, kept),
+    }
+}
+
+/// Puts a span where its least number has it, behind those of the same one. There is room for it.
+fn put_span(spans: &mut Vec<Span>, span: Span)
+    requires by_low { DoNotFall spans.old.items }
+    requires room { vec_len spans.old < vec_capacity spans.old }
+    ensures by_low { DoNotFall spans.new.items }
+    ensures members { (q : TheSpan) → Contains spans.new.items q ↔ (Contains spans.old.items q ⊎ (q ≡ span)) }
+    ensures len { vec_len spans.new ≡ vec_len spans.old + 1 }
+    ensures capacity { vec_capacity spans.new ≡ vec_capacity spans.old }
+{
+    let place = spans.partition_point(|other| other.low <= span.low);
+    let _ = spans.insert(place, span);
+}
+
+/// Puts the segment into the table of its node, for which there is room.
+fn put<P>(items: &[KeptItem<P>], table: &mut Table, place: u32, kept: &KeptItem<P>, reach: Reach)
+    requires told { IsTold items.now table.old }
+    requires here { slice_get items.now place ≡ Some kept.now }
+    requires reach { reach_of kept.now.item.fields ≡ Some reach }
+    requires own { IsSegmentOf table.old.node kept.now.item.fields }
+    requires room { vec_len table.old.spans < vec_capacity table.old.spans }
+    ensures told { IsTold items.now table.new }
+    ensures step { SegmentStep items.now place table.old table.new }
+    ensures room { span_room table.old ≤ span_room table.new + 1 }
+    ensures counts { (table.new.promised ≡ table.old.promised) × (table.new.bodies ≡ table.old.bodies) }
+{
+    denials_are_within_reach();
+    let span = Span {
+        item: place,
+        low: reach.low,
+        last: reach.last,
+    };
+    let exposure = exposure_with(items, table, &span, kept);
+    table.exposure = exposure;
+    put_span(&mut table.spans, span);
+}
+
+/// Puts the segment at a place into the table of its node, for which there is room.
+pub(crate) fn put_segment<P>(items: &[KeptItem<P>], table: &mut Table, place: u32)
+    requires told { IsTold items.now table.old }
+    requires segment { IsSegmentAt items.now table.old.node place }
+    requires room { vec_len table.old.spans < vec_capacity table.old.spans }
+    ensures told { IsTold items.now table.new }
+    ensures step { SegmentStep items.now place table.old table.new }
+    ensures room { span_room table.old ≤ span_room table.new + 1 }
+    ensures counts { (table.new.promised ≡ table.old.promised) × (table.new.bodies ≡ table.old.bodies) }
+{
+    let Some(kept) = items.get(place as usize) else {
+        return;
+    };
+    let Some(reach) = kept.reach() else {
+        return;
+    };
+    put(items, table, place, kept, reach);
+}

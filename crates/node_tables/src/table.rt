@@ -1,0 +1,26 @@
+//! What is kept of one node.
+
+use crate::exposure::Exposure;
+use crate::row::Row;
+use crate::span::Span;
+use authenticators::NodeId;
+use tiered_vec::TieredVec;
+
+/// What is kept of one node, by the places of its items.
+#[derive(Drop)]
+pub struct Table {
+    /// The node.
+    pub node: NodeId,
+    /// Its statements, ascending by number, hash and signature.
+    pub rows: TieredVec<Row>,
+    /// Its segments, by their least numbers.
+    pub spans: Vec<Span>,
+    /// The challenges against it that nothing answers, ascending by their spellings.
+    pub unanswered: Vec<u32>,
+    /// What exposes it, if something does.
+    pub exposure: Option<Exposure>,
+    /// How many statements were promised room and did not come yet.
+    pub promised: usize,
+    /// How many segments or challenges were promised room and did not come yet.
+    pub bodies: usize,
+}

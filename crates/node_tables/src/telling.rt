@@ -1,0 +1,98 @@
+//! Putting a statement into the table of its node.
+
+ghost use Rattle.std.specs.Prelude.{◌≡◌, ◌≤◌, ◌-◌, Some, length};
+ghost use Rattle.std.specs.List.Sorted.{IsBinarySearchResult, IsSearchInRange};
+ghost use Rattle.authenticators.specs.declared.authenticator.Authenticator.{Authenticator as Statement};
+ghost use Rattle.kept_items.specs.Positions.{shown};
+ghost use Rattle.node_tables.specs.Rows.{stated_at};
+ghost use Rattle.node_tables.specs.Tables.{AreSpans, DoNotFall, IsTold};
+ghost use Rattle.node_tables.specs.within.Bringing.{IsNext, StatementStep, order_at};
+
+use crate::exposure::Exposure;
+use crate::finding::brought_by;
+use crate::row::{Row, compare_row, said_at};
+use crate::table::Table;
+use kept_items::{KeptItem, Said};
+use std::cmp::Ordering;
+use tiered_vec::{Probe, TieredVec};
+
+/// A statement that is looked for among rows.
+#[derive_where(Clone, Copy)]
+struct Sought<'a, P> {
+    items: &'a [KeptItem<P>],
+    said: &'a Said<'a>,
+}
+
+impl<'a, P> Probe<Row> for Sought<'a, P> {
+    ghost order = { λ s r. order_at s.items.now r (shown s.said.now) };
+
+    fn compare(&self, row: &Row) -> Ordering {
+        compare_row(self.items, *row, self.said)
+    }
+}
+
+/// Where the statement stands among the rows, or would stand.
+fn place_of<P>(
+    items: &[KeptItem<P>],
+    rows: &TieredVec<Row>,
+    said: &Said<'_>,
+) -> Result<usize, usize>
+    ensures bound { IsSearchInRange result (length rows.now.items) }
+    ensures position { IsBinarySearchResult (λ r. order_at items.now r (shown said.now)) rows.now.items result }
+{
+    rows.search(&Sought { items, said })
+}
+
+/// What exposes the node with a statement more, whose place among the rows is given.
+fn exposure_with<P>(
+    items: &[KeptItem<P>],
+    table: &Table,
+    place: usize,
+    row: Row,
+    said: &Said<'_>,
+) -> Option<Exposure>
+    requires spans { AreSpans items.now said.now.node table.now.spans.items }
+    requires by_low { DoNotFall table.now.spans.items }
+    requires place { place ≤ length table.now.rows.items }
+    ensures { IsNext items.now table.now.rows.items table.now.spans.items place row (shown said.now) table.now.exposure result }
+{
+    match table.exposure {
+        Some(exposure) => Some(exposure),
+        None => brought_by(items, &table.rows, &table.spans, place, row, said),
+    }
+}
+
+/// Puts the statement that a row names into the table of its node, where it is not there yet, and keeps what it brings. There is room
+/// for it.
+fn put_row<P>(items: &[KeptItem<P>], table: &mut Table, row: Row)
+    requires told { IsTold items.now table.old }
+    requires own { (a : Statement) → stated_at items.now row ≡ Some a → a.node ≡ table.old.node }
+    requires room { 1 ≤ table.old.rows.room }
+    ensures told { IsTold items.now table.new }
+    ensures step { StatementStep items.now row table.old table.new }
+    ensures counts { (table.new.promised ≡ table.old.promised) × (table.new.bodies ≡ table.old.bodies) }
+{
+    let Some(said) = said_at(items, row) else {
+        return;
+    };
+    let Err(place) = place_of(items, &table.rows, &said) else {
+        return;
+    };
+    let exposure = exposure_with(items, table, place, row, &said);
+    table.exposure = exposure;
+    table.rows.insert(place, row);
+}
+
+/// Puts the statement that a row names into the table of its node, where it is not there yet, keeps what it brings, and takes back
+/// that it was promised. There is room for it.
+pub(crate) fn put_statement<P>(items: &[KeptItem<P>], table: &mut Table, row: Row)
+    requires told { IsTold items.now table.old }
+    requires own { (a : Statement) → stated_at items.now row ≡ Some a → a.node ≡ table.old.node }
+    requires room { 1 ≤ table.old.rows.room }
+    ensures told { IsTold items.now table.new }
+    ensures step { StatementStep items.now row table.old table.new }
+    ensures counts { (table.new.promised ≡ table.old.promised - 1) × (table.new.bodies ≡ table.old.bodies) }
+{
+    put_row(items, table, row);
+    table.promised = table.promised.saturating_sub(1);
+}

@@ -1,0 +1,5 @@
+pub mod Carried
+pub mod Filled
+pub mod Grown
+pub mod Narrowed
+pub mod Whole

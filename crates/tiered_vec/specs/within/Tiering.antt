@@ -1,0 +1,35 @@
+-- How the elements lie in tiers.
+use Rattle.std.specs.Prelude.{◌≡◌, ℕ, ◌*◌, ◌-◌, ◌<◌, ◌≤◌, List, length, map, min, slice_index}
+use Rattle.std.specs.List.{flat_map}
+use Rattle.std.specs.VecDeque.{deque_capacity, deque_items, deque_len}
+use Rattle.std.specs.declared.collections.VecDeque.{VecDeque}
+use Rattle.tiered_vec.specs.declared.tier.TheConstants.{TIER}
+
+module _ {X Z : Type 0} where
+  -- The elements of all tiers, those of one after those of the other.
+  abbrev pub items_of : List (VecDeque X Z) → List X
+  items_of tiers = flat_map (λ (t : VecDeque X Z). deque_items t) tiers
+
+  -- How many elements each tier has.
+  abbrev pub lengths : List (VecDeque X Z) → List ℕ
+  lengths tiers = map (λ (t : VecDeque X Z). deque_len t) tiers
+
+  -- How many elements each tier has room for in all.
+  abbrev pub capacities : List (VecDeque X Z) → List ℕ
+  capacities tiers = map (λ (t : VecDeque X Z). deque_capacity t) tiers
+
+-- Of n elements each tier has those that are left by the full ones before it, as many as it can.
+pub record AreFilled (lengths : List ℕ) (n : ℕ) : Type 0 where
+  pub each : (k : ℕ) → k < length lengths → slice_index lengths k ≡ min TIER (n - TIER * k)
+
+-- The tiers have room for n elements that are kept so.
+pub record HaveRoom (capacities : List ℕ) (n : ℕ) : Type 0 where
+  pub each : (k : ℕ) → k < length capacities → min TIER (n - TIER * k) ≤ slice_index capacities k
+  pub enough : n ≤ TIER * length capacities
+
+-- The tiers hold n elements, and have room for as many as `most`.
+pub record AreTiers {X Z : Type 0} (tiers : List (VecDeque X Z)) (n most : ℕ) : Type 0 where
+  pub total : length (items_of tiers) ≡ n
+  pub filled : AreFilled (lengths tiers) n
+  pub room : HaveRoom (capacities tiers) most
+  pub within : n ≤ most

@@ -1,0 +1,18 @@
+//! A list in tiers: an element is put in at any place by moving a part of one tier, and is read by its place at once.
+//!
+//! A `Vec` moves all elements behind the place of an insert. Here the elements lie in tiers of a fixed size, each a ring, and all
+//! but the last of them are full. What is put into a full tier pushes its last element out, which goes to the front of the next tier;
+//! that moves nothing else there. So an insert moves at most half a tier, and one element of each tier behind it.
+//!
+//! - `TieredVec` is the list. A contract sees its elements, and the room that was made for more (`specs/Tiers.antt`).
+//! - `Probe` is what a search asks: how each element lies to what is looked for.
+#![tactic(auto)]
+
+pub use probe::Probe;
+pub use tiered_vec::TieredVec;
+
+mod growing;
+mod probe;
+mod putting;
+mod tier;
+mod tiered_vec;

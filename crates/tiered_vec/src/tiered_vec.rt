@@ -1,0 +1,130 @@
+//! The list in tiers.
+
+ghost use Rattle.std.specs.Prelude.{◌≡◌, ◌+◌, ◌<◌, ◌≤◌, [], OnOk, length, option_copied, slice_get, slice_index_or};
+ghost use Rattle.std.specs.List.{insert};
+ghost use Rattle.std.specs.List.Sorted.{IsBinarySearchResult, IsSearchInRange};
+
+use crate::growing::{add_tiers, grow_tiers};
+use crate::probe::Probe;
+use crate::putting::put_in;
+use crate::tier::TIER;
+use outcome::Memory;
+use std::alloc::{AllocError, Global};
+use std::cmp::Ordering;
+use std::collections::VecDeque;
+use std::marker::Model;
+
+/// A list into which elements are put at any place. A contract sees the elements, and for how many more room was made.
+#[derive(Drop)]
+pub struct TieredVec<T> {
+    alloc: Global,
+    /// All full but the last; behind that one there may be empty ones.
+    tiers: Vec<VecDeque<T>>,
+    len: usize,
+    /// How many elements there is room for in all.
+    most: usize,
+}
+
+impl<T> Model for TieredVec<T> {
+    ghost use Rattle.std.specs.Prelude.{◌-◌};
+    ghost use Rattle.tiered_vec.specs.Tiers.{Tiered, tiered_code};
+
+    ghost Value = { Tiered T };
+
+    ghost coded = { tiered_code T.code };
+
+    ghost use Rattle.tiered_vec.specs.within.Tiering.{AreTiers, items_of};
+
+    ghost view = { λ v. record { items = items_of v.tiers.items; room = v.most - v.len } };
+
+    ghost invariant = { λ v. AreTiers v.tiers.items v.len v.most };
+}
+
+impl<T: Drop> TieredVec<T> {
+    /// An empty list, which takes no memory.
+    pub fn new(alloc: Global) -> TieredVec<T>
+        ensures { result.items ≡ [] }
+    {
+        TieredVec {
+            alloc,
+            tiers: Vec::new(alloc),
+            len: 0,
+            most: 0,
+        }
+    }
+
+    /// How many elements there are.
+    pub fn len(&self) -> usize
+        ensures { result ≡ length self.now.items }
+    {
+        self.len
+    }
+
+    /// The element at a place, in constant time.
+    pub fn get(&self, place: usize) -> Option<&T>
+        ensures { option_copied result ≡ slice_get self.now.items place }
+    {
+        if place < self.len {
+            Some(self.at(place))
+        } else {
+            None
+        }
+    }
+
+    /// Makes room for so many more elements. Where memory ends, the elements and the room are as before.
+    pub fn reserve(&mut self, more: usize) -> Result<(), Memory>
+        ensures same { self.new.items ≡ self.old.items }
+        ensures kept { self.old.room ≤ self.new.room }
+        ensures room { OnOk result (more ≤ self.new.room) }
+    {
+        let Some(most) = self.len.checked_add(more) else {
+            return Err(AllocError);
+        };
+        if most <= self.most {
+            return Ok(());
+        }
+        add_tiers(&mut self.tiers, self.alloc, most)?;
+        grow_tiers(&mut self.tiers, self.len / TIER, most)?;
+        self.most = most;
+        Ok(())
+    }
+
+    /// Puts an element at a place, for which room was made: it takes no memory. It moves at most half a tier, and one element of each
+    /// tier behind.
+    pub fn insert(&mut self, place: usize, x: T)
+        requires inside { place ≤ length self.old.items }
+        requires room { 1 ≤ self.old.room }
+        ensures items { self.new.items ≡ insert self.old.items place x }
+        ensures room { self.old.room ≤ self.new.room + 1 }
+    {
+        put_in(&mut self.tiers, place, x);
+        self.len += 1;
+    }
+
+    /// The element at a place that is there.
+    fn at(&self, place: usize) -> &T
+        requires { place < length self.now.items }
+        ensures { result.now ≡ slice_index_or self.now.items place result.now }
+    {
+        &self.tiers[place / TIER][place % TIER]
+    }
+
+    /// Where what is looked for lies: `Ok` of its place, or, where the elements ascend and it is not there, `Err` of the place where
+    /// it belongs.
+    pub fn search<Q: Probe<T>>(&self, probe: &Q) -> Result<usize, usize>
+        ensures bound { IsSearchInRange result (length self.now.items) }
+        ensures position { IsBinarySearchResult (Q.order probe.now) self.now.items result }
+    {
+        let mut low = 0;
+        let mut high = self.len();
+        while low < high {
+            let middle = low + (high - low) / 2;
+            match probe.compare(self.at(middle)) {
+                Ordering::Equal => return Ok(middle),
+                Ordering::Less => low = middle + 1,
+                Ordering::Greater => high = middle,
+            }
+        }
+        Err(low)
+    }
+}
