@@ -1,12 +1,12 @@
 //! Stores that two callers share at once.
 
 use crate::samples::{
-    Sharing, Store, close_both, make_key, merge_nothing, new_store, share, statement, take_item,
+    Sharing, close_both, make_key, merge_nothing, new_store, share, statement, take_item,
 };
 use authenticators::NodeId;
 use evidence_item::{Item, check_item};
 use evidence_set::Indication;
-use evidence_store::Evidence;
+use evidence_store::{Evidence, IndexedStore, PlainStore};
 use lms_sign::SecretKey;
 use ref_programs::Tally;
 use std::alloc::Global;
@@ -17,10 +17,10 @@ use std::thread::Threads;
 use witness_workers::{Closed, Pass, SharedStore};
 
 /// Takes the items, merges a store without items, asks for node 1 and exports, as far as nothing is refused.
-fn every_call<R: Wait>(
+fn every_call<S: Evidence<Tally>, R: Wait>(
     rt: &R,
     alloc: Global,
-    shared: &SharedStore<Tally, Store>,
+    shared: &SharedStore<Tally, S>,
     mut pass: Pass,
     items: Vec<Box<Item>>,
 ) -> Pass {
@@ -34,7 +34,7 @@ fn every_call<R: Wait>(
 }
 
 /// What two callers at once left.
-#[derive(Clone, Copy)]
+#[derive(Clone, Copy, PartialEq, Eq)]
 struct Left {
     /// How many calls the history has.
     calls: usize,
@@ -55,7 +55,11 @@ fn statements(alloc: Global, key: &mut SecretKey, hashes: &[u8]) -> Result<Vec<B
 }
 
 /// Takes the items, which are checked under the store's directory.
-fn take_all(alloc: Global, store: &mut Store, items: Vec<Box<Item>>) -> Result<(), Fail> {
+fn take_all<S: Evidence<Tally>>(
+    alloc: Global,
+    store: &mut S,
+    items: Vec<Box<Item>>,
+) -> Result<(), Fail> {
     for item in items {
         let checked = check_item(alloc, &Tally, store.directory(), Box::into_inner(item))?;
         store.take(checked)?;
@@ -64,10 +68,10 @@ fn take_all(alloc: Global, store: &mut Store, items: Vec<Box<Item>>) -> Result<(
 }
 
 /// Two callers in threads of their own, with the items that each takes.
-fn call_both<R: Threads + Wait + Sync>(
+fn call_both<S: Evidence<Tally> + Send, R: Threads + Wait + Sync>(
     rt: &R,
     alloc: Global,
-    shared: &SharedStore<Tally, Store>,
+    shared: &SharedStore<Tally, S>,
     callers: (Pass, Pass),
     items: (Vec<Box<Item>>, Vec<Box<Item>>),
 ) -> (Pass, Pass) {
@@ -81,33 +85,33 @@ fn call_both<R: Threads + Wait + Sync>(
 }
 
 /// Whether two stores have one text.
-fn same_text(one: &Store, other: &Store) -> Result<bool, Fail> {
+fn same_text<S: Evidence<Tally>>(one: &S, other: &S) -> Result<bool, Fail> {
     let text = one.export()?;
     Ok(text.as_slice() == other.export()?.as_slice())
 }
 
 /// What the closed store has, beside a store that took the same items alone.
-fn left_of(closed: &Closed<Store>, alone: &Store) -> Result<Left, Fail> {
+fn left_of<S: Evidence<Tally>>(closed: &Closed<S>, alone: &S) -> Result<Left, Fail> {
     Ok(Left {
         calls: closed.history.len(),
         told: closed.store.indication(NodeId(1))?,
         count: closed.store.count(),
-        same_text: same_text(&closed.store, alone)?,
+        same_text: same_text::<S>(&closed.store, alone)?,
     })
 }
 
 /// Two callers take, merge, ask and export, each in a thread of its own.
-fn two_at_once<R: Threads + Wait + Sync>(
+fn two_at_once<S: Evidence<Tally> + Send, R: Threads + Wait + Sync>(
     rt: &R,
     alloc: Global,
-) -> Result<Box<Closed<Store>>, Fail> {
+) -> Result<Box<Closed<S>>, Fail> {
     let Sharing {
         mut key,
         shared,
         first,
         second,
         ..
-    } = share(alloc)?;
+    } = share::<S>(alloc)?;
     let ours = statements(alloc, &mut key, &[1, 2])?;
     let theirs = statements(alloc, &mut key, &[3, 4])?;
     let passes = call_both(rt, alloc, &shared, (first, second), (ours, theirs));
@@ -115,33 +119,41 @@ fn two_at_once<R: Threads + Wait + Sync>(
 }
 
 /// A store that took the same items alone.
-fn one_alone(alloc: Global) -> Result<Box<Store>, Fail> {
+fn one_alone<S: Evidence<Tally>>(alloc: Global) -> Result<Box<S>, Fail> {
     let mut key = make_key(alloc)?;
-    let mut store = new_store(alloc, &key)?;
+    let mut store: Box<S> = new_store(alloc, &key)?;
     let items = statements(alloc, &mut key, &[1, 2, 3, 4])?;
-    take_all(alloc, &mut store, items)?;
+    take_all::<S>(alloc, &mut store, items)?;
     Ok(store)
 }
 
-fn two_callers<R: Threads + Wait + Sync>(rt: &R, alloc: Global) -> Result<Left, Fail> {
-    let closed = two_at_once(rt, alloc)?;
-    let alone = one_alone(alloc)?;
-    left_of(&closed, &alone)
+fn two_callers<S: Evidence<Tally> + Send, R: Threads + Wait + Sync>(
+    rt: &R,
+    alloc: Global,
+) -> Result<Left, Fail> {
+    let closed: Box<Closed<S>> = two_at_once(rt, alloc)?;
+    let alone: Box<S> = one_alone(alloc)?;
+    left_of::<S>(&closed, &alone)
 }
 
 #[test]
 fn two_callers_at_once(rt: HostRuntime) -> Result<(), Fail> {
-    let left = two_callers(&rt, rt.alloc())?;
-    assert!(rt; left.told == Indication::Exposed && left.same_text);
-    assert!(rt; (left.calls, left.count) == (10, 4));
+    let expected = Left {
+        calls: 10,
+        told: Indication::Exposed,
+        count: 4,
+        same_text: true,
+    };
+    assert!(rt; two_callers::<PlainStore<Tally>, HostRuntime>(&rt, rt.alloc())? == expected);
+    assert!(rt; two_callers::<IndexedStore<Tally>, HostRuntime>(&rt, rt.alloc())? == expected);
     Ok(())
 }
 
 /// Takes both items and asks for node 1.
-fn take_and_ask<R: Wait>(
+fn take_and_ask<S: Evidence<Tally>, R: Wait>(
     rt: &R,
     alloc: Global,
-    shared: &SharedStore<Tally, Store>,
+    shared: &SharedStore<Tally, S>,
     mut pass: Pass,
     items: (Box<Item>, Box<Item>),
 ) -> Option<Indication> {
@@ -151,10 +163,10 @@ fn take_and_ask<R: Wait>(
 }
 
 /// One caller takes both items and asks, while the other one merges a store without items.
-fn ask_and_merge<R: Threads + Wait + Sync>(
+fn ask_and_merge<S: Evidence<Tally> + Send, R: Threads + Wait + Sync>(
     rt: &R,
     alloc: Global,
-    shared: &SharedStore<Tally, Store>,
+    shared: &SharedStore<Tally, S>,
     passes: (Pass, Pass),
     items: (Box<Item>, Box<Item>),
 ) -> (Option<Indication>, Option<u64>) {
@@ -167,7 +179,7 @@ fn ask_and_merge<R: Threads + Wait + Sync>(
 }
 
 /// The same of two statements of one number and two hashes.
-fn asked_while_merged<R: Threads + Wait + Sync>(
+fn asked_while_merged<S: Evidence<Tally> + Send, R: Threads + Wait + Sync>(
     rt: &R,
     alloc: Global,
 ) -> Result<(Option<Indication>, Option<u64>), Fail> {
@@ -177,7 +189,7 @@ fn asked_while_merged<R: Threads + Wait + Sync>(
         first,
         second,
         ..
-    } = share(alloc)?;
+    } = share::<S>(alloc)?;
     let one = statement(alloc, &mut key, 5, 1, 0)?;
     let two = statement(alloc, &mut key, 5, 2, 0)?;
     let done = ask_and_merge(rt, alloc, &shared, (first, second), (one, two));
@@ -186,7 +198,10 @@ fn asked_while_merged<R: Threads + Wait + Sync>(
 
 #[test]
 fn one_asks_while_another_merges(rt: HostRuntime) -> Result<(), Fail> {
-    let (told, merged) = asked_while_merged(&rt, rt.alloc())?;
-    assert!(rt; (told, merged) == (Some(Indication::Exposed), Some(0)));
+    let expected = (Some(Indication::Exposed), Some(0));
+    let plain = asked_while_merged::<PlainStore<Tally>, HostRuntime>(&rt, rt.alloc())?;
+    assert!(rt; plain == expected);
+    let indexed = asked_while_merged::<IndexedStore<Tally>, HostRuntime>(&rt, rt.alloc())?;
+    assert!(rt; indexed == expected);
     Ok(())
 }

@@ -4,7 +4,7 @@ ghost use Rattle.std.specs.Prelude.{◌<◌, length};
 
 use authenticators::{Authenticator, Directory, NodeId, statement_text};
 use evidence_item::{Item, check_item};
-use evidence_store::{Evidence, PlainStore};
+use evidence_store::Evidence;
 use lms_sign::{LmsType, OtsType, SecretKey};
 use log_chain::{ByteString, Hash};
 use ref_programs::Tally;
@@ -12,9 +12,6 @@ use std::alloc::Global;
 use std::sync::Wait;
 use std::test::Fail;
 use witness_workers::{Closed, MOST_WORKERS, Pass, SharedStore};
-
-/// A store of nodes that run Tally.
-pub(crate) type Store = PlainStore<Tally>;
 
 /// The key (H5, W4) of node 1, whose identifier and seed end in the number.
 pub(crate) fn make_key(alloc: Global) -> Result<Box<SecretKey>, Fail> {
@@ -34,9 +31,12 @@ pub(crate) fn make_directory(alloc: Global, key: &SecretKey) -> Result<Box<Direc
 }
 
 /// A store under that directory, without items.
-pub(crate) fn new_store(alloc: Global, key: &SecretKey) -> Result<Box<Store>, Fail> {
+pub(crate) fn new_store<S: Evidence<Tally>>(
+    alloc: Global,
+    key: &SecretKey,
+) -> Result<Box<S>, Fail> {
     let directory = make_directory(alloc, key)?;
-    let store = PlainStore::new(alloc, Box::into_inner(directory))?;
+    let store = S::new(alloc, Box::into_inner(directory))?;
     Ok(Box::new(alloc, store)?)
 }
 
@@ -71,21 +71,21 @@ pub(crate) fn unsigned(alloc: Global) -> Result<Box<Item>, Fail> {
 
 /// A store that is shared, with the passes of the first two callers and those of all others, and the key of node 1.
 #[derive(Drop)]
-pub(crate) struct Sharing {
+pub(crate) struct Sharing<S: Evidence<Tally>> {
     pub(crate) key: Box<SecretKey>,
-    pub(crate) shared: Box<SharedStore<Tally, Store>>,
+    pub(crate) shared: Box<SharedStore<Tally, S>>,
     pub(crate) first: Pass,
     pub(crate) second: Pass,
     pub(crate) others: Vec<Pass>,
 }
 
 /// The same of a store with its passes.
-fn sharing_of(
+fn sharing_of<S: Evidence<Tally>>(
     alloc: Global,
     key: Box<SecretKey>,
-    shared: SharedStore<Tally, Store>,
+    shared: SharedStore<Tally, S>,
     mut passes: Vec<Pass>,
-) -> Result<Sharing, Fail>
+) -> Result<Sharing<S>, Fail>
     requires { 1 < length passes.items }
 {
     let shared = Box::new(alloc, shared)?;
@@ -103,26 +103,26 @@ fn sharing_of(
 }
 
 /// A store that two callers share.
-pub(crate) fn share(alloc: Global) -> Result<Sharing, Fail> {
+pub(crate) fn share<S: Evidence<Tally>>(alloc: Global) -> Result<Sharing<S>, Fail> {
     let key = make_key(alloc)?;
-    let store = new_store(alloc, &key)?;
+    let store: Box<S> = new_store(alloc, &key)?;
     let (shared, passes) = SharedStore::open(alloc, Box::into_inner(store), 2)?;
     sharing_of(alloc, key, shared, passes)
 }
 
 /// A store that as many callers share as may share one.
-pub(crate) fn share_among_most(alloc: Global) -> Result<Sharing, Fail> {
+pub(crate) fn share_among_most<S: Evidence<Tally>>(alloc: Global) -> Result<Sharing<S>, Fail> {
     let key = make_key(alloc)?;
-    let store = new_store(alloc, &key)?;
+    let store: Box<S> = new_store(alloc, &key)?;
     let (shared, passes) = SharedStore::open(alloc, Box::into_inner(store), MOST_WORKERS)?;
     sharing_of(alloc, key, shared, passes)
 }
 
 /// Checks the item under the store's directory, and takes it: whether it was new, where nothing is refused.
-pub(crate) fn take_item<R: Wait>(
+pub(crate) fn take_item<S: Evidence<Tally>, R: Wait>(
     rt: &R,
     alloc: Global,
-    shared: &SharedStore<Tally, Store>,
+    shared: &SharedStore<Tally, S>,
     pass: &mut Pass,
     item: Box<Item>,
 ) -> Option<bool> {
@@ -132,23 +132,23 @@ pub(crate) fn take_item<R: Wait>(
 }
 
 /// Merges a store without items: how many items were new, where nothing is refused.
-pub(crate) fn merge_nothing<R: Wait>(
+pub(crate) fn merge_nothing<S: Evidence<Tally>, R: Wait>(
     rt: &R,
     alloc: Global,
-    shared: &SharedStore<Tally, Store>,
+    shared: &SharedStore<Tally, S>,
     pass: &mut Pass,
 ) -> Option<u64> {
     let directory = shared.directory().try_clone().ok()?;
-    let other: Store = PlainStore::new(alloc, directory).ok()?;
+    let other: S = S::new(alloc, directory).ok()?;
     shared.merge(rt, pass, &other).ok()
 }
 
 /// Closes the store with these passes.
-pub(crate) fn close_both(
+pub(crate) fn close_both<S: Evidence<Tally>>(
     alloc: Global,
-    shared: Box<SharedStore<Tally, Store>>,
+    shared: Box<SharedStore<Tally, S>>,
     passes: (Pass, Pass),
-) -> Result<Box<Closed<Store>>, Fail> {
+) -> Result<Box<Closed<S>>, Fail> {
     let mut all = Vec::new(alloc);
     all.push(passes.0)?;
     all.push(passes.1)?;
