@@ -2,7 +2,7 @@
 
 ghost use Rattle.std.specs.Prelude.{◌≡◌};
 ghost use Rattle.evidence.specs.declared.fault.AskFault.TheVariants.{Memory};
-ghost use Rattle.evidence.specs.Refusals.{name_of, number_of};
+ghost use Rattle.evidence.specs.Refusals.{name_of, number_of, unknown_name, unknown_number};
 
 use authenticators::Directory;
 use evidence_item::Checked;
@@ -23,6 +23,22 @@ pub struct TakeRefused<P>(pub Checked<P>);
 #[derive(Clone, Copy, Debug, PartialEq, Eq, Error)]
 #[error("the node is not listed in the directory")]
 pub struct UnknownNode;
+
+impl UnknownNode {
+    /// The number of the refusal, which is that of [`AskFault::UnknownNode`].
+    pub fn number(&self) -> u8
+        ensures { result ≡ unknown_number }
+    {
+        44
+    }
+
+    /// The name of the refusal.
+    pub fn name(&self) -> &'static str
+        ensures { result.now ≡ unknown_name }
+    {
+        "UnknownNode"
+    }
+}
 
 /// Why a question about a node is refused.
 #[derive(Clone, Copy, Debug, PartialEq, Eq, Error)]

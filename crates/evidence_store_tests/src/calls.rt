@@ -3,7 +3,7 @@
 use crate::samples::new_store;
 use authenticators::{Directory, NodeId};
 use evidence_set::Indication;
-use evidence_store::{AskFault, Evidence, IndexedStore, PlainStore};
+use evidence_store::{AskFault, Evidence, IndexedStore, PlainStore, UnknownNode};
 use ref_programs::Tally;
 use std::alloc::Global;
 use std::test::Fail;
@@ -96,5 +96,7 @@ fn refusals_have_numbers_names_and_lines(rt: HostRuntime) -> Result<(), Fail> {
         let told = format!(in rt.alloc(); "{fault}")?;
         assert_eq!(rt; told.as_str(), line);
     }
+    assert!(rt; UnknownNode.number() == 44);
+    assert!(rt; UnknownNode.name() == "UnknownNode");
     Ok(())
 }
