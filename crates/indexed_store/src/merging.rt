@@ -11,7 +11,7 @@ ghost use Rattle.node_tables.specs.Rooms.{HasRoomFor, HasRoomForAll, IsRoomier, 
 ghost use Rattle.node_tables.specs.Steps.{AllTables, AscendByNode, EachBecomes};
 
 use crate::including::keeps;
-use crate::taking::{add, keep};
+use crate::taking::{MOST_ITEMS, add, keep};
 use authenticators::Directory;
 use evidence_item::Checked;
 use kept_entries::EntryPool;
@@ -107,7 +107,7 @@ fn prepare_all<P>(
     let Some(count) = items.len().checked_add(more.len()) else {
         return Err(Memory);
     };
-    if count > u32::MAX as usize {
+    if count > MOST_ITEMS {
         return Err(Memory);
     }
     items.reserve(more.len())?;

@@ -21,6 +21,9 @@ use replay_verifier::Program;
 use std::alloc::Global;
 use tiered_vec::TieredVec;
 
+/// The most items, since a place is a number of 32 bits.
+pub(crate) const MOST_ITEMS: usize = 4_294_967_296;
+
 /// Finds what was not found yet of the item, and keeps it, its entries shared.
 pub(crate) fn keep<P: Program>(
     alloc: Global,
@@ -59,7 +62,7 @@ fn prepare<P>(
     ensures place { OnOk result (vec_len items.new < 2 ^ 32) }
     ensures ready { OnOk result (EachBecomes (IsReady item.now) tables.old tables.new) }
 {
-    if items.len() > u32::MAX as usize {
+    if items.len() >= MOST_ITEMS {
         return Err(Memory);
     }
     items.reserve(1)?;
