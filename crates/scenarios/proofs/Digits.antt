@@ -12,7 +12,7 @@ use Rattle.std.proofs.lemmas.Slice.Eq.{bytes_eq-Decides}
 use Rattle.std.proofs.lemmas.Str.{IsUtf8-from_ascii}
 use Rattle.std.proofs.lemmas.Str.Parse.{IsNumeralModel, numerals_by_value, tells_digits, parse_plain, digit_at}
 use Rattle.scenarios.specs.declared.fault.ScenarioFault.TheVariants.{BadScenario}
-use Rattle.scenarios.specs.Statements.{number_to}
+use Rattle.scenarios.specs.Instructions.{number_to}
 use Rattle.scenarios.specs.within.Numbers.{IsRead, is_plain}
 
 own : IsNumeralModel (AllDigits 10) (digits_value 10)

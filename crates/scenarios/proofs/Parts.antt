@@ -7,7 +7,7 @@ use Rattle.std.proofs.lemmas.List.Splits.{slice_split_first, slice_split_none, l
 use Rattle.std.proofs.lemmas.List.Sums.{fails_before_first}
 use Rattle.scenarios.specs.declared.fault.ScenarioFault.TheVariants.{BadScenario}
 use Rattle.scenarios.specs.Scenarios.{ended, lines_of}
-use Rattle.scenarios.specs.Statements.{said_of}
+use Rattle.scenarios.specs.Instructions.{said_of}
 
 -- ---- one cut
 

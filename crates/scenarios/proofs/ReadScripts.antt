@@ -11,16 +11,17 @@ use Rattle.std.proofs.lemmas.List.Folds.{list_any_at}
 use Rattle.std.proofs.lemmas.List.Quantifiers.{all_pairs_push}
 use Rattle.outcome.specs.Outcome.{◌>>=◌}
 use Rattle.outcome.proofs.Steps.{guard_true}
+use Rattle.scenarios.specs.declared.limits.TheConstants.{MOST_LINES, MOST_NODES, MOST_WITNESSES}
 use Rattle.scenarios.specs.declared.fault.ScenarioFault.{ScenarioFault}
 use Rattle.scenarios.specs.declared.fault.ScenarioFault.TheVariants.{BadScenario}
-use Rattle.scenarios.specs.declared.statement.Act.{Act}
-use Rattle.scenarios.specs.declared.statement.Member.{Member}
-use Rattle.scenarios.specs.declared.statement.Statement.{Statement}
-use Rattle.scenarios.specs.declared.statement.Statement.TheVariants as says
+use Rattle.scenarios.specs.declared.instruction.Act.{Act}
+use Rattle.scenarios.specs.declared.instruction.Member.{Member}
+use Rattle.scenarios.specs.declared.instruction.Instruction.{Instruction}
+use Rattle.scenarios.specs.declared.instruction.Instruction.TheVariants as says
 use Rattle.scenarios.specs.Scenarios.{Draft, Script, completed, is_listed, is_readable, is_skipped, line_taken, lines_of, lines_taken, node_of, nothing, scenario_of, script_of, taken, takes_node}
 use Rattle.scenarios.specs.Spelling.{IsMoment, IsScenario}
-use Rattle.scenarios.specs.Statements.{statement_of}
-use Rattle.scenarios.proofs.Sayings.{IsSaid, statement_has}
+use Rattle.scenarios.specs.Instructions.{instruction_of}
+use Rattle.scenarios.proofs.Sayings.{IsSaid, instruction_has}
 
 -- ---- what holds of the lines so far
 
@@ -29,7 +30,7 @@ lines_for None = 0
 lines_for (Some count) = 1
 
 record AreNodes (nodes : List Member) : Type 0 where
-  few : length nodes ≤ 64
+  few : length nodes ≤ MOST_NODES
   different : AllPairs (λ (m n : Member). m.id ≢ n.id) nodes
   numbers : All (λ (m : Member). m.id < 2 ^ 32) nodes
 
@@ -39,7 +40,7 @@ record AreActs (nodes : List Member) (acts : List Act) : Type 0 where
 
 -- Parts that come of at most so many lines.
 record AreParts (lines : ℕ) (witnesses : Option ℕ) (nodes : List Member) (acts : List Act) : Type 0 where
-  few : IfSome witnesses (λ (count : ℕ). (1 ≤ count) × (count ≤ 8))
+  few : IfSome witnesses (λ (count : ℕ). (1 ≤ count) × (count ≤ MOST_WITNESSES))
   are_nodes : AreNodes nodes
   are_acts : AreActs nodes acts
   short : lines_for witnesses + length nodes + length acts ≤ lines
@@ -63,7 +64,7 @@ more_lines lines more w nodes acts h is = record { few = is.few; are_nodes = is.
 
 -- ---- one line
 
-witnesses_come : (lines count : ℕ) (w : Option ℕ) (nodes : List Member) (acts : List Act) → not (is_some w) ≡ true → (1 ≤ count) × (count ≤ 8) → AreParts lines w nodes acts → AreParts (suc lines) (Some count) nodes acts
+witnesses_come : (lines count : ℕ) (w : Option ℕ) (nodes : List Member) (acts : List Act) → not (is_some w) ≡ true → (1 ≤ count) × (count ≤ MOST_WITNESSES) → AreParts lines w nodes acts → AreParts (suc lines) (Some count) nodes acts
 witnesses_come lines count (Some other) nodes acts none said is = absurd cc
 witnesses_come lines count None nodes acts none said is = record { few = said; are_nodes = is.are_nodes; are_acts = is.are_acts; short = omega (arith, is.short) }
 
@@ -73,7 +74,7 @@ apart nodes m new k d within same =
     let found = list_any_at (λ (n : Member). n.id == m.id) nodes k d within (eq-eqb (get_or nodes k d).id m.id same) in
     true≢false (sym found ∙ new)
 
-node_comes : (lines : ℕ) (m : Member) (w : Option ℕ) (nodes : List Member) (acts : List Act) → (length nodes < 64) × (acts ≡ []) × (is_listed nodes m.id ≡ false) → m.id < 2 ^ 32 → AreParts lines w nodes acts → AreParts (suc lines) w (nodes ++ m ∷ []) acts
+node_comes : (lines : ℕ) (m : Member) (w : Option ℕ) (nodes : List Member) (acts : List Act) → (length nodes < MOST_NODES) × (acts ≡ []) × (is_listed nodes m.id ≡ false) → m.id < 2 ^ 32 → AreParts lines w nodes acts → AreParts (suc lines) w (nodes ++ m ∷ []) acts
 node_comes lines m w nodes acts taken said is =
     let long : length (nodes ++ m ∷ []) ≡ length nodes + 1 = length-append nodes (m ∷ []) in
     record {
@@ -105,21 +106,21 @@ kept : (P : Draft → Type 0) (b : Bool) (d : Draft) → (b ≡ true → P d) �
 kept P true d h = h refl
 kept P false d h = tt
 
-parts_of : (d : Draft) (m : Member) → takes_node d m.id ≡ true → (length d.nodes < 64) × (d.acts ≡ []) × (is_listed d.nodes m.id ≡ false)
+parts_of : (d : Draft) (m : Member) → takes_node d m.id ≡ true → (length d.nodes < MOST_NODES) × (d.acts ≡ []) × (is_listed d.nodes m.id ≡ false)
 parts_of d m h =
-    let p = and_parts (is_some d.witnesses && ltb (length d.nodes) 64 && (length d.acts == 0)) (not (is_listed d.nodes m.id)) h in
-    let q = and_parts (is_some d.witnesses && ltb (length d.nodes) 64) (length d.acts == 0) p.0 in
-    let r = and_parts (is_some d.witnesses) (ltb (length d.nodes) 64) q.0 in
+    let p = and_parts (is_some d.witnesses && ltb (length d.nodes) MOST_NODES && (length d.acts == 0)) (not (is_listed d.nodes m.id)) h in
+    let q = and_parts (is_some d.witnesses && ltb (length d.nodes) MOST_NODES) (length d.acts == 0) p.0 in
+    let r = and_parts (is_some d.witnesses) (ltb (length d.nodes) MOST_NODES) q.0 in
     (ltb-true _ _ r.1, nil_from_length d.acts (eqb-true _ _ q.1), not-true _ p.1)
 
-statement_taken : (lines : ℕ) (d : Draft) (st : Statement) → IsDraft lines d → IsSaid st → IfOk (taken d st) (IsDraft (suc lines))
+instruction_taken : (lines : ℕ) (d : Draft) (st : Instruction) → IsDraft lines d → IsSaid st → IfOk (taken d st) (IsDraft (suc lines))
 unfolding taken
-statement_taken lines d (says.Witnesses count) is said = kept (IsDraft (suc lines)) _ _ (λ h. witnesses_come lines count d.witnesses d.nodes d.acts h said is)
-statement_taken lines d (says.Node m) is said = kept (IsDraft (suc lines)) _ _ (λ h. node_comes lines m d.witnesses d.nodes d.acts (parts_of d m h) said is)
-statement_taken lines d (says.Happens a) is said = kept (IsDraft (suc lines)) _ _ (λ h. act_comes lines a d.witnesses d.nodes d.acts h said is)
+instruction_taken lines d (says.Witnesses count) is said = kept (IsDraft (suc lines)) _ _ (λ h. witnesses_come lines count d.witnesses d.nodes d.acts h said is)
+instruction_taken lines d (says.Node m) is said = kept (IsDraft (suc lines)) _ _ (λ h. node_comes lines m d.witnesses d.nodes d.acts (parts_of d m h) said is)
+instruction_taken lines d (says.Happens a) is said = kept (IsDraft (suc lines)) _ _ (λ h. act_comes lines a d.witnesses d.nodes d.acts h said is)
 
-then : (lines : ℕ) (d : Draft) (r : Result Statement ScenarioFault) → IsDraft lines d → IfOk r IsSaid → IfOk (r >>= taken d) (IsDraft (suc lines))
-then lines d (Ok st) is said = statement_taken lines d st is said
+then : (lines : ℕ) (d : Draft) (r : Result Instruction ScenarioFault) → IsDraft lines d → IfOk r IsSaid → IfOk (r >>= taken d) (IsDraft (suc lines))
+then lines d (Ok st) is said = instruction_taken lines d st is said
 then lines d (Err fault) is said = tt
 
 skips : (lines : ℕ) (d : Draft) (b : Bool) (r : Result Draft ScenarioFault) → IsDraft lines d → IfOk r (IsDraft (suc lines)) → IfOk (cond b (Ok d) r) (IsDraft (suc lines))
@@ -128,7 +129,7 @@ skips lines d false r is next = next
 
 line_has : (lines : ℕ) (d : Draft) (line : List ℕ) → IsDraft lines d → IfOk (line_taken d line) (IsDraft (suc lines))
 unfolding line_taken
-line_has lines d line is = skips lines d (is_skipped line) (statement_of line >>= taken d) is (then lines d (statement_of line) is (statement_has line))
+line_has lines d line is = skips lines d (is_skipped line) (instruction_of line >>= taken d) is (then lines d (instruction_of line) is (instruction_has line))
 
 -- ---- all lines
 
@@ -145,7 +146,7 @@ lines_have lines most d (line ∷ left) h is =
 
 -- ---- the whole
 
-made : (most : ℕ) (w : Option ℕ) (nodes : List Member) (acts : List Act) → most ≤ 1000 → AreParts most w nodes acts → IfOk (completed w nodes acts) IsScenario
+made : (most : ℕ) (w : Option ℕ) (nodes : List Member) (acts : List Act) → most ≤ MOST_LINES → AreParts most w nodes acts → IfOk (completed w nodes acts) IsScenario
 made most None nodes acts few is = tt
 made most (Some count) [] acts few is = tt
 made most (Some count) (m ∷ ms) acts few is = record {
@@ -160,7 +161,7 @@ made most (Some count) (m ∷ ms) acts few is = record {
   short = omega (arith, is.short);
 }
 
-script_has : (lines : List (List ℕ)) → length lines ≤ 1000 → IfOk (script_of lines) IsScenario
+script_has : (lines : List (List ℕ)) → length lines ≤ MOST_LINES → IfOk (script_of lines) IsScenario
 unfolding script_of
 script_has lines few =
     goes_on (IsDraft (length lines)) IsScenario (lines_taken nothing lines) (λ (d : Draft). completed d.witnesses d.nodes d.acts)
@@ -173,5 +174,5 @@ pub found : (text : List ℕ) (s : Script) → scenario_of text ≡ Ok s → IsS
 unfolding scenario_of
 found text s h =
     let p = guard_true (is_readable text) BadScenario (script_of (lines_of text)) s h in
-    let few = and_parts (list_all (λ (byte : ℕ). ltb byte 128) text) (leb (length (lines_of text)) 1000) p.0 in
+    let few = and_parts (list_all (λ (byte : ℕ). ltb byte 128) text) (leb (length (lines_of text)) MOST_LINES) p.0 in
     at_ok (script_of (lines_of text)) s p.1 (script_has (lines_of text) (leb-true _ _ few.1))

@@ -7,18 +7,19 @@ use Rattle.std.specs.Str.{bytes_eq}
 use Rattle.std.specs.Str.Parse.{digits_value}
 use Rattle.std.proofs.lemmas.Bool.{leb-true}
 use Rattle.outcome.specs.Outcome.{◌>>=◌}
+use Rattle.scenarios.specs.declared.limits.TheConstants.{MOST_WITNESSES}
 use Rattle.scenarios.specs.declared.fault.ScenarioFault.{ScenarioFault}
 use Rattle.scenarios.specs.declared.fault.ScenarioFault.TheVariants.{BadScenario}
-use Rattle.scenarios.specs.declared.statement.Act.{Act}
-use Rattle.scenarios.specs.declared.statement.Act.TheVariants as act
-use Rattle.scenarios.specs.declared.statement.Kind.{Kind}
-use Rattle.scenarios.specs.declared.statement.Statement.{Statement}
-use Rattle.scenarios.specs.declared.statement.Statement.TheVariants as says
+use Rattle.scenarios.specs.declared.instruction.Act.{Act}
+use Rattle.scenarios.specs.declared.instruction.Act.TheVariants as act
+use Rattle.scenarios.specs.declared.instruction.Kind.{Kind}
+use Rattle.scenarios.specs.declared.instruction.Instruction.{Instruction}
+use Rattle.scenarios.specs.declared.instruction.Instruction.TheVariants as says
 use Rattle.scenarios.specs.Spelling.{IsMoment}
-use Rattle.scenarios.specs.Statements.{happening_of, id_of, kind_of, member_of, number_to, pair_of, said_of, statement_of, timer_of, triple_of, witnesses_of, words_of}
+use Rattle.scenarios.specs.Instructions.{happening_of, id_of, kind_of, member_of, number_to, pair_of, said_of, instruction_of, timer_of, triple_of, witnesses_of, words_of}
 
-abbrev pub IsSaid : Statement → Type 0
-IsSaid (says.Witnesses count) = (1 ≤ count) × (count ≤ 8)
+abbrev pub IsSaid : Instruction → Type 0
+IsSaid (says.Witnesses count) = (1 ≤ count) × (count ≤ MOST_WITNESSES)
 IsSaid (says.Node m) = m.id < 2 ^ 32
 IsSaid (says.Happens a) = IsMoment a
 
@@ -35,17 +36,17 @@ number_has most word = guarded (leb (digits_value 10 word) most) (bytes_eq (deci
 
 -- ---- lines
 
-some : (count : ℕ) (enough : Bool) → leb 1 count ≡ enough → count ≤ 8 → IfOk {E = ScenarioFault} (cond enough (Ok (says.Witnesses count)) (Err BadScenario)) IsSaid
+some : (count : ℕ) (enough : Bool) → leb 1 count ≡ enough → count ≤ MOST_WITNESSES → IfOk {E = ScenarioFault} (cond enough (Ok (says.Witnesses count)) (Err BadScenario)) IsSaid
 some count true h small = (leb-true 1 count h, small)
 some count false h small = tt
 
-counted : (r : Result ℕ ScenarioFault) → IfOk r (λ (n : ℕ). n ≤ 8) → IfOk (r >>= (λ (count : ℕ). cond (leb 1 count) (Ok (says.Witnesses count)) (Err BadScenario))) IsSaid
+counted : (r : Result ℕ ScenarioFault) → IfOk r (λ (n : ℕ). n ≤ MOST_WITNESSES) → IfOk (r >>= (λ (count : ℕ). cond (leb 1 count) (Ok (says.Witnesses count)) (Err BadScenario))) IsSaid
 counted (Ok count) h = some count (leb 1 count) refl h
 counted (Err fault) h = tt
 
 witnesses_has : (word : List ℕ) → IfOk (witnesses_of word) IsSaid
 unfolding witnesses_of
-witnesses_has word = counted (number_to 8 word) (number_has 8 word)
+witnesses_has word = counted (number_to MOST_WITNESSES word) (number_has MOST_WITNESSES word)
 
 member : (id : Result ℕ ScenarioFault) (kind : Result Kind ScenarioFault) → IfOk id (λ (n : ℕ). n ≤ 4294967295) → IfOk (id >>= (λ (i : ℕ). kind >>= (λ (k : Kind). Ok (says.Node (record { id = i; kind = k }))))) IsSaid
 member (Ok i) (Ok k) h = omega arith
@@ -73,11 +74,11 @@ happening_has : (happens : ℕ → Act) (word : List ℕ) → ((i : ℕ) → IsM
 unfolding happening_of
 happening_has happens word h = happening happens (id_of word) h
 
-either : (a : Bool) (x y : Result Statement ScenarioFault) → IfOk x IsSaid → IfOk y IsSaid → IfOk (cond a x y) IsSaid
+either : (a : Bool) (x y : Result Instruction ScenarioFault) → IfOk x IsSaid → IfOk y IsSaid → IfOk (cond a x y) IsSaid
 either true x y one two = one
 either false x y one two = two
 
-one_of_two : (a b : Bool) (x y : Result Statement ScenarioFault) → IfOk x IsSaid → IfOk y IsSaid → IfOk (cond a x (cond b y (Err BadScenario))) IsSaid
+one_of_two : (a b : Bool) (x y : Result Instruction ScenarioFault) → IfOk x IsSaid → IfOk y IsSaid → IfOk (cond a x (cond b y (Err BadScenario))) IsSaid
 one_of_two a b x y one two = either a x (cond b y (Err BadScenario)) one (either b y (Err BadScenario) two tt)
 
 pub pair_has : (verb word : List ℕ) → IfOk (pair_of verb word) IsSaid
@@ -98,6 +99,6 @@ said_has (verb ∷ word ∷ []) = pair_has verb word
 said_has (verb ∷ first ∷ second ∷ []) = triple_has verb first second
 said_has (verb ∷ first ∷ second ∷ third ∷ more) = tt
 
-pub statement_has : (line : List ℕ) → IfOk (statement_of line) IsSaid
-unfolding statement_of
-statement_has line = said_has (words_of line)
+pub instruction_has : (line : List ℕ) → IfOk (instruction_of line) IsSaid
+unfolding instruction_of
+instruction_has line = said_has (words_of line)

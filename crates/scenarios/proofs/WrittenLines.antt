@@ -12,17 +12,18 @@ use Rattle.std.proofs.lemmas.List.Splits.{slice_split_at, slice_split_none}
 use Rattle.std.proofs.lemmas.List.Sums.{AllPass-from_list_all, list_all-from_AllPass}
 use Rattle.std.proofs.lemmas.Str.Parse.{digit_at}
 use Rattle.outcome.specs.Outcome.{◌>>=◌}
+use Rattle.scenarios.specs.declared.limits.TheConstants.{MOST_WITNESSES}
 use Rattle.scenarios.specs.declared.fault.ScenarioFault.{ScenarioFault}
-use Rattle.scenarios.specs.declared.statement.Act.{Act}
-use Rattle.scenarios.specs.declared.statement.Act.TheVariants as act
-use Rattle.scenarios.specs.declared.statement.Kind.{Kind}
-use Rattle.scenarios.specs.declared.statement.Kind.TheVariants as kind
-use Rattle.scenarios.specs.declared.statement.Member.{Member}
-use Rattle.scenarios.specs.declared.statement.Statement.{Statement}
-use Rattle.scenarios.specs.declared.statement.Statement.TheVariants as says
+use Rattle.scenarios.specs.declared.instruction.Act.{Act}
+use Rattle.scenarios.specs.declared.instruction.Act.TheVariants as act
+use Rattle.scenarios.specs.declared.instruction.Kind.{Kind}
+use Rattle.scenarios.specs.declared.instruction.Kind.TheVariants as kind
+use Rattle.scenarios.specs.declared.instruction.Member.{Member}
+use Rattle.scenarios.specs.declared.instruction.Instruction.{Instruction}
+use Rattle.scenarios.specs.declared.instruction.Instruction.TheVariants as says
 use Rattle.scenarios.specs.Scenarios.{Draft, is_skipped, line_taken, node_of, taken}
 use Rattle.scenarios.specs.Spelling.{IsMoment, act_line, name_of, node_line, pair_line, triple_line}
-use Rattle.scenarios.specs.Statements.{happening_of, kind_of, member_of, number_to, pair_of, said_of, statement_of, timer_of, triple_of, witnesses_of, words_of}
+use Rattle.scenarios.specs.Instructions.{happening_of, kind_of, member_of, number_to, pair_of, said_of, instruction_of, timer_of, triple_of, witnesses_of, words_of}
 use Rattle.scenarios.proofs.Digits.{number_is}
 
 -- ---- words
@@ -105,16 +106,16 @@ three_words verb number word v n w = word_before verb (number ++ 32 ∷ word) (n
 
 -- ---- a text that is one line, which says something
 
-pub record IsLineOf (text : List ℕ) (st : Statement) : Type 0 where
+pub record IsLineOf (text : List ℕ) (st : Instruction) : Type 0 where
   pub line : List ℕ
   pub ends : (more : List ℕ) → text ++ more ≡ line ++ 10 ∷ more
   pub plain : is_line line ≡ true
   pub says : (d : Draft) → line_taken d line ≡ taken d st
 
-line_says : (line : List ℕ) (st : Statement) → is_skipped line ≡ false → statement_of line ≡ Ok st → (d : Draft) → line_taken d line ≡ taken d st
+line_says : (line : List ℕ) (st : Instruction) → is_skipped line ≡ false → instruction_of line ≡ Ok st → (d : Draft) → line_taken d line ≡ taken d st
 unfolding line_taken
 line_says line st not_skipped is d =
-    ap (λ (b : Bool). cond b (Ok d) (statement_of line >>= taken d)) not_skipped ∙ ap (λ (r : Result Statement ScenarioFault). r >>= taken d) is
+    ap (λ (b : Bool). cond b (Ok d) (instruction_of line >>= taken d)) not_skipped ∙ ap (λ (r : Result Instruction ScenarioFault). r >>= taken d) is
 
 pair_ends : (verb number more : List ℕ) → (verb ++ 32 ∷ number ++ 10 ∷ []) ++ more ≡ (verb ++ 32 ∷ number) ++ 10 ∷ more
 pair_ends verb number more = simp append_assoc
@@ -122,8 +123,8 @@ pair_ends verb number more = simp append_assoc
 triple_ends : (verb number word more : List ℕ) → (verb ++ 32 ∷ number ++ 32 ∷ word ++ 10 ∷ []) ++ more ≡ (verb ++ 32 ∷ (number ++ 32 ∷ word)) ++ 10 ∷ more
 triple_ends verb number word more = simp append_assoc
 
-pair_is : (verb : List ℕ) (number : ℕ) (st : Statement) → is_word verb ≡ true → ((more : List ℕ) → is_skipped (verb ++ more) ≡ false) → number < 2 ^ 64 → pair_of verb (decimal number) ≡ Ok st → IsLineOf (pair_line verb number) st
-unfolding statement_of
+pair_is : (verb : List ℕ) (number : ℕ) (st : Instruction) → is_word verb ≡ true → ((more : List ℕ) → is_skipped (verb ++ more) ≡ false) → number < 2 ^ 64 → pair_of verb (decimal number) ≡ Ok st → IsLineOf (pair_line verb number) st
+unfolding instruction_of
 pair_is verb number st v shown small is =
     let n = decimal_word number small in
     record {
@@ -133,8 +134,8 @@ pair_is verb number st v shown small is =
       says = line_says (verb ++ 32 ∷ decimal number) st (shown (32 ∷ decimal number)) (ap said_of (two_words verb (decimal number) v n) ∙ is);
     }
 
-triple_is : (verb : List ℕ) (number : ℕ) (word : List ℕ) (st : Statement) → is_word verb ≡ true → ((more : List ℕ) → is_skipped (verb ++ more) ≡ false) → number < 2 ^ 64 → is_word word ≡ true → triple_of verb (decimal number) word ≡ Ok st → IsLineOf (triple_line verb number word) st
-unfolding statement_of
+triple_is : (verb : List ℕ) (number : ℕ) (word : List ℕ) (st : Instruction) → is_word verb ≡ true → ((more : List ℕ) → is_skipped (verb ++ more) ≡ false) → number < 2 ^ 64 → is_word word ≡ true → triple_of verb (decimal number) word ≡ Ok st → IsLineOf (triple_line verb number word) st
+unfolding instruction_of
 triple_is verb number word st v shown small w is =
     let n = decimal_word number small in
     record {
@@ -146,14 +147,14 @@ triple_is verb number word st v shown small w is =
 
 -- ---- each kind of line
 
-counted : (word : List ℕ) (count : ℕ) → number_to 8 word ≡ Ok count → 1 ≤ count → witnesses_of word ≡ Ok (says.Witnesses count)
+counted : (word : List ℕ) (count : ℕ) → number_to MOST_WITNESSES word ≡ Ok count → 1 ≤ count → witnesses_of word ≡ Ok (says.Witnesses count)
 unfolding witnesses_of
 counted word count is some = rw (is, le-leb 1 count some) refl
 
-pub witnesses_written : (count : ℕ) → 1 ≤ count → count ≤ 8 → IsLineOf (pair_line (codes "witnesses") count) (says.Witnesses count)
+pub witnesses_written : (count : ℕ) → 1 ≤ count → count ≤ MOST_WITNESSES → IsLineOf (pair_line (codes "witnesses") count) (says.Witnesses count)
 unfolding pair_of
 witnesses_written count some few =
-    pair_is (codes "witnesses") count (says.Witnesses count) refl (λ more. refl) (omega arith) (counted (decimal count) count (number_read 8 count few (omega arith)) some)
+    pair_is (codes "witnesses") count (says.Witnesses count) refl (λ more. refl) (omega arith) (counted (decimal count) count (number_read MOST_WITNESSES count few (omega arith)) some)
 
 listed : (first second : List ℕ) (m : Member) → number_to 4294967295 first ≡ Ok m.id → kind_of second ≡ Ok m.kind → member_of first second ≡ Ok (says.Node m)
 unfolding member_of

@@ -10,10 +10,11 @@ use Rattle.std.proofs.lemmas.List.Folds.{Any-from_list_any, list_all-append, lis
 use Rattle.std.proofs.lemmas.List.Splits.{slice_split_at}
 use Rattle.std.proofs.lemmas.List.Sums.{AllPass-from_list_all, list_all-from_AllPass}
 use Rattle.std.proofs.Math.Seq.{get_or-append_seam}
-use Rattle.scenarios.specs.declared.statement.Act.{Act}
-use Rattle.scenarios.specs.declared.statement.Member.{Member}
-use Rattle.scenarios.specs.declared.statement.Statement.{Statement}
-use Rattle.scenarios.specs.declared.statement.Statement.TheVariants as says
+use Rattle.scenarios.specs.declared.limits.TheConstants.{MOST_LINES, MOST_NODES}
+use Rattle.scenarios.specs.declared.instruction.Act.{Act}
+use Rattle.scenarios.specs.declared.instruction.Member.{Member}
+use Rattle.scenarios.specs.declared.instruction.Instruction.{Instruction}
+use Rattle.scenarios.specs.declared.instruction.Instruction.TheVariants as says
 use Rattle.scenarios.specs.Scenarios.{Draft, Script, completed, is_listed, is_readable, line_taken, lines_of, lines_taken, node_of, nothing, scenario_of, taken, takes_node}
 use Rattle.scenarios.specs.Spelling.{IsMoment, IsScenario, act_line, node_line, pair_line, text_of}
 use Rattle.scenarios.proofs.LineSteps.{lines_end, lines_go, readable, script_is}
@@ -62,7 +63,7 @@ line_more d next e line rest n most fits h go is =
       taken = ap (lines_taken d) first ∙ lines_go d next line (lines_of rest) go ∙ is.taken;
     }
 
-said_more : (d next e : Draft) (text rest : List ℕ) (n most : ℕ) (st : Statement) → n + 1 ≤ most → IsLineOf text st → taken d st ≡ Ok next → AreTaken next rest n e → AreTaken d (text ++ rest) most e
+said_more : (d next e : Draft) (text rest : List ℕ) (n most : ℕ) (st : Instruction) → n + 1 ≤ most → IsLineOf text st → taken d st ≡ Ok next → AreTaken next rest n e → AreTaken d (text ++ rest) most e
 said_more d next e text rest n most st fits line go is =
     subst (λ (whole : List ℕ). AreTaken d whole most e) (sym (line.ends rest)) (line_more d next e line.line rest n most fits line.plain (line.says d ∙ go) is)
 
@@ -94,10 +95,10 @@ apart before m after h k d within =
     let other : (get_or (before ++ m ∷ after) k d).id ≢ (get_or (before ++ m ∷ after) (length before) d).id = h k (length before) d within (omega arith) in
     ne_eqb (get_or before k d).id m.id (λ e. other (ap (λ (n : Member). n.id) here ∙ e ∙ sym (ap (λ (n : Member). n.id) there)))
 
-takes : (count : ℕ) (before : List Member) (m : Member) (after : List Member) → length before < 64 → AllPairs (λ (m n : Member). m.id ≢ n.id) (before ++ m ∷ after) → takes_node (draft count before []) m.id ≡ true
+takes : (count : ℕ) (before : List Member) (m : Member) (after : List Member) → length before < MOST_NODES → AllPairs (λ (m n : Member). m.id ≢ n.id) (before ++ m ∷ after) → takes_node (draft count before []) m.id ≡ true
 takes count before m after room different =
     let new : is_listed before m.id ≡ false = list_any_none (λ (n : Member). n.id == m.id) before (apart before m after different) in
-    rw (lt-ltb (length before) 64 room, new) refl
+    rw (lt-ltb (length before) MOST_NODES room, new) refl
 
 abbrev differ : List Member → Type 0
 differ nodes = AllPairs (λ (m n : Member). m.id ≢ n.id) nodes
@@ -105,7 +106,7 @@ differ nodes = AllPairs (λ (m n : Member). m.id ≢ n.id) nodes
 abbrev fit : List Member → Type 0
 fit nodes = All (λ (m : Member). m.id < 2 ^ 32) nodes
 
-nodes_taken : (count : ℕ) (before after : List Member) (rest : List ℕ) (n most : ℕ) (e : Draft) → length before + length after ≤ 64 → n + length after ≤ most → differ (before ++ after) → fit after → AreTaken (draft count (before ++ after) []) rest n e → AreTaken (draft count before []) (flat_map node_line after ++ rest) most e
+nodes_taken : (count : ℕ) (before after : List Member) (rest : List ℕ) (n most : ℕ) (e : Draft) → length before + length after ≤ MOST_NODES → n + length after ≤ most → differ (before ++ after) → fit after → AreTaken (draft count (before ++ after) []) rest n e → AreTaken (draft count before []) (flat_map node_line after ++ rest) most e
 nodes_taken count before [] rest n most e room fits different small is =
     let whole = subst (λ (nodes : List Member). AreTaken (draft count nodes []) rest n e) (append-nil before) is in
     record { ascii = whole.ascii; count = omega (arith, whole.count); taken = whole.taken }
@@ -146,14 +147,14 @@ acts_taken count nodes before (a ∷ after) most fits small listed moments =
 
 -- ---- the whole text
 
-all_taken : (s : Script) → IsScenario s → AreTaken nothing (text_of s) 1000 (draft s.witnesses s.nodes s.acts)
+all_taken : (s : Script) → IsScenario s → AreTaken nothing (text_of s) MOST_LINES (draft s.witnesses s.nodes s.acts)
 unfolding text_of
 all_taken s is =
     let acts = acts_taken s.witnesses s.nodes [] s.acts (length s.acts) (omega arith) is.numbers is.listed is.moments in
     let nodes = nodes_taken s.witnesses [] s.nodes (flat_map act_line s.acts) (length s.acts) (length s.acts + length s.nodes) (draft s.witnesses s.nodes s.acts) (omega (arith, is.few_nodes)) (omega arith) is.different is.numbers acts in
     let first = witnesses_written s.witnesses is.some_witnesses is.few_witnesses in
-    let whole = said_more nothing (draft s.witnesses [] []) (draft s.witnesses s.nodes s.acts) (pair_line (codes "witnesses") s.witnesses) (flat_map node_line s.nodes ++ flat_map act_line s.acts) (length s.acts + length s.nodes) 1000 (says.Witnesses s.witnesses) (omega (arith, is.short)) first (begins s.witnesses) nodes in
-    subst (λ (text : List ℕ). AreTaken nothing text 1000 (draft s.witnesses s.nodes s.acts)) (sym (append_assoc (pair_line (codes "witnesses") s.witnesses) (flat_map node_line s.nodes) (flat_map act_line s.acts))) whole
+    let whole = said_more nothing (draft s.witnesses [] []) (draft s.witnesses s.nodes s.acts) (pair_line (codes "witnesses") s.witnesses) (flat_map node_line s.nodes ++ flat_map act_line s.acts) (length s.acts + length s.nodes) MOST_LINES (says.Witnesses s.witnesses) (omega (arith, is.short)) first (begins s.witnesses) nodes in
+    subst (λ (text : List ℕ). AreTaken nothing text MOST_LINES (draft s.witnesses s.nodes s.acts)) (sym (append_assoc (pair_line (codes "witnesses") s.witnesses) (flat_map node_line s.nodes) (flat_map act_line s.acts))) whole
 
 complete : (count : ℕ) (nodes : List Member) (acts : List Act) → 1 ≤ length nodes → completed (Some count) nodes acts ≡ Ok (record { witnesses = count; nodes = nodes; acts = acts })
 complete count [] acts some = absurd (omega arith)
@@ -162,5 +163,5 @@ complete count (m ∷ ms) acts some = refl
 pub only : (s : Script) → IsScenario s → scenario_of (text_of s) ≡ Ok s
 only s is =
     let all = all_taken s is in
-    let fits : is_readable (text_of s) ≡ true = and_from (list_all (λ (byte : ℕ). ltb byte 128) (text_of s)) (leb (length (lines_of (text_of s))) 1000) all.ascii (le-leb _ _ all.count) in
+    let fits : is_readable (text_of s) ≡ true = and_from (list_all (λ (byte : ℕ). ltb byte 128) (text_of s)) (leb (length (lines_of (text_of s))) MOST_LINES) all.ascii (le-leb _ _ all.count) in
     readable (text_of s) fits ∙ script_is (lines_of (text_of s)) (draft s.witnesses s.nodes s.acts) all.taken ∙ complete s.witnesses s.nodes s.acts is.some_nodes

@@ -1,5 +1,5 @@
 pub mod Refusals
 pub mod Scenarios
 pub mod Spelling
-pub mod Statements
+pub mod Instructions
 pub mod within

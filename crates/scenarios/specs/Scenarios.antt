@@ -4,12 +4,13 @@ use Rattle.std.specs.List.{list_all, list_any, slice_split}
 use Rattle.outcome.specs.Outcome.{◌>>=◌}
 use Rattle.scenarios.specs.declared.fault.ScenarioFault.{ScenarioFault}
 use Rattle.scenarios.specs.declared.fault.ScenarioFault.TheVariants.{BadScenario}
-use Rattle.scenarios.specs.declared.statement.Act.{Act}
-use Rattle.scenarios.specs.declared.statement.Act.TheVariants as act
-use Rattle.scenarios.specs.declared.statement.Member.{Member}
-use Rattle.scenarios.specs.declared.statement.Statement.{Statement}
-use Rattle.scenarios.specs.declared.statement.Statement.TheVariants as says
-use Rattle.scenarios.specs.Statements.{statement_of}
+use Rattle.scenarios.specs.declared.instruction.Act.{Act}
+use Rattle.scenarios.specs.declared.instruction.Act.TheVariants as act
+use Rattle.scenarios.specs.declared.instruction.Member.{Member}
+use Rattle.scenarios.specs.declared.instruction.Instruction.{Instruction}
+use Rattle.scenarios.specs.declared.instruction.Instruction.TheVariants as says
+use Rattle.scenarios.specs.declared.limits.TheConstants.{MOST_LINES, MOST_NODES}
+use Rattle.scenarios.specs.Instructions.{instruction_of}
 
 -- A scenario: how many witnesses there are, the nodes, and what happens to them, in order.
 pub record Script : Type 0 where
@@ -58,19 +59,19 @@ is_listed nodes id = list_any (λ m. m.id == id) nodes
 abbrev pub has_no_line : Draft → Bool
 has_no_line d = not (is_some d.witnesses)
 
--- Then the nodes, at most 64 and each once, before anything happens.
+-- Then the nodes, at most `MOST_NODES` and each once, before anything happens.
 abbrev pub takes_node : Draft → ℕ → Bool
-takes_node d id = is_some d.witnesses && nat_lt (length d.nodes) 64 && (length d.acts == 0) && not (is_listed d.nodes id)
+takes_node d id = is_some d.witnesses && nat_lt (length d.nodes) MOST_NODES && (length d.acts == 0) && not (is_listed d.nodes id)
 
 -- Then what happens, to listed nodes.
-unfoldable pub taken : Draft → Statement → Result Draft ScenarioFault
+unfoldable pub taken : Draft → Instruction → Result Draft ScenarioFault
 taken d (says.Witnesses count) = if has_no_line d then Ok (record d { witnesses = Some count }) else Err BadScenario
 taken d (says.Node m) = if takes_node d m.id then Ok (record d { nodes = d.nodes ++ m ∷ [] }) else Err BadScenario
 taken d (says.Happens a) = if is_listed d.nodes (node_of a) then Ok (record d { acts = d.acts ++ a ∷ [] }) else Err BadScenario
 
 -- A line, after those that were read.
 unfoldable pub line_taken : Draft → List ℕ → Result Draft ScenarioFault
-line_taken d line = if is_skipped line then Ok d else (statement_of line >>= taken d)
+line_taken d line = if is_skipped line then Ok d else (instruction_of line >>= taken d)
 
 unfoldable pub lines_taken : Draft → List (List ℕ) → Result Draft ScenarioFault
 lines_taken d [] = Ok d
@@ -86,9 +87,9 @@ completed (Some count) (m ∷ ms) acts = Ok (record { witnesses = count; nodes =
 
 -- ---- the text
 
--- Bytes below 128, in at most 1,000 lines, skipped ones counted.
+-- Bytes below 128, in at most `MOST_LINES` lines, skipped ones counted.
 abbrev pub is_readable : List ℕ → Bool
-is_readable text = list_all (λ byte. nat_lt byte 128) text && nat_le (length (lines_of text)) 1000
+is_readable text = list_all (λ byte. nat_lt byte 128) text && nat_le (length (lines_of text)) MOST_LINES
 
 -- What the lines of a text say, all of them.
 unfoldable pub script_of : List (List ℕ) → Result Script ScenarioFault

@@ -1,11 +1,12 @@
 -- How a scenario is written, and which scenarios texts have.
 use Rattle.std.specs.Prelude.{◌≡◌, ◌≢◌, ◌<◌, ◌≤◌, ◌+◌, ◌^◌, ℕ, List, ◌∷◌, ◌++◌, [], length, IsTrue, Ok, codes, decimal}
 use Rattle.std.specs.List.{All, AllPairs, flat_map}
-use Rattle.scenarios.specs.declared.statement.Act.{Act}
-use Rattle.scenarios.specs.declared.statement.Act.TheVariants as act
-use Rattle.scenarios.specs.declared.statement.Kind.{Kind}
-use Rattle.scenarios.specs.declared.statement.Kind.TheVariants as kind
-use Rattle.scenarios.specs.declared.statement.Member.{Member}
+use Rattle.scenarios.specs.declared.instruction.Act.{Act}
+use Rattle.scenarios.specs.declared.instruction.Act.TheVariants as act
+use Rattle.scenarios.specs.declared.instruction.Kind.{Kind}
+use Rattle.scenarios.specs.declared.instruction.Kind.TheVariants as kind
+use Rattle.scenarios.specs.declared.instruction.Member.{Member}
+use Rattle.scenarios.specs.declared.limits.TheConstants.{MOST_LINES, MOST_NODES, MOST_WITNESSES}
 use Rattle.scenarios.specs.Scenarios.{Script, is_listed, node_of, scenario_of}
 
 -- ---- what a scenario is
@@ -17,18 +18,18 @@ IsMoment (act.Checkpoint node) = Unit {0}
 IsMoment (act.Audit node) = Unit {0}
 IsMoment (act.Rekey node) = Unit {0}
 
--- From 1 to 8 witnesses; from 1 to 64 nodes with different numbers of 32 bits; what happens, happens to a listed node; and a line
+-- From 1 to `MOST_WITNESSES` witnesses; from 1 to `MOST_NODES` nodes with different numbers of 32 bits; what happens, happens to a listed node; and a line
 -- for each finds room in a text.
 pub record IsScenario (s : Script) : Type 0 where
   pub some_witnesses : 1 ≤ s.witnesses
-  pub few_witnesses : s.witnesses ≤ 8
+  pub few_witnesses : s.witnesses ≤ MOST_WITNESSES
   pub some_nodes : 1 ≤ length s.nodes
-  pub few_nodes : length s.nodes ≤ 64
+  pub few_nodes : length s.nodes ≤ MOST_NODES
   pub different : AllPairs (λ m n. m.id ≢ n.id) s.nodes
   pub numbers : All (λ m. m.id < 2 ^ 32) s.nodes
   pub listed : All (λ a. IsTrue (is_listed s.nodes (node_of a))) s.acts
   pub moments : All IsMoment s.acts
-  pub short : 1 + length s.nodes + length s.acts ≤ 1000
+  pub short : 1 + length s.nodes + length s.acts ≤ MOST_LINES
 
 -- ---- its text
 

@@ -3,19 +3,17 @@
 ghost use Rattle.std.specs.Prelude.{◌≡◌, IfErr, OnOk, Ok};
 ghost use Rattle.outcome.specs.Outcome.{Fails, Gives};
 ghost use Rattle.scenarios.specs.declared.fault.ScenarioFault.TheVariants.{Memory};
-ghost use Rattle.scenarios.specs.declared.statement.Statement.TheVariants as says;
+ghost use Rattle.scenarios.specs.declared.instruction.Instruction.TheVariants as says;
 ghost use Rattle.scenarios.specs.Scenarios.{is_listed, line_taken, lines_of, lines_taken, nothing, taken, takes_node};
 
 use crate::fault::ScenarioFault;
+use crate::instruction::{Act, Instruction, Member};
+use crate::instructions::instruction_of;
+use crate::limits::MOST_NODES;
 use crate::lines::{first_line, is_skipped};
-use crate::statement::{Act, Member, Statement};
-use crate::statements::statement_of;
 use authenticators::NodeId;
 use std::alloc::Global;
 use std::marker::Model;
-
-/// The most nodes.
-const MOST_NODES: usize = 64;
 
 /// What was read of a scenario so far.
 #[derive(Debug, Drop)]
@@ -100,14 +98,14 @@ impl Draft {
     }
 
     /// Takes what a line says.
-    fn take(&mut self, statement: Statement) -> Result<(), ScenarioFault>
-        ensures done { OnOk result (taken self.old statement ≡ Ok self.new) }
-        ensures refused { IfErr result (λ f. Fails Memory f (taken self.old statement)) }
+    fn take(&mut self, instruction: Instruction) -> Result<(), ScenarioFault>
+        ensures done { OnOk result (taken self.old instruction ≡ Ok self.new) }
+        ensures refused { IfErr result (λ f. Fails Memory f (taken self.old instruction)) }
     {
-        match statement {
-            Statement::Witnesses(count) => self.take_witnesses(count),
-            Statement::Node(member) => self.take_node(member),
-            Statement::Happens(act) => self.take_act(act),
+        match instruction {
+            Instruction::Witnesses(count) => self.take_witnesses(count),
+            Instruction::Node(member) => self.take_node(member),
+            Instruction::Happens(act) => self.take_act(act),
         }
     }
 
@@ -120,7 +118,7 @@ impl Draft {
         if is_skipped(line) {
             return Ok(());
         }
-        self.take(statement_of(line)?)
+        self.take(instruction_of(line)?)
     }
 
     /// What the lines of a text say.

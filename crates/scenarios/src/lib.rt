@@ -8,14 +8,15 @@
 
 pub use authenticators::NodeId;
 pub use fault::ScenarioFault;
+pub use instruction::{Act, Kind, Member};
 pub use scenario::Scenario;
-pub use statement::{Act, Kind, Member};
 
 mod draft;
 mod fault;
+mod instruction;
+mod instructions;
 pub mod laws;
+mod limits;
 mod lines;
 mod numbers;
 mod scenario;
-mod statement;
-mod statements;

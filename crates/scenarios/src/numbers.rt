@@ -1,7 +1,7 @@
 //! Numbers in decimal digits.
 
 ghost use Rattle.std.specs.Prelude.{◌≡◌, IfOk, ◌≤◌};
-ghost use Rattle.scenarios.specs.Statements.{number_to};
+ghost use Rattle.scenarios.specs.Instructions.{number_to};
 ghost use Rattle.scenarios.specs.within.Numbers.{IsRead, is_plain};
 
 use crate::fault::ScenarioFault;

@@ -8,13 +8,11 @@ ghost use Rattle.scenarios.specs.Scenarios.{completed, is_readable, scenario_of}
 
 use crate::draft::Draft;
 use crate::fault::ScenarioFault;
+use crate::instruction::{Act, Member};
+use crate::limits::MOST_LINES;
 use crate::lines::line_count;
-use crate::statement::{Act, Member};
 use std::alloc::Global;
 use std::marker::Model;
-
-/// The most lines, skipped ones counted.
-const MOST_LINES: usize = 1_000;
 
 /// What nodes and witnesses do. A contract sees how many witnesses there are, the nodes, and what happens.
 #[derive(Debug, Drop)]

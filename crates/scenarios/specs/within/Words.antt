@@ -3,7 +3,7 @@ use Rattle.std.specs.Prelude.{◌≡◌, ℕ, List, [], ◌∷◌, Option, Some,
 use Rattle.scenarios.specs.declared.fault.ScenarioFault.TheVariants.{BadScenario}
 use Rattle.scenarios.specs.declared.lines.Words.{Words}
 use Rattle.scenarios.specs.declared.lines.Words.TheVariants as words
-use Rattle.scenarios.specs.Statements.{said_of, words_of}
+use Rattle.scenarios.specs.Instructions.{said_of, words_of}
 
 -- The words that were found are those of the line; where none were, these say nothing.
 abbrev pub AreWords : Option Words → List ℕ → Type 0

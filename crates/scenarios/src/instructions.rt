@@ -1,16 +1,14 @@
 //! Reading what a line says. No call here takes memory.
 
 ghost use Rattle.std.specs.Prelude.{◌≡◌};
-ghost use Rattle.scenarios.specs.Statements.{id_of, kind_of, member_of, pair_of, statement_of, timer_of, triple_of, witnesses_of};
+ghost use Rattle.scenarios.specs.Instructions.{id_of, kind_of, member_of, pair_of, instruction_of, timer_of, triple_of, witnesses_of};
 
 use crate::fault::ScenarioFault;
+use crate::instruction::{Act, Instruction, Kind, Member};
+use crate::limits::MOST_WITNESSES;
 use crate::lines::{Words, words_of};
 use crate::numbers::number_to;
-use crate::statement::{Act, Kind, Member, Statement};
 use authenticators::NodeId;
-
-/// The most witnesses.
-const MOST_WITNESSES: u8 = 8;
 
 /// A node's number.
 fn id_of(word: &[u8]) -> Result<NodeId, ScenarioFault>
@@ -20,7 +18,7 @@ fn id_of(word: &[u8]) -> Result<NodeId, ScenarioFault>
     Ok(NodeId(number as u32))
 }
 
-#[tactic(auto, unfolding(crate::specs::Statements::kind_of))]
+#[tactic(auto, unfolding(crate::specs::Instructions::kind_of))]
 fn kind_of(word: &[u8]) -> Result<Kind, ScenarioFault>
     ensures { result ≡ kind_of word.now }
 {
@@ -37,59 +35,59 @@ fn kind_of(word: &[u8]) -> Result<Kind, ScenarioFault>
     }
 }
 
-#[tactic(auto, unfolding(crate::specs::Statements::witnesses_of))]
-fn witnesses_of(word: &[u8]) -> Result<Statement, ScenarioFault>
+#[tactic(auto, unfolding(crate::specs::Instructions::witnesses_of))]
+fn witnesses_of(word: &[u8]) -> Result<Instruction, ScenarioFault>
     ensures { result ≡ witnesses_of word.now }
 {
     let count = number_to(u64::from(MOST_WITNESSES), word)?;
     if count < 1 {
         return Err(ScenarioFault::BadScenario);
     }
-    Ok(Statement::Witnesses(count as u8))
+    Ok(Instruction::Witnesses(count as u8))
 }
 
-#[tactic(auto, unfolding(crate::specs::Statements::member_of))]
-fn member_of(first: &[u8], second: &[u8]) -> Result<Statement, ScenarioFault>
+#[tactic(auto, unfolding(crate::specs::Instructions::member_of))]
+fn member_of(first: &[u8], second: &[u8]) -> Result<Instruction, ScenarioFault>
     ensures { result ≡ member_of first.now second.now }
 {
     let id = id_of(first)?;
     let kind = kind_of(second)?;
-    Ok(Statement::Node(Member { id, kind }))
+    Ok(Instruction::Node(Member { id, kind }))
 }
 
-#[tactic(auto, unfolding(crate::specs::Statements::timer_of))]
-fn timer_of(first: &[u8], second: &[u8]) -> Result<Statement, ScenarioFault>
+#[tactic(auto, unfolding(crate::specs::Instructions::timer_of))]
+fn timer_of(first: &[u8], second: &[u8]) -> Result<Instruction, ScenarioFault>
     ensures { result ≡ timer_of first.now second.now }
 {
     let node = id_of(first)?;
     let moment = number_to(u64::MAX, second)?;
-    Ok(Statement::Happens(Act::Timer { node, moment }))
+    Ok(Instruction::Happens(Act::Timer { node, moment }))
 }
 
 /// What two words say.
-#[tactic(auto, unfolding(crate::specs::Statements::pair_of, crate::specs::Statements::happening_of))]
-fn pair_of(verb: &[u8], word: &[u8]) -> Result<Statement, ScenarioFault>
+#[tactic(auto, unfolding(crate::specs::Instructions::pair_of, crate::specs::Instructions::happening_of))]
+fn pair_of(verb: &[u8], word: &[u8]) -> Result<Instruction, ScenarioFault>
     ensures { result ≡ pair_of verb.now word.now }
 {
     if verb == b"witnesses".as_slice() {
         witnesses_of(word)
     } else if verb == b"checkpoint".as_slice() {
         let node = id_of(word)?;
-        Ok(Statement::Happens(Act::Checkpoint { node }))
+        Ok(Instruction::Happens(Act::Checkpoint { node }))
     } else if verb == b"audit".as_slice() {
         let node = id_of(word)?;
-        Ok(Statement::Happens(Act::Audit { node }))
+        Ok(Instruction::Happens(Act::Audit { node }))
     } else if verb == b"rekey".as_slice() {
         let node = id_of(word)?;
-        Ok(Statement::Happens(Act::Rekey { node }))
+        Ok(Instruction::Happens(Act::Rekey { node }))
     } else {
         Err(ScenarioFault::BadScenario)
     }
 }
 
 /// What three words say.
-#[tactic(auto, unfolding(crate::specs::Statements::triple_of))]
-fn triple_of(verb: &[u8], first: &[u8], second: &[u8]) -> Result<Statement, ScenarioFault>
+#[tactic(auto, unfolding(crate::specs::Instructions::triple_of))]
+fn triple_of(verb: &[u8], first: &[u8], second: &[u8]) -> Result<Instruction, ScenarioFault>
     ensures { result ≡ triple_of verb.now first.now second.now }
 {
     if verb == b"node".as_slice() {
@@ -102,9 +100,9 @@ fn triple_of(verb: &[u8], first: &[u8], second: &[u8]) -> Result<Statement, Scen
 }
 
 /// What the line says.
-#[tactic(auto, unfolding(crate::specs::Statements::statement_of))]
-pub(crate) fn statement_of(line: &[u8]) -> Result<Statement, ScenarioFault>
-    ensures { result ≡ statement_of line.now }
+#[tactic(auto, unfolding(crate::specs::Instructions::instruction_of))]
+pub(crate) fn instruction_of(line: &[u8]) -> Result<Instruction, ScenarioFault>
+    ensures { result ≡ instruction_of line.now }
 {
     match words_of(line) {
         Some(Words::Two(verb, word)) => pair_of(verb, word),

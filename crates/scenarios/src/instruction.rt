@@ -53,7 +53,7 @@ pub enum Act {
 
 /// What a line says.
 #[derive(Clone, Copy, Debug)]
-pub(crate) enum Statement {
+pub(crate) enum Instruction {
     /// How many witnesses there are.
     Witnesses(u8),
     /// A node.

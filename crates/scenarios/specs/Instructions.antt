@@ -6,12 +6,13 @@ use Rattle.std.specs.Str.Parse.{digits_value}
 use Rattle.outcome.specs.Outcome.{◌>>=◌}
 use Rattle.scenarios.specs.declared.fault.ScenarioFault.{ScenarioFault}
 use Rattle.scenarios.specs.declared.fault.ScenarioFault.TheVariants.{BadScenario}
-use Rattle.scenarios.specs.declared.statement.Act.{Act}
-use Rattle.scenarios.specs.declared.statement.Act.TheVariants as act
-use Rattle.scenarios.specs.declared.statement.Kind.{Kind}
-use Rattle.scenarios.specs.declared.statement.Kind.TheVariants as kind
-use Rattle.scenarios.specs.declared.statement.Statement.{Statement}
-use Rattle.scenarios.specs.declared.statement.Statement.TheVariants as says
+use Rattle.scenarios.specs.declared.instruction.Act.{Act}
+use Rattle.scenarios.specs.declared.instruction.Act.TheVariants as act
+use Rattle.scenarios.specs.declared.instruction.Kind.{Kind}
+use Rattle.scenarios.specs.declared.instruction.Kind.TheVariants as kind
+use Rattle.scenarios.specs.declared.instruction.Instruction.{Instruction}
+use Rattle.scenarios.specs.declared.instruction.Instruction.TheVariants as says
+use Rattle.scenarios.specs.declared.limits.TheConstants.{MOST_WITNESSES}
 
 -- ---- words
 
@@ -39,34 +40,34 @@ kind_of word =
 
 -- ---- lines
 
--- `witnesses W`, from 1 to 8.
-unfoldable pub witnesses_of : List ℕ → Result Statement ScenarioFault
+-- `witnesses W`, from 1 to `MOST_WITNESSES`.
+unfoldable pub witnesses_of : List ℕ → Result Instruction ScenarioFault
 witnesses_of word = do
-  count ← number_to 8 word
+  count ← number_to MOST_WITNESSES word
   if nat_le 1 count then Ok (says.Witnesses count) else Err BadScenario
 
 -- `node ID KIND`.
-unfoldable pub member_of : List ℕ → List ℕ → Result Statement ScenarioFault
+unfoldable pub member_of : List ℕ → List ℕ → Result Instruction ScenarioFault
 member_of first second = do
   id ← id_of first
   kind ← kind_of second
   Ok (says.Node (record { id = id; kind = kind }))
 
 -- `timer ID M`, with a moment of 64 bits.
-unfoldable pub timer_of : List ℕ → List ℕ → Result Statement ScenarioFault
+unfoldable pub timer_of : List ℕ → List ℕ → Result Instruction ScenarioFault
 timer_of first second = do
   node ← id_of first
   moment ← number_to 18446744073709551615 second
   Ok (says.Happens (act.Timer node moment))
 
 -- `checkpoint ID`, `audit ID` and `rekey ID`.
-unfoldable pub happening_of : (ℕ → Act) → List ℕ → Result Statement ScenarioFault
+unfoldable pub happening_of : (ℕ → Act) → List ℕ → Result Instruction ScenarioFault
 happening_of happens word = do
   node ← id_of word
   Ok (says.Happens (happens node))
 
 -- What two words say.
-unfoldable pub pair_of : List ℕ → List ℕ → Result Statement ScenarioFault
+unfoldable pub pair_of : List ℕ → List ℕ → Result Instruction ScenarioFault
 pair_of verb word =
     if bytes_eq verb (codes "witnesses") then witnesses_of word
     else if bytes_eq verb (codes "checkpoint") then happening_of act.Checkpoint word
@@ -75,14 +76,14 @@ pair_of verb word =
     else Err BadScenario
 
 -- What three words say.
-unfoldable pub triple_of : List ℕ → List ℕ → List ℕ → Result Statement ScenarioFault
+unfoldable pub triple_of : List ℕ → List ℕ → List ℕ → Result Instruction ScenarioFault
 triple_of verb first second =
     if bytes_eq verb (codes "node") then member_of first second
     else if bytes_eq verb (codes "timer") then timer_of first second
     else Err BadScenario
 
 -- What words say. No other number of them says anything.
-abbrev pub said_of : List (List ℕ) → Result Statement ScenarioFault
+abbrev pub said_of : List (List ℕ) → Result Instruction ScenarioFault
 said_of [] = Err BadScenario
 said_of (verb ∷ []) = Err BadScenario
 said_of (verb ∷ word ∷ []) = pair_of verb word
@@ -90,5 +91,5 @@ said_of (verb ∷ first ∷ second ∷ []) = triple_of verb first second
 said_of (verb ∷ first ∷ second ∷ third ∷ more) = Err BadScenario
 
 -- What a line says.
-unfoldable pub statement_of : List ℕ → Result Statement ScenarioFault
-statement_of line = said_of (words_of line)
+unfoldable pub instruction_of : List ℕ → Result Instruction ScenarioFault
+instruction_of line = said_of (words_of line)
