@@ -78,6 +78,19 @@ fn check_tells_write<H: Threads + Wait + Sync>(
     Ok(answer == Err(Fault::WriteFailed))
 }
 
+/// Whether `check` tells whom a proof convicts where the read of this number, of one byte each, is interrupted.
+fn check_reads_on<H: Threads + Wait + Sync>(
+    rt: &H,
+    alloc: Global,
+    number: u64,
+) -> Result<bool, Fail> {
+    let (_, first, second) = statements();
+    let input = two_statements(alloc, first, second)?;
+    let reader = Scripted::new(input.as_slice(), 1, number, io::ErrorKind::Interrupted);
+    let (answer, written) = outcome(rt, alloc, Task::Check, reader);
+    Ok(answer == Ok(()) && written.as_slice() == b"exposes 7\n".as_slice())
+}
+
 #[test]
 fn each_read_may_fail(rt: HostRuntime) {
     let input = no_statements();
@@ -126,6 +139,15 @@ fn each_read_may_be_interrupted(rt: HostRuntime) {
             )
         );
     }
+}
+
+/// Of the 5,528 reads of a proof every ninety-seventh.
+#[test]
+fn reads_of_check_may_be_interrupted(rt: HostRuntime) -> Result<(), Fail> {
+    for step in 0..57u64 {
+        assert!(rt; check_reads_on(&rt, rt.alloc(), 1 + 97 * step)?);
+    }
+    Ok(())
 }
 
 #[test]

@@ -5,6 +5,7 @@
 mod check;
 #[cfg(test)]
 mod devices;
+mod input;
 #[cfg(test)]
 mod merge;
 #[cfg(test)]

@@ -16,6 +16,13 @@ const SCENARIO: &[u8] = b"witnesses 1\n\
     timer 1 5\ntimer 2 7\ncheckpoint 2\ntimer 3 9\naudit 3\naudit 9\ntimer 4 1\naudit 2\naudit 1\n\
     rekey 1\nrekey 2\ntimer 1 6\naudit 2\nrekey 3\nrekey 4\ntimer 3 8\naudit 4\n";
 
+/// Nodes and acts whose items would be others if a checkpoint did nothing, if forks were shown in another order than ascending, if an
+/// audit's answer did not count as a call, or if the audit of a mute node did.
+const EFFECTS: &[u8] = b"witnesses 1\n\
+    node 1 honest\nnode 9 fork\nnode 4 fork\nnode 2 wrong\nnode 3 mute\nnode 10 honest\n\
+    timer 1 5\ncheckpoint 2\ntimer 2 7\ntimer 3 9\naudit 3\naudit 10\naudit 2\ntimer 9 1\n\
+    checkpoint 1\ntimer 1 6\naudit 1\naudit 2\naudit 10\n";
+
 /// What comes of the scenario under Tally.
 fn played(alloc: Global, text: &[u8]) -> Result<Result<Played, PlayFault>, Fail> {
     let scenario = Scenario::read(alloc, text)?;
@@ -49,6 +56,19 @@ fn each_kind_of_node_plays(rt: HostRuntime) -> Result<(), Fail> {
         nodes
             .iter()
             .all(|node| played.directory.key_count(*node) == 2)
+    );
+    Ok(())
+}
+
+/// The items are those of `reference/scenarios.py`.
+#[test]
+fn each_act_has_its_effect(rt: HostRuntime) -> Result<(), Fail> {
+    let played = played(rt.alloc(), EFFECTS)??;
+    assert!(rt; played.items.len() == 15);
+    let digest = digest_of(rt.alloc(), &played)?;
+    let digits = format!(in rt.alloc(); "{digest}")?;
+    assert!(rt;
+        digits.as_str() == "2a870a5c826353715a60d3dd5685f6188b9c65a0752ee6d2a480c6c1e1375266"
     );
     Ok(())
 }

@@ -49,16 +49,16 @@ pub fn two_statements(alloc: Global, first: &[u8], second: &[u8]) -> Result<Vec<
 
 /// A reader of a few bytes at a time, one of whose reads fails or is interrupted.
 #[derive(Drop)]
-pub struct Scripted {
-    rest: &'static [u8],
+pub struct Scripted<'a> {
+    rest: &'a [u8],
     most: usize,
     turn: u64,
     special: u64,
     kind: io::ErrorKind,
 }
 
-impl Scripted {
-    pub fn new(rest: &'static [u8], most: usize, special: u64, kind: io::ErrorKind) -> Scripted {
+impl<'a> Scripted<'a> {
+    pub fn new(rest: &'a [u8], most: usize, special: u64, kind: io::ErrorKind) -> Scripted<'a> {
         Scripted {
             rest,
             most,
@@ -69,7 +69,7 @@ impl Scripted {
     }
 }
 
-impl io::Read for Scripted {
+impl<'a> io::Read for Scripted<'a> {
     fn read(&mut self, buf: &mut [u8]) -> io::Result<usize> {
         self.turn = self.turn.saturating_add(1);
         if self.turn == self.special {

@@ -20,11 +20,6 @@ pub fed_more : (ds : Listing) (before piece t : List ℕ) (fed : Result (List �
 fed_more ds before piece t fed is e =
     kept_text (before ++ piece) t (container_of (magic_of (before ++ piece)) (checked_of ds) (before ++ piece)) (ap (fed_by (checked_of ds) piece) (sym is) ∙ e)
 
--- a piece more of the text
-pub text_more : (text before rest piece left t : List ℕ) → before ++ rest ≡ text → piece ++ left ≡ rest → before ++ piece ≡ t → t ++ left ≡ text
-text_more text before rest piece left t whole split more =
-    ap (λ (x : List ℕ). x ++ left) (sym more) ∙ append_assoc before piece left ∙ ap (λ (x : List ℕ). before ++ x) split ∙ whole
-
 -- a piece that is refused
 pub refused_on : RefusedPiecesStay → (ds : Listing) (text before rest piece left : List ℕ) (fed : Result (List ℕ) ImportFault) (f : ImportFault) → fed ≡ Ok before → before ++ rest ≡ text → piece ++ left ≡ rest
     → Refuses f (fed_by (checked_of ds) piece fed) → Refuses f (import_set ds text)
@@ -33,7 +28,3 @@ refused_on law ds text before rest piece left fed f is whole split (inr e) =
     let told = law ds (before ++ piece) left f (ap (fed_by (checked_of ds) piece) (sym is) ∙ e) in
     let all : (before ++ piece) ++ left ≡ text = append_assoc before piece left ∙ ap (λ (x : List ℕ). before ++ x) split ∙ whole in
     inr (subst (λ (x : List ℕ). import_set ds x ≡ Err f) all told)
-
--- the end of the text
-pub end_refused : (ds ds' : Listing) (text : List ℕ) (fed : Result (List ℕ) ImportFault) (f : ImportFault) → ds ≡ ds' → fed ≡ Ok text → Refuses f (imported_under ds fed) → Refuses f (import_set ds' text)
-end_refused ds ds' text fed f same is refused = subst (λ (d : Listing). Refuses f (import_set d text)) same (subst (λ (r : Result (List ℕ) ImportFault). Refuses f (imported_under ds r)) is refused)

@@ -1,3 +1,4 @@
 pub mod FoundWords
 pub mod Numbers
 pub mod PlainLines
+pub mod Runs

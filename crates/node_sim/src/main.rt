@@ -13,6 +13,8 @@
 
 ghost use Rattle.std.specs.Prelude.{◌≡◌, OnErr, OnOk};
 ghost use Rattle.std.specs.Process.{exit_status};
+ghost use Rattle.commands.specs.Answers.{Answers};
+ghost use Rattle.commands.specs.Engines.{RanAnew};
 
 mod words;
 
@@ -57,6 +59,7 @@ fn run<
 >(rt: &H, alloc: Global, program: &P, task: Task, input: R, output: W) -> Result<(), Fault>
 where
     P::State: Send,
+    ensures { RanAnew (Answers P.means task) result (R.remaining input) W.contents output }
 {
     let mut reader = CountedReader::new(input);
     let mut writer = CountedWriter::new(output);
