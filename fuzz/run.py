@@ -98,11 +98,16 @@ def said_by(ended):
     return errors.decode().removeprefix("refused ").rstrip("\n") if status else TAKEN
 
 
+def most_memory(memory, words):
+    """The limit in bytes: eight times as much for `run`, each of whose threads reserves addresses for itself."""
+    return memory << (23 if words[0] == "run" else 20)
+
+
 class Machine:
     """Runs programs on inputs. Input and outputs are files in memory."""
 
-    def __init__(self, seconds):
-        self.seconds, self.pid, self.late = seconds, None, False
+    def __init__(self, seconds, memory):
+        self.seconds, self.memory, self.pid, self.late = seconds, memory, None, False
         self.files = [os.memfd_create(name) for name in ("input", "output", "errors")]
         self.actions = [(os.POSIX_SPAWN_DUP2, file, at) for at, file in enumerate(self.files)]
         signal.signal(signal.SIGALRM, self.end)
@@ -119,6 +124,7 @@ class Machine:
             os.ftruncate(file, 0)
         os.pwrite(self.files[0], data, 0)
         self.late = False
+        resource.setrlimit(resource.RLIMIT_AS, (most_memory(self.memory, words), most_memory(self.memory, ["run"])))
         ignored = [signal.SIGPIPE, signal.SIGXFSZ, signal.SIGINT]
         self.pid = os.posix_spawn(program, [program, *words], {}, file_actions=self.actions, setsigdef=ignored)
         signal.setitimer(signal.ITIMER_REAL, self.seconds)
@@ -254,7 +260,7 @@ class Trial:
     """What is done with one input."""
 
     def __init__(self, options):
-        self.options, self.machine = options, Machine(options.seconds)
+        self.options, self.machine = options, Machine(options.seconds, options.memory)
         self.runs, self.counts = 0, collections.Counter()
 
     def run(self, words, data):
@@ -295,7 +301,7 @@ def write(options, name, fault):
     with open(f"{path}.input", "wb") as file:
         file.write(data)
     again = [
-        f"(ulimit -v {options.memory * 1024}; timeout {options.seconds} {shlex.join([program, *words])} < {shlex.quote(path)}.input)"
+        f"(ulimit -v {most_memory(options.memory, words) >> 10}; timeout {options.seconds} {shlex.join([program, *words])} < {shlex.quote(path)}.input)"
         for program in dict.fromkeys(options.programs)
     ]
     told = [f"{program}: {status}\n{errors.decode(errors='replace')}{output.decode(errors='replace')[:2000]}" for program, (status, output, errors) in came]
@@ -306,7 +312,7 @@ def write(options, name, fault):
 
 def limit(options):
     """The limits that this process has from here on, and every program that it runs."""
-    for kind, most in ((resource.RLIMIT_AS, options.memory << 20), (resource.RLIMIT_CORE, 0), (resource.RLIMIT_FSIZE, LONGEST_OUTPUT)):
+    for kind, most in ((resource.RLIMIT_AS, most_memory(options.memory, ["run"])), (resource.RLIMIT_CORE, 0), (resource.RLIMIT_FSIZE, LONGEST_OUTPUT)):
         resource.setrlimit(kind, (most, most))
 
 
@@ -392,7 +398,7 @@ def words_of():
     parser.add_argument("--seed", type=int, help="what the inputs are made from (one by chance)")
     parser.add_argument("--jobs", type=int, default=os.cpu_count(), help="how many processes run programs (one a processor)")
     parser.add_argument("--program", action="append", help="a build of node_sim; two may be given (those that are there)")
-    parser.add_argument("--memory", type=int, default=256, help="the limit of memory, in MiB (256)")
+    parser.add_argument("--memory", type=int, default=256, help="the limit of memory, in MiB, and an eighth of that of run (256)")
     parser.add_argument("--seconds", type=int, default=60, help="the limit of time of a run (60)")
     parser.add_argument("--only", type=int, help="runs this input alone, and writes it")
     options = parser.parse_args()
