@@ -1,0 +1,35 @@
+-- What the relay holds, and how it stands in bytes: each struct as its parts, one behind the other.
+use Rattle.std.specs.Prelude.{ℕ, List}
+use Rattle.log_chain.specs.Fields.{IsBytesUpTo, IsListUpTo}
+use Rattle.state_codec.specs.Codings.{Coding, IsPair, IsStruct, IsU32, IsU64, list_coding, pair_coding, struct_coding, text_coding, u32_coding, u64_coding}
+use Rattle.mailbox.specs.declared.held.Held.{Held}
+use Rattle.mailbox.specs.declared.held.Mail.{Mail}
+use Rattle.mailbox.specs.declared.held.TheConstants.{LONGEST_TEXT, MOST_MAILS}
+
+-- ---- a mail
+
+abbrev pub mail_parts : Mail → ℕ × (ℕ × (ℕ × List ℕ))
+mail_parts m = (m.from, (m.to, (m.at, m.text)))
+
+abbrev pub mail_of : ℕ × (ℕ × (ℕ × List ℕ)) → Mail
+mail_of p = record { from = p.0; to = p.1.0; at = p.1.1.0; text = p.1.1.1 }
+
+abbrev pub mail_coding : Coding Mail
+mail_coding = struct_coding mail_of mail_parts (pair_coding u32_coding (pair_coding u32_coding (pair_coding u64_coding (text_coding LONGEST_TEXT))))
+
+abbrev pub IsMail : Mail → Type 0
+IsMail = IsStruct mail_parts (IsPair IsU32 (IsPair IsU32 (IsPair IsU64 (IsBytesUpTo LONGEST_TEXT))))
+
+-- ---- the clock and the mails
+
+abbrev pub held_parts : Held → ℕ × List Mail
+held_parts h = (h.clock, h.mails)
+
+abbrev pub held_of : ℕ × List Mail → Held
+held_of p = record { clock = p.0; mails = p.1 }
+
+abbrev pub held_coding : Coding Held
+held_coding = struct_coding held_of held_parts (pair_coding u64_coding (list_coding MOST_MAILS mail_coding))
+
+abbrev pub IsHeld : Held → Type 0
+IsHeld = IsStruct held_parts (IsPair IsU64 (IsListUpTo MOST_MAILS IsMail))

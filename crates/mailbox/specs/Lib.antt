@@ -1,0 +1,3 @@
+pub mod HeldMails
+pub mod MailboxLaws
+pub mod MailboxMeaning

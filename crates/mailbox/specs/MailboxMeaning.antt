@@ -1,0 +1,79 @@
+-- A mail relay: nodes leave texts for one another, and fetch what was left for them.
+use Rattle.std.specs.Prelude.{ℕ, ◌-◌, ◌==◌, ◌&&◌, max, nat_le, nat_lt, not, Bool, List, [], ◌∷◌, ◌++◌, length, take, drop, filter, map, slice_index, if◌then◌else◌}
+use Rattle.std.specs.Int.{w32, from_be_bytes, to_be_bytes}
+use Rattle.replay_verifier.specs.declared.output.Output.{Output}
+use Rattle.replay_verifier.specs.declared.program.Step.{Step}
+use Rattle.replay_verifier.specs.Meaning.{Meaning, Happening, Received, Ticked}
+use Rattle.state_codec.specs.CodedPrograms.{coded_program}
+use Rattle.mailbox.specs.declared.held.Held.{Held}
+use Rattle.mailbox.specs.declared.held.Mail.{Mail}
+use Rattle.mailbox.specs.declared.held.TheConstants.{LIFETIME, LONGEST_TEXT, MOST_MAILS}
+use Rattle.mailbox.specs.declared.letters.TheConstants.{DELIVER, FETCH, FULL, MAIL, STORED, TOO_LONG, UNCLEAR}
+use Rattle.mailbox.specs.HeldMails.{held_coding}
+
+-- A step to this state that answers a node with a receipt of one letter.
+abbrev pub answered : Held → ℕ → ℕ → Step Held
+answered state to letter = record { state = state; outputs = record { to = to; payload = letter ∷ [] } ∷ [] }
+
+-- ---- leaving a text
+
+-- `D`, a node's number in four bytes, and the text to the end.
+abbrev pub is_delivery : List ℕ → Bool
+is_delivery payload = nat_le 5 (length payload) && (slice_index payload 0 == DELIVER)
+
+abbrev pub receiver : List ℕ → ℕ
+receiver payload = from_be_bytes w32 (take 4 (drop 1 payload))
+
+-- The text is held where it is not too long and there is room, and `from` is told.
+abbrev pub delivered : Held → ℕ → ℕ → List ℕ → Step Held
+delivered held from to text =
+    if nat_lt LONGEST_TEXT (length text) then answered held from TOO_LONG
+    else (if nat_le MOST_MAILS (length held.mails) then answered held from FULL
+    else answered (record held { mails = held.mails ++ record { from = from; to = to; at = held.clock; text = text } ∷ [] }) from STORED)
+
+-- ---- fetching
+
+-- `F` alone.
+abbrev pub is_fetch : List ℕ → Bool
+is_fetch payload = (length payload == 1) && (slice_index payload 0 == FETCH)
+
+abbrev pub is_for : ℕ → Mail → Bool
+is_for node m = m.to == node
+
+-- A mail, as it is sent on: `M`, its sender, and the text.
+abbrev pub sent : Mail → Output
+sent m = record { to = m.to; payload = MAIL ∷ (to_be_bytes w32 m.from ++ m.text) }
+
+-- All mails for the node are sent to it, and are held no longer.
+abbrev pub fetched : Held → ℕ → Step Held
+fetched held from = record {
+  state = record held { mails = filter (λ m. not (is_for from m)) held.mails };
+  outputs = map sent (filter (is_for from) held.mails);
+}
+
+-- ---- the steps
+
+abbrev pub heard : Held → ℕ → List ℕ → Step Held
+heard held from payload =
+    if is_delivery payload then delivered held from (receiver payload) (drop 5 payload)
+    else (if is_fetch payload then fetched held from else answered held from UNCLEAR)
+
+-- At a moment of the timer the clock is set, never back, and what is old is held no longer.
+abbrev pub is_fresh : ℕ → Mail → Bool
+is_fresh clock m = nat_le (clock - m.at) LIFETIME
+
+abbrev pub ticked : Held → ℕ → Step Held
+ticked held moment =
+    let clock = max held.clock moment in
+    record { state = record { clock = clock; mails = filter (is_fresh clock) held.mails }; outputs = [] }
+
+abbrev pub mailbox_step : ℕ → Held → Happening → Step Held
+mailbox_step me held (Received from payload) = heard held from payload
+mailbox_step me held (Ticked moment) = ticked held moment
+
+-- The relay starts with no mail.
+abbrev pub mailbox_start : ℕ → Held
+mailbox_start me = record { clock = 0; mails = [] }
+
+abbrev pub mailbox : Meaning Held
+mailbox = coded_program held_coding mailbox_start mailbox_step

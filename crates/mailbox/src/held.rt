@@ -1,0 +1,102 @@
+//! What the relay holds.
+
+ghost use Rattle.std.specs.Prelude.{◌≡◌, IfOk};
+ghost use Rattle.mailbox.specs.HeldMails.{IsHeld, IsMail, held_coding, mail_coding};
+ghost use Rattle.mailbox.specs.MailboxLaws.{held_lawful, mail_lawful};
+
+use authenticators::NodeId;
+use log_chain::{FieldReader, FieldWriter};
+use outcome::Memory;
+use state_codec::{CodeFault, Coded, Listed, Text};
+use std::alloc::Global;
+
+/// The greatest length of a text, in bytes.
+pub const LONGEST_TEXT: u32 = 256;
+
+/// The greatest number of mails that are held. All of them can be sent in one step.
+pub const MOST_MAILS: u32 = 16;
+
+/// How long a mail is held, in the unit of the timer's moments.
+pub const LIFETIME: u64 = 1000;
+
+/// A text that one node left for another.
+#[derive(Drop)]
+pub struct Mail {
+    /// The node that left it.
+    pub from: NodeId,
+    /// The node that it is for.
+    pub to: NodeId,
+    /// The clock when it came.
+    pub at: u64,
+    /// The text.
+    pub text: Text<LONGEST_TEXT>,
+}
+
+/// What the relay holds: its state.
+#[derive(Drop)]
+pub struct Held {
+    /// The latest moment of the timer, and 0 before the first.
+    pub clock: u64,
+    /// The mails, the oldest first.
+    pub mails: Listed<Mail, MOST_MAILS>,
+}
+
+impl Coded for Mail {
+    ghost coding = { mail_coding };
+
+    ghost fits = { IsMail };
+
+    fn write(&self, writer: &mut FieldWriter) -> Result<(), Memory> {
+        self.from.write(writer)?;
+        self.to.write(writer)?;
+        self.at.write(writer)?;
+        self.text.write(writer)?;
+        Ok(())
+    }
+
+    fn try_clone(&self, alloc: Global) -> Result<Mail, Memory> {
+        Ok(Mail {
+            from: self.from,
+            to: self.to,
+            at: self.at,
+            text: self.text.try_clone(alloc)?,
+        })
+    }
+
+    fn read(alloc: Global, reader: &mut FieldReader) -> Result<Mail, CodeFault> {
+        let from = NodeId::read(alloc, reader)?;
+        let to = NodeId::read(alloc, reader)?;
+        let at = u64::read(alloc, reader)?;
+        let text = Text::read(alloc, reader)?;
+        Ok(Mail { from, to, at, text })
+    }
+
+    ghost lawful = { mail_lawful };
+}
+
+impl Coded for Held {
+    ghost coding = { held_coding };
+
+    ghost fits = { IsHeld };
+
+    fn write(&self, writer: &mut FieldWriter) -> Result<(), Memory> {
+        self.clock.write(writer)?;
+        self.mails.write(writer)?;
+        Ok(())
+    }
+
+    fn try_clone(&self, alloc: Global) -> Result<Held, Memory> {
+        Ok(Held {
+            clock: self.clock,
+            mails: self.mails.try_clone(alloc)?,
+        })
+    }
+
+    fn read(alloc: Global, reader: &mut FieldReader) -> Result<Held, CodeFault> {
+        let clock = u64::read(alloc, reader)?;
+        let mails = Listed::read(alloc, reader)?;
+        Ok(Held { clock, mails })
+    }
+
+    ghost lawful = { held_lawful };
+}

@@ -1,0 +1,13 @@
+//! A mail relay, as an example of a program: nodes leave texts for one another, and fetch what was left for them.
+//!
+//! [`Mailbox`] is the program, and `specs/MailboxMeaning.antt` says what its steps do. Its state, [`Held`], is put together of
+//! `state_codec`'s parts, and so are its bytes and their law (`specs/MailboxLaws.antt`).
+#![tactic(auto)]
+
+pub use held::{Held, LIFETIME, LONGEST_TEXT, MOST_MAILS, Mail};
+pub use program::Mailbox;
+
+mod held;
+pub mod letters;
+mod program;
+mod steps;

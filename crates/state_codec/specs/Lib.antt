@@ -1,0 +1,4 @@
+pub mod CodedPrograms
+pub mod CodingLaws
+pub mod Codings
+pub mod StateLaws
