@@ -1,18 +1,16 @@
 -- What passes and histories of an exchange say of the stores that are closed after it.
-use Rattle.std.proofs.Common.{◌≡◌, ◌∙◌, ◌+◌, ◌-◌, ◌<◌, ◌≤◌, ◌==◌, ◌⊎◌, ℕ, zero, suc, Bool, true, false, cond, List, [], ◌∷◌, ◌++◌, ap, arith, drop, filter, get_or, inl, inr, length, map, refl, subst, sym, take}
+use Rattle.std.proofs.Common.{◌≡◌, ◌∙◌, ◌+◌, ◌<◌, ◌==◌, ◌⊎◌, ℕ, zero, suc, Bool, true, false, cond, List, [], ◌∷◌, ◌++◌, ap, arith, drop, filter, get_or, inl, inr, length, map, refl, subst, sym, take}
 use Rattle.std.specs.List.{Contains}
-use Rattle.std.proofs.lemmas.List.{length-append, length-drop, length-map, length-take-le}
-use Rattle.std.proofs.lemmas.List.Elements.{Contains-append_cases, Contains-append_left, Contains-append_right, Contains-get_or}
+use Rattle.std.proofs.lemmas.List.Elements.{Contains-append_left, Contains-append_right, Contains-get_or}
 use Rattle.authenticators.specs.Directory.{Listing}
-use Rattle.item_forms.specs.Pieces.{Piece}
 use Rattle.replay_verifier.specs.Meaning.{Meaning}
 use Rattle.evidence_set.specs.Exports.{export_of}
-use Rattle.evidence_set.specs.ItemSets.{Has, IsWithin, Items, Join, JoinsAreLeastUpperBounds, SetsAsExpected, insert}
+use Rattle.evidence_set.specs.ItemSets.{Has, IsWithin, Items, JoinsAreLeastUpperBounds, SetsAsExpected}
 use Rattle.shared_stores.specs.declared.history.Call.{Call}
 use Rattle.shared_stores.specs.declared.history.Call.TheVariants as call
 use Rattle.shared_stores.specs.declared.history.Given.TheVariants as reply
 use Rattle.shared_stores.specs.declared.history.Recorded.{Recorded}
-use Rattle.shared_stores.specs.Closing.{Agrees, calls_of}
+use Rattle.shared_stores.specs.Closing.{Agrees}
 use Rattle.shared_stores.specs.Histories.{Notes, Replays, after, noted, recorded}
 use Rattle.exchanging.specs.Passes.{Exchanged, others}
 use Rattle.scenario_run.specs.Witnesses.{Exported}

@@ -1,5 +1,5 @@
 -- A node that is listed with its two keys, one after the other.
-use Rattle.std.proofs.Common.{◌≡◌, ◌∙◌, ℕ, Bool, true, false, cond, List, [], ◌∷◌, ◌++◌, Result, Ok, Err, Option, Some, None, ap, length, refl, sym, eq-eqb}
+use Rattle.std.proofs.Common.{◌≡◌, ◌∙◌, ℕ, Bool, true, false, cond, List, [], ◌∷◌, ◌++◌, Result, Ok, Err, Some, ap, length, refl, sym, eq-eqb}
 use Rattle.std.specs.Prelude.{is_some, nat_eq, nat_lt}
 use Rattle.std.specs.Map.{lookup}
 use Rattle.outcome.specs.Outcome.{◌>>=◌}

@@ -1,4 +1,4 @@
-use Rattle.std.proofs.Common.{◌≡◌, ◌∙◌, [], ◌∷◌, ◌++◌, List, All, ap, arith, rules, subst}
+use Rattle.std.proofs.Common.{◌≡◌, [], ◌∷◌, List, All, arith, rules, subst}
 use Rattle.shared_stores.specs.Closing.{Agrees}
 use Rattle.shared_stores.specs.Histories.{Notes}
 use Rattle.scenario_run.proofs.closing.close.Goals as goal
