@@ -1,13 +1,11 @@
 -- How an engine ends that has read its input and answers it: what it writes is written, or the write fails.
-use Rattle.std.proofs.Common.{◌≡◌, ◌+◌, ◌<◌, ◌≤◌, ◌⊎◌, ℕ, List, Option, Result, Ok, Err, refl, inl, inr, true}
+use Rattle.std.proofs.Common.{◌≡◌, ◌+◌, ◌<◌, ◌≤◌, ℕ, List, Result, Ok, Err, refl, inr}
 use Rattle.std.specs.Io.KnownBytes.{Appends}
-use Rattle.commands.specs.declared.engine.TheConstants.{LONGEST_INPUT, MOST_READS}
+use Rattle.commands.specs.declared.engine.TheConstants.{MOST_READS}
 use Rattle.commands.specs.declared.fault.Fault.{Fault}
-use Rattle.commands.specs.declared.fault.Fault.TheVariants.{InputTooLong, Memory, ReadFailed, WriteFailed}
-use Rattle.commands.specs.Devices.{IsReadFault, MeetsNoEnd, Reader, Writer}
-use Rattle.commands.specs.Engines.{IsInput, Ran, Refuses, RefusesInput}
-use Rattle.commands.specs.within.OwnFaults.{IsOwn, is_devices}
-use Rattle.commands.proofs.NoDevices.{other}
+use Rattle.commands.specs.declared.fault.Fault.TheVariants.{ReadFailed, WriteFailed}
+use Rattle.commands.specs.Devices.{Reader, Writer}
+use Rattle.commands.specs.Engines.{IsInput, Ran}
 
 -- the same refusal, told of a result
 abbrev Refused : Fault → Result (Unit {0}) Fault

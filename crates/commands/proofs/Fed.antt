@@ -1,8 +1,7 @@
 -- An importer that is fed a part more of the bytes that digits spell.
-use Rattle.std.proofs.Common.{◌≡◌, ◌∙◌, ◌*◌, ◌%◌, ℕ, List, [], ◌∷◌, ◌++◌, Result, Ok, Err, ap, append_assoc, append-nil, arith, length, refl, subst, sym}
+use Rattle.std.proofs.Common.{◌≡◌, ◌∙◌, ◌%◌, ℕ, List, [], ◌∷◌, ◌++◌, Result, Ok, Err, ap, append_assoc, append-nil, arith, length, refl, subst, sym}
 use Rattle.std.specs.Result.{IsOk}
 use Rattle.hex.specs.Hex.{decode_of}
-use Rattle.hex.specs.declared.error.FromHexError.{FromHexError}
 use Rattle.hex.proofs.HexLemmas.{decode_of-ok}
 use Rattle.authenticators.specs.Directory.{Listing}
 use Rattle.containers.specs.declared.fault.ImportFault.{ImportFault}

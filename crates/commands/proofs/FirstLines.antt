@@ -1,5 +1,5 @@
 -- The first line of a text, and what is behind it.
-use Rattle.std.proofs.Common.{◌≡◌, ◌==◌, Bool, false, ◌+◌, ◌-◌, ℕ, List, [], ◌∷◌, length, take, drop, Some, None, refl, arith, add-one}
+use Rattle.std.proofs.Common.{◌≡◌, ◌==◌, Bool, false, ◌+◌, ◌-◌, ℕ, List, [], ◌∷◌, length, take, drop, None, refl, arith, add-one}
 use Rattle.std.specs.List.{position_from}
 use Rattle.std.proofs.lemmas.List.{drop_all, length-drop, take_all}
 use Rattle.commands.specs.HexLines.{lines_of}

@@ -1,5 +1,5 @@
 -- The front of a text that is taken off part by part.
-use Rattle.std.proofs.Common.{◌≡◌, ◌∙◌, ◌%◌, ◌+◌, ◌-◌, ◌≤◌, List, ℕ, ◌++◌, ap, arith, drop, length, min, refl, subst, sym, take, take-append-drop}
+use Rattle.std.proofs.Common.{◌≡◌, ◌∙◌, ◌%◌, ◌+◌, ◌-◌, ◌≤◌, List, ℕ, ◌++◌, ap, arith, drop, length, min, sym, take, take-append-drop}
 use Rattle.std.proofs.lemmas.List.{drop-drop, drop-take, length-take-le, take-take}
 
 -- what is left of a line, of which a stride is taken

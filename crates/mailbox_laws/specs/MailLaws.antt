@@ -9,7 +9,7 @@ use Rattle.mailbox.specs.declared.held.TheConstants.{LIFETIME, LONGEST_TEXT, MOS
 use Rattle.mailbox.specs.HeldMails.{IsHeld}
 use Rattle.mailbox.specs.MailboxMeaning.{delivered, fetched, sent, ticked}
 
--- A text that fits, left while there is room, is among what the next fetch of its receiver is answered.
+-- A text that fits, left while there is room, is among what a fetch of its receiver right behind it is answered.
 abbrev pub TextsArrive : Type 0
 TextsArrive =
     (held : Held) (from to : ℕ) (text : List ℕ) → length text ≤ LONGEST_TEXT → length held.mails < MOST_MAILS

@@ -5,7 +5,7 @@
 
 ghost use Rattle.mailbox_laws.specs.MailLaws.{FetchesAreSent, OldMailsAreDropped, TextsArrive};
 
-/// A text that fits, left while there is room, is among what the next fetch of its receiver is answered.
+/// A text that fits, left while there is room, is among what a fetch of its receiver right behind it is answered.
 pub fn texts_arrive()
     ensures { TextsArrive }
 {}

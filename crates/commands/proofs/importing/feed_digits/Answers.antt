@@ -1,12 +1,9 @@
-use Rattle.std.proofs.Common.{◌≡◌, ◌∙◌, ◌%◌, ◌≤◌, ◌*◌, [], ◌++◌, List, ℕ, Ok, ap, arith, drop, length, min, refl, subst, sym, take, take-append-drop}
-use Rattle.std.specs.Prelude.{IfErr}
+use Rattle.std.proofs.Common.{◌≡◌, ◌∙◌, ◌%◌, [], ◌++◌, List, ℕ, ap, arith, drop, length, min, subst, sym, take, take-append-drop}
 use Rattle.std.proofs.lemmas.List.{length-take}
 use Rattle.std.proofs.lemmas.Bool.{eqb-true}
 use Rattle.std.proofs.lemmas.Result.{err_from_is_err_and}
 use Rattle.containers.specs.Refusals.{Refuses}
 use Rattle.evidence.specs.Importing.{import_set}
-use Rattle.containers.specs.CheckedItems.{checked_of}
-use Rattle.evidence.specs.Importing.{fed_by}
 use Rattle.commands.proofs.Fed.{even_left, fed_all, fed_part, none_left, part_refused, piece_fed, piece_refused, piece_spells, spelled, spells}
 use Rattle.commands.proofs.importing.feed_digits.Goals as goal
 

@@ -1,8 +1,6 @@
-use Rattle.std.proofs.Common.{rules, ◌≡◌, ◌∙◌, ◌%◌, ◌+◌, ◌-◌, ◌≤◌, [], ◌++◌, List, ℕ, Ok, ap, append-nil, arith, drop, length, min, refl, subst, sym, take}
-use Rattle.std.proofs.lemmas.List.{length-drop, length-take-le}
+use Rattle.std.proofs.Common.{rules, ◌≡◌, ◌∙◌, ◌%◌, ◌-◌, ◌≤◌, [], ◌++◌, List, ℕ, Ok, ap, append-nil, arith, drop, length, min, subst, sym, take}
+use Rattle.std.proofs.lemmas.List.{length-drop}
 use Rattle.std.proofs.lemmas.Result.{err_from_is_err_and}
-use Rattle.std.specs.Result.{IsOk}
-use Rattle.hex.specs.Hex.{decode_of}
 use Rattle.containers.specs.Refusals.{Refuses}
 use Rattle.evidence.specs.Importing.{import_set}
 use Rattle.commands.specs.within.Feeding.{IsFedUpTo}

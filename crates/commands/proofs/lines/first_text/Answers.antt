@@ -1,4 +1,4 @@
-use Rattle.std.proofs.Common.{◌≡◌, List, ℕ, ap, inr, rules, subst, sym}
+use Rattle.std.proofs.Common.{List, ℕ, inr, rules, subst}
 use Rattle.std.specs.Prelude.{IsTrue}
 use Rattle.commands.specs.HexLines.{lines_of}
 use Rattle.commands.specs.within.Feeding.{AreDigits, AreSpelled}
