@@ -1,0 +1,44 @@
+-- Why the items of a set say of a node what they say.
+use Rattle.std.specs.Prelude.{◌≡◌, ◌↔◌, ℕ, List, map, IsTrue}
+use Rattle.std.specs.List.{All, Contains}
+use Rattle.std.specs.List.Sorted.{IsStrictlyIncreasing, IsStrictlySortedBy}
+use Rattle.authenticators.specs.Directory.{Listing, is_listed}
+use Rattle.item_forms.specs.Pieces.{Piece, by_bytes}
+use Rattle.replay_verifier.specs.Meaning.{Meaning}
+use Rattle.proofs.specs.Convicting.{Convicts}
+use Rattle.evidence_set.specs.declared.indication.Indication.{Indication}
+use Rattle.evidence_set.specs.declared.indication.Indication.TheVariants.{Trusted, Suspected, Exposed}
+use Rattle.evidence_set.specs.Indications.{IsIndication, IsUnanswered}
+use Rattle.evidence_set.specs.ItemSets.{Has, Items}
+use Rattle.evidence.specs.Contents.{Contents}
+use Rattle.explanations.specs.declared.why.Why.{Why}
+use Rattle.explanations.specs.declared.why.Why.TheVariants as why
+use Rattle.explanations.specs.declared.why.NodeWhy.{NodeWhy}
+
+-- What a node is for this reason.
+abbrev pub indication_of : Why → Indication
+indication_of (why.Exposed q) = Exposed
+indication_of (why.Suspected open) = Suspected
+indication_of why.Trusted = Trusted
+
+-- The items are those challenges against the node that no item of the set answers, ascending by their spellings.
+pub record AreOpen (ds : Listing) (E : Items) (node : ℕ) (xs : List Piece) : Type 0 where
+  pub members : (x : Piece) → Contains xs x ↔ (Has E x × IsUnanswered ds E node x.fields)
+  pub ascending : IsStrictlySortedBy by_bytes xs
+
+-- What is named against the node: a proof convicts it, and the challenges are the open ones.
+abbrev pub Speaks : {S : Type 0} → Listing → Meaning S → Items → ℕ → Why → Type 0
+Speaks ds program E node (why.Exposed q) = Convicts ds program node q.parts
+Speaks ds program E node (why.Suspected open) = AreOpen ds E node (map (λ i. i.now) open.items)
+Speaks ds program E node why.Trusted = Unit {0}
+
+-- The set says of the node what is told, and what is named speaks against it.
+pub record IsWhy {S : Type 0} (ds : Listing) (program : Meaning S) (E : Items) (node : ℕ) (w : Why) : Type 0 where
+  pub indication : IsIndication ds program E node (indication_of w)
+  pub speaks : Speaks ds program E node w
+
+-- Each listed node and no other, in ascending order of the numbers, with why it is what it is.
+pub record AreWhys {S : Type 0} (program : Meaning S) (s : Contents) (rows : List NodeWhy) : Type 0 where
+  pub ascending : IsStrictlyIncreasing (map (λ row. row.node) rows)
+  pub complete : (node : ℕ) → Contains (map (λ row. row.node) rows) node ↔ IsTrue (is_listed s.directory node)
+  pub right : All (λ row. IsWhy s.directory program s.items row.node row.why) rows

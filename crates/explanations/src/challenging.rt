@@ -1,0 +1,79 @@
+//! Challenges that nobody answered, in sentences.
+
+use crate::lines::Lines;
+use crate::words::Bytes;
+use item_forms::{AuditChallenge, Form, Item, Message, Statement};
+use outcome::Memory;
+
+/// Says what an audit challenge asks for, and what would answer it.
+fn say_audit(lines: &mut Lines, place: u64, challenge: &AuditChallenge) -> Result<(), Memory> {
+    match &challenge.first {
+        Some(first) => say_range(lines, place, challenge, first),
+        None => say_front(lines, place, challenge),
+    }
+}
+
+/// The same, where the log is asked for from another entry on.
+fn say_range(
+    lines: &mut Lines,
+    place: u64,
+    challenge: &AuditChallenge,
+    first: &Statement,
+) -> Result<(), Memory> {
+    let alloc = lines.alloc();
+    let node = challenge.node;
+    let from = first.seq;
+    let to = challenge.last.seq;
+    let asked = format!(in alloc; "Item {place}, an audit challenge, asks node {node} for its log from entry {from} to entry {to}.")?;
+    lines.say(asked)?;
+    let before = first.hash;
+    let hash = challenge.last.hash;
+    let answer = format!(in alloc; "A segment of node {node} with both would answer it: entry {from} with the hash {before}, and entry {to} with the hash {hash}.")?;
+    lines.say(answer)
+}
+
+/// The same, where the log is asked for from its beginning on.
+fn say_front(lines: &mut Lines, place: u64, challenge: &AuditChallenge) -> Result<(), Memory> {
+    let alloc = lines.alloc();
+    let node = challenge.node;
+    let to = challenge.last.seq;
+    let asked = format!(in alloc; "Item {place}, an audit challenge, asks node {node} for its log from the beginning to entry {to}.")?;
+    lines.say(asked)?;
+    let hash = challenge.last.hash;
+    let answer = format!(in alloc; "A segment of node {node} from the beginning with entry {to} would answer it, with the hash {hash}.")?;
+    lines.say(answer)
+}
+
+/// Says what a send challenge asks for, and what would answer it.
+fn say_send(lines: &mut Lines, place: u64, message: &Message) -> Result<(), Memory> {
+    let alloc = lines.alloc();
+    let from = message.from;
+    let to = message.to;
+    let seq = message.seq;
+    let payload = Bytes(message.payload.as_slice());
+    let asked = format!(in alloc; "Item {place}, a send challenge of node {from}, asks node {to} to acknowledge entry {seq} of node {from}: {payload}.")?;
+    lines.say(asked)?;
+    let answer = format!(in alloc; "An acknowledgement of node {to} would answer it, or a segment of node {to} with a RECV of entry {seq} of node {from}.")?;
+    lines.say(answer)
+}
+
+/// Says what an open challenge asks for, and what would answer it.
+fn say_challenge(lines: &mut Lines, place: u64, item: &Item) -> Result<(), Memory> {
+    match item.form() {
+        Form::Audit(challenge) => say_audit(lines, place, challenge),
+        Form::Send(message) => say_send(lines, place, message),
+        _ => Ok(()),
+    }
+}
+
+/// Says of each open challenge what it asks for, and what would answer it. Beside them stand the places of their items.
+pub(crate) fn say_challenges(
+    lines: &mut Lines,
+    open: &[&Item],
+    places: &[u64],
+) -> Result<(), Memory> {
+    for (item, place) in open.iter().zip(places) {
+        say_challenge(lines, *place, item)?;
+    }
+    Ok(())
+}

@@ -1,0 +1,142 @@
+//! Statements that are not of one log, in sentences.
+
+use crate::deviating::say_segment;
+use crate::grounds::{Found, Grounds};
+use crate::lines::Lines;
+use crate::site::Sites;
+use crate::words::Logged;
+use authenticators::{Authenticator, NodeId};
+use item_forms::{Entry, Segment};
+use log_chain::base_hash;
+use outcome::Memory;
+
+/// Says a hash, and where it is signed.
+fn say_hash(lines: &mut Lines, found: &Found) -> Result<(), Memory> {
+    let hash = found.hash;
+    let sites = Sites(&found.sites);
+    let text = format!(in lines.alloc(); "Hash {hash}: {sites}.")?;
+    lines.say(text)
+}
+
+/// Says which two hashes the node signed for one entry, and where.
+pub(crate) fn say_two_hashes(
+    lines: &mut Lines,
+    node: NodeId,
+    grounds: &Grounds,
+) -> Result<(), Memory> {
+    let (Some(first), Some(second)) = (grounds.statement(0), grounds.statement(1)) else {
+        return Ok(());
+    };
+    let seq = first.seq;
+    let text = format!(in lines.alloc(); "Node {node} signed two hashes for entry {seq} of its log.")?;
+    lines.say_of(node, seq, text)?;
+    say_hash(lines, first)?;
+    say_hash(lines, second)
+}
+
+/// How a statement contradicts a segment.
+#[derive(Clone, Copy)]
+enum Denial {
+    /// Its number lies within the segment's, and no entry has it with its hash.
+    LeftOut,
+    /// Its number is just before the segment's first one, and its hash is not the one before the segment.
+    OffStart,
+    /// The segment begins the log, and its number is below the first one.
+    BeforeLog,
+}
+
+/// How a statement with this number contradicts the segment, where it does.
+fn denial_of(seq: u64, segment: &Segment) -> Denial {
+    match segment.entries.as_slice() {
+        [first, ..] if seq < first.seq => {
+            if segment.prev == base_hash() {
+                Denial::BeforeLog
+            } else {
+                Denial::OffStart
+            }
+        }
+        _ => Denial::LeftOut,
+    }
+}
+
+/// Says how the statement contradicts the segment.
+fn say_denial(
+    lines: &mut Lines,
+    node: NodeId,
+    seq: u64,
+    first: u64,
+    denial: Denial,
+) -> Result<(), Memory> {
+    let alloc = lines.alloc();
+    let text = match denial {
+        Denial::LeftOut => {
+            format!(in alloc; "Node {node} signed a hash for entry {seq} that its own log leaves out.")?
+        }
+        Denial::OffStart => {
+            format!(in alloc; "Node {node} signed a hash for entry {seq} that is not the one before its own log from entry {first} on.")?
+        }
+        Denial::BeforeLog => {
+            format!(in alloc; "Node {node} signed a hash for entry {seq}, and its own log begins with entry {first}.")?
+        }
+    };
+    lines.say_of(node, seq, text)
+}
+
+/// The entry of the segment with the number, if there is one.
+fn entry_at(segment: &Segment, seq: u64) -> Option<&Entry> {
+    segment.entries.as_slice().iter().find(|entry| entry.seq == seq)
+}
+
+/// Says what stands in the segment at the number.
+fn say_entry(
+    lines: &mut Lines,
+    segment: &Segment,
+    seq: u64,
+    grounds: &Grounds,
+) -> Result<(), Memory> {
+    let alloc = lines.alloc();
+    let text = match (entry_at(segment, seq), grounds.segment.hash) {
+        (Some(entry), Some(hash)) => {
+            let logged = Logged(entry);
+            format!(in alloc; "There entry {seq} is {logged}, with the hash {hash}.")?
+        }
+        _ => format!(in alloc; "There is no entry {seq} in it.")?,
+    };
+    lines.say(text)
+}
+
+/// Says what the segment says of the number.
+fn say_other_side(
+    lines: &mut Lines,
+    segment: &Segment,
+    seq: u64,
+    grounds: &Grounds,
+    denial: Denial,
+) -> Result<(), Memory> {
+    match denial {
+        Denial::LeftOut => say_entry(lines, segment, seq, grounds),
+        Denial::OffStart => {
+            let prev = segment.prev;
+            let text = format!(in lines.alloc(); "There the hash before the first entry is {prev}.")?;
+            lines.say(text)
+        }
+        Denial::BeforeLog => Ok(()),
+    }
+}
+
+/// Says how a statement and a segment of its node contradict each other.
+pub(crate) fn say_contradiction(
+    lines: &mut Lines,
+    auth: &Authenticator,
+    segment: &Segment,
+    grounds: &Grounds,
+) -> Result<(), Memory> {
+    let (Some(found), [first, ..]) = (grounds.statement(0), segment.entries.as_slice()) else {
+        return Ok(());
+    };
+    let denial = denial_of(auth.seq, segment);
+    say_denial(lines, auth.node, auth.seq, first.seq, denial)?;
+    say_hash(lines, found)?;
+    say_segment(lines, segment, &grounds.segment)?;
+    say_other_side(lines, segment, auth.seq, grounds, denial)
+}

@@ -1,0 +1,85 @@
+//! What is told of a store.
+
+use crate::account::{Account, NodeAccount, Sentence};
+use crate::challenging::say_challenges;
+use crate::contradicting::{say_contradiction, say_two_hashes};
+use crate::deviating::say_deviation;
+use crate::grounds::Grounds;
+use crate::heading::heading_of;
+use crate::lines::Lines;
+use crate::places::{NodePlaces, places_of};
+use crate::trusting::say_trust;
+use crate::why::{NodeWhy, Why, whys_of};
+use authenticators::{Directory, NodeId};
+use evidence::Evidence;
+use outcome::Memory;
+use proofs::{Parts, Proof};
+use replay_verifier::Program;
+use std::alloc::Global;
+
+/// Says what a proof shows of the node.
+pub(crate) fn say_proof<P: Program>(
+    lines: &mut Lines,
+    program: &P,
+    directory: &Directory,
+    proof: &Proof,
+    grounds: &Grounds,
+) -> Result<(), Memory> {
+    match proof.parts() {
+        Parts::TwoAuths(first, _) => say_two_hashes(lines, first.node, grounds),
+        Parts::AuthSegment(auth, segment) => say_contradiction(lines, auth, segment, grounds),
+        Parts::Nonconforming(segment) => {
+            say_deviation(lines, program, directory, segment, &grounds.segment)
+        }
+    }
+}
+
+/// The sentences about a node.
+fn sentences_of<P: Program>(
+    alloc: Global,
+    program: &P,
+    directory: &Directory,
+    row: &NodeWhy<'_>,
+    found: &NodePlaces,
+) -> Result<Vec<Sentence>, Memory> {
+    let mut lines = Lines::new(alloc);
+    match &row.why {
+        Why::Exposed(proof) => say_proof(&mut lines, program, directory, proof, &found.grounds)?,
+        Why::Suspected(open) => say_challenges(&mut lines, open, &found.open)?,
+        Why::Trusted => say_trust(&mut lines, row.node, found)?,
+    }
+    Ok(lines.into_sentences())
+}
+
+/// What is told of all nodes.
+fn accounts_of<P: Program>(
+    alloc: Global,
+    program: &P,
+    directory: &Directory,
+    whys: &[NodeWhy<'_>],
+    found: &[NodePlaces],
+) -> Result<Vec<NodeAccount>, Memory> {
+    let mut nodes = Vec::with_capacity(alloc, whys.len())?;
+    for (row, found) in whys.iter().zip(found) {
+        let sentences = sentences_of(alloc, program, directory, row, found)?;
+        nodes.push(NodeAccount {
+            node: row.node,
+            indication: row.why.indication(),
+            sentences,
+        })?;
+    }
+    Ok(nodes)
+}
+
+/// What a store says of the nodes of its directory, and why.
+pub fn explain_store<P: Program, S: Evidence<P>>(
+    alloc: Global,
+    program: &P,
+    store: &S,
+) -> Result<Account, Memory> {
+    let whys = whys_of::<P, S>(alloc, store)?;
+    let places = places_of::<P, S>(alloc, store, &whys)?;
+    let heading = heading_of(alloc, &whys, store.count(), places.counts)?;
+    let nodes = accounts_of(alloc, program, store.directory(), &whys, &places.nodes)?;
+    Ok(Account { heading, nodes })
+}

@@ -1,0 +1,97 @@
+//! Why a node is what it is.
+
+ghost use Rattle.std.specs.Prelude.{◌≡◌, ◌↔◌, IfOk, Err, false};
+ghost use Rattle.authenticators.specs.Directory.{is_listed};
+ghost use Rattle.evidence.specs.declared.fault.AskFault.TheVariants as ask;
+ghost use Rattle.explanations.specs.Whys.{AreWhys, IsWhy, indication_of};
+
+use authenticators::{Directory, NodeId};
+use evidence::{AskFault, Evidence};
+use evidence_set::Indication;
+use item_forms::Item;
+use outcome::Memory;
+use proofs::Proof;
+use replay_verifier::Program;
+use std::alloc::Global;
+use std::collections::BTreeSet;
+
+/// Why a node is what it is.
+#[derive(Debug, Drop)]
+pub enum Why<'a> {
+    /// It is exposed: this proof convicts it.
+    Exposed(Proof),
+    /// It is suspected: these challenges against it are not answered. They are lent from the store, and ascend by their spellings.
+    Suspected(Vec<&'a Item>),
+    /// It is trusted: nothing speaks against it.
+    Trusted,
+}
+
+/// A node, and why it is what it is.
+#[derive(Debug, Drop)]
+pub struct NodeWhy<'a> {
+    /// The node.
+    pub node: NodeId,
+    /// Why it is what it is.
+    pub why: Why<'a>,
+}
+
+impl<'a> Why<'a> {
+    /// What it is.
+    pub fn indication(&self) -> Indication
+        ensures { result ≡ indication_of self.now }
+    {
+        match self {
+            Why::Exposed(_) => Indication::Exposed,
+            Why::Suspected(_) => Indication::Suspected,
+            Why::Trusted => Indication::Trusted,
+        }
+    }
+}
+
+/// Why the store says of the node what it says. `UnknownNode` (44) where the directory does not list the node; `Memory`.
+pub fn why_of<'a, P: Program, S: Evidence<P>>(store: &'a S, node: NodeId) -> Result<Why<'a>, AskFault>
+    ensures told { IfOk result (λ w. IsWhy (S.contents store.now).directory P.means (S.contents store.now).items node w) }
+    ensures unknown { (result ≡ Err ask.UnknownNode) ↔ (is_listed (S.contents store.now).directory node ≡ false) }
+{
+    let Ok(indication) = store.indication(node) else {
+        return Err(AskFault::UnknownNode);
+    };
+    match indication {
+        Indication::Exposed => {
+            let Some(proof) = store.proof(node)? else {
+                unreachable!()
+            };
+            Ok(Why::Exposed(proof))
+        }
+        Indication::Suspected => {
+            let open = store.open_challenges(node)?;
+            Ok(Why::Suspected(open))
+        }
+        Indication::Trusted => Ok(Why::Trusted),
+    }
+}
+
+/// The numbers of the directory's nodes, ascending.
+fn ascending_nodes(alloc: Global, directory: &Directory) -> Result<Vec<NodeId>, Memory> {
+    let mut nodes = Vec::from_slice(alloc, directory.nodes())?;
+    nodes.sort()?;
+    Ok(nodes)
+}
+
+/// Why the store says of each node of its directory what it says, ascending by the nodes' numbers.
+pub fn whys_of<'a, P: Program, S: Evidence<P>>(
+    alloc: Global,
+    store: &'a S,
+) -> Result<Vec<NodeWhy<'a>>, Memory>
+    ensures { IfOk result (λ rows. AreWhys P.means (S.contents store.now) rows.items) }
+{
+    let nodes = ascending_nodes(alloc, store.directory())?;
+    let mut rows = Vec::with_capacity(alloc, nodes.len())?;
+    for node in nodes.as_slice() {
+        let Ok(why) = why_of::<P, S>(store, *node) else {
+            return Err(Memory);
+        };
+        rows.push(NodeWhy { node: *node, why })?;
+    }
+    Ok(rows)
+}
