@@ -1,0 +1,10 @@
+use Rattle.std.proofs.Common.{rules, ◌≡◌, ℕ, List, All, subst, sym}
+use Rattle.explanation_pages.specs.Escaping.{IsInert, escaped}
+use Rattle.explanation_pages.proofs.Inert.{escaped_inert}
+use Rattle.explanation_pages.proofs.escaping.escaped.Goals as goal
+
+pub returns-clause-inert : goal.returns-clause-inert
+returns-clause-inert c =
+    let P : List ℕ → Type 0 = λ t. All IsInert t in
+    let same : c.escape.new.page.items ≡ escaped c.args.text.now = search rules in
+    subst P (sym same) (escaped_inert c.args.text.now)

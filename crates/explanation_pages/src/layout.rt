@@ -1,0 +1,235 @@
+//! Where each entry stands in the picture.
+
+use crate::choosing::{Choice, Drawn};
+use crate::rows::Place;
+use authenticators::NodeId;
+use log_chain::Hash;
+use std::alloc::{AllocError, Global};
+use std::collections::BTreeMap;
+
+/// How often the columns are gone over, so that what quotes stands right of what it quotes.
+const MOST_SWEEPS: u32 = 64;
+
+/// The end of a node's log at an entry.
+#[derive(Clone, Copy, Debug, PartialEq, Eq, PartialOrd, Ord)]
+struct LogEnd {
+    node: NodeId,
+    hash: Hash,
+}
+
+/// Of each entry that is drawn its column, its lane within the row, and the entries that it stands behind and that it quotes.
+#[derive(Debug, Drop)]
+pub(crate) struct Layout {
+    columns: Vec<u64>,
+    lanes: Vec<u64>,
+    before: Vec<Option<usize>>,
+    quoted: Vec<Option<usize>>,
+}
+
+/// The value at a place, or 0.
+fn at(numbers: &[u64], i: usize) -> u64 {
+    numbers.get(i).copied().unwrap_or(0)
+}
+
+/// For each entry the one that it quotes, where that is drawn.
+fn quoted_of(alloc: Global, cells: &[Drawn<'_>]) -> Result<Vec<Option<usize>>, AllocError> {
+    let mut places: BTreeMap<Place, usize> = BTreeMap::new(alloc);
+    for (i, one) in cells.iter().enumerate() {
+        if let Some(cell) = one.cell {
+            places.insert(cell.place, i)?;
+        }
+    }
+    let mut quoted = Vec::new(alloc);
+    for one in cells {
+        let place = one.cell.and_then(|cell| cell.quotes);
+        quoted.push(place.and_then(|place| places.get(&place).copied()))?;
+    }
+    Ok(quoted)
+}
+
+/// For each entry the one that it stands behind in its node's log, where that is drawn.
+fn before_of(alloc: Global, cells: &[Drawn<'_>]) -> Result<Vec<Option<usize>>, AllocError> {
+    let mut ends: BTreeMap<LogEnd, usize> = BTreeMap::new(alloc);
+    let mut before = Vec::new(alloc);
+    for (i, one) in cells.iter().enumerate() {
+        let prev = one.cell.and_then(|cell| cell.prev);
+        let end = prev.map(|hash| LogEnd {
+            node: one.node,
+            hash,
+        });
+        before.push(end.and_then(|end| ends.get(&end).copied()))?;
+        if let Some(cell) = one.cell {
+            let end = LogEnd {
+                node: one.node,
+                hash: cell.place.hash,
+            };
+            ends.insert(end, i)?;
+        }
+    }
+    Ok(before)
+}
+
+/// Whether two entries stand in one column, one above the other.
+fn are_stacked(a: &Drawn<'_>, b: &Drawn<'_>) -> bool {
+    a.row == b.row && a.seq == b.seq
+}
+
+/// The first column that an entry can have beside the one on its left.
+fn column_behind(left: Option<&Drawn<'_>>, column: u64, one: &Drawn<'_>) -> u64 {
+    match left {
+        Some(left) if are_stacked(left, one) => column,
+        Some(left) if left.row == one.row => {
+            column.saturating_add(if one.is_behind_gap { 2 } else { 1 })
+        }
+        _ => 0,
+    }
+}
+
+/// Moves each entry behind the one on its left and behind what it quotes, and answers whether one was moved.
+fn sweep(cells: &[Drawn<'_>], quoted: &[Option<usize>], columns: &mut Vec<u64>) -> bool {
+    let mut moved = false;
+    let mut left = None;
+    let mut column = 0;
+    for (i, one) in cells.iter().enumerate() {
+        let mut wanted = column_behind(left, column, one);
+        if let Some(Some(source)) = quoted.get(i) {
+            wanted = wanted.max(at(columns, *source).saturating_add(1));
+        }
+        column = wanted.max(at(columns, i));
+        if let Some(held) = columns.get_mut(i) {
+            moved |= column != *held;
+            *held = column;
+        }
+        left = Some(one);
+    }
+    moved
+}
+
+/// Moves the entries of one number to the column of the one that is farthest right.
+fn level(cells: &[Drawn<'_>], columns: &mut Vec<u64>) {
+    let mut right = None;
+    let mut column = 0;
+    for (i, one) in cells.iter().enumerate().rev() {
+        let held = at(columns, i);
+        column = match right {
+            Some(right) if are_stacked(one, right) => held.max(column),
+            _ => held,
+        };
+        if let Some(held) = columns.get_mut(i) {
+            *held = column;
+        }
+        right = Some(one);
+    }
+}
+
+/// The column of each entry.
+fn columns_of(
+    alloc: Global,
+    cells: &[Drawn<'_>],
+    quoted: &[Option<usize>],
+) -> Result<Vec<u64>, AllocError> {
+    let mut columns = vec![in alloc; 0; cells.len()]?;
+    for _ in 0..MOST_SWEEPS {
+        if !sweep(cells, quoted, &mut columns) {
+            break;
+        }
+        level(cells, &mut columns);
+    }
+    Ok(columns)
+}
+
+/// The first of a few lanes, from this one on, in which none of the last entries stands.
+fn free_lane(taken: &[u64], wanted: u64) -> u64 {
+    let mut lane = wanted;
+    for _ in 0..taken.len() {
+        if !taken.contains(&lane) {
+            break;
+        }
+        lane = lane.saturating_add(1);
+    }
+    lane
+}
+
+/// The lane of each entry: that of the entry that it stands behind, where it is free.
+fn lanes_of(
+    alloc: Global,
+    cells: &[Drawn<'_>],
+    before: &[Option<usize>],
+) -> Result<Vec<u64>, AllocError> {
+    let mut lanes = Vec::new(alloc);
+    let mut taken = Vec::new(alloc);
+    for (i, one) in cells.iter().enumerate() {
+        if one.alike == 0 {
+            taken.clear();
+        }
+        let wanted = match before.get(i) {
+            Some(Some(prev)) => at(&lanes, *prev),
+            _ => 0,
+        };
+        let lane = free_lane(&taken, wanted);
+        taken.push(lane)?;
+        lanes.push(lane)?;
+    }
+    Ok(lanes)
+}
+
+impl Layout {
+    /// Where each entry stands.
+    pub(crate) fn new(alloc: Global, choice: &Choice<'_>) -> Result<Layout, AllocError> {
+        let cells = choice.cells.as_slice();
+        let before = before_of(alloc, cells)?;
+        let quoted = quoted_of(alloc, cells)?;
+        let columns = columns_of(alloc, cells, &quoted)?;
+        let lanes = lanes_of(alloc, cells, &before)?;
+        Ok(Layout {
+            columns,
+            lanes,
+            before,
+            quoted,
+        })
+    }
+
+    /// The column of entry `i`, from 0.
+    pub(crate) fn column(&self, i: usize) -> u64 {
+        at(&self.columns, i)
+    }
+
+    /// The lane of entry `i` within its row, from 0.
+    pub(crate) fn lane(&self, i: usize) -> u64 {
+        at(&self.lanes, i)
+    }
+
+    /// The entry that entry `i` stands behind.
+    pub(crate) fn before(&self, i: usize) -> Option<usize> {
+        self.before.get(i).copied().unwrap_or(None)
+    }
+
+    /// The entry that entry `i` quotes.
+    pub(crate) fn quoted(&self, i: usize) -> Option<usize> {
+        self.quoted.get(i).copied().unwrap_or(None)
+    }
+
+    /// How many columns there are.
+    pub(crate) fn width(&self) -> u64 {
+        self.columns
+            .iter()
+            .copied()
+            .max()
+            .map_or(0, |last| last.saturating_add(1))
+    }
+
+    /// How many lanes each of so many rows has.
+    pub(crate) fn lanes_by_row(
+        &self,
+        alloc: Global,
+        choice: &Choice<'_>,
+    ) -> Result<Vec<u64>, AllocError> {
+        let mut rows = vec![in alloc; 1; choice.rows.len()]?;
+        for (one, lane) in choice.cells.iter().zip(self.lanes.as_slice()) {
+            if let Some(lanes) = rows.get_mut(one.row) {
+                *lanes = (*lanes).max(lane.saturating_add(1));
+            }
+        }
+        Ok(rows)
+    }
+}

@@ -1,0 +1,89 @@
+//! The entries in tables, for whoever can't see the picture.
+
+use crate::choosing::{Choice, Drawn, Row};
+use crate::describing::{entry_id, kind, sentence_link, standing, tell_content};
+use crate::page::Page;
+use crate::page::Piece::{Digits, Markup, Number};
+use std::alloc::AllocError;
+
+/// Writes the cells of an entry of which something is known.
+fn write_known(page: &mut Page, one: &Drawn<'_>) -> Result<(), AllocError> {
+    let Some(cell) = one.cell else {
+        return page.markup("<td>not known</td><td>nothing of it is here</td><td></td><td></td>");
+    };
+    page.write(&[
+        Markup("<td>"),
+        Markup(kind(cell)),
+        Markup("</td><td>"),
+        Markup(standing(cell)),
+        Markup("</td><td class=\"content\">"),
+    ])?;
+    tell_content(page, cell)?;
+    page.write(&[
+        Markup("</td><td class=\"hash\"><code>"),
+        Digits(&cell.place.hash.0),
+        Markup("</code></td>"),
+    ])
+}
+
+/// Writes the cell that says whether the entry contradicts something.
+fn write_mark(page: &mut Page, one: &Drawn<'_>) -> Result<(), AllocError> {
+    let Some(sentence) = one.sentence else {
+        return page.markup("<td></td>");
+    };
+    page.markup("<td class=\"sign\"><a")?;
+    sentence_link(page, sentence)?;
+    page.markup(">! contradicts</a></td>")
+}
+
+/// Writes the row of an entry.
+fn write_entry(page: &mut Page, one: &Drawn<'_>) -> Result<(), AllocError> {
+    page.markup(if one.sentence.is_some() {
+        "<tr class=\"marked\">"
+    } else {
+        "<tr>"
+    })?;
+    page.markup("<th scope=\"row\"><a href=\"#")?;
+    entry_id(page, one)?;
+    page.write(&[Markup("\">"), Number(one.seq), Markup("</a></th>")])?;
+    write_known(page, one)?;
+    write_mark(page, one)?;
+    page.markup("</tr>\n")
+}
+
+/// Writes the table's head.
+fn write_head(page: &mut Page, row: &Row) -> Result<(), AllocError> {
+    page.write(&[
+        Markup("<details open><summary>What is known of the log of node "),
+        Number(row.node.0 as u64),
+        Markup(": "),
+        Number(row.known as u64),
+        Markup(if row.known == 1 { " entry" } else { " entries" }),
+    ])?;
+    if row.drawn < row.known {
+        page.write(&[
+            Markup(", of which "),
+            Number(row.drawn as u64),
+            Markup(" are shown"),
+        ])?;
+    }
+    page.markup(
+        "</summary>\n<div class=\"scroll\" role=\"region\" aria-label=\"Table\" tabindex=\"0\"><table><thead><tr><th scope=\"col\">Number</th><th scope=\"col\">Kind</th><th scope=\"col\">Known from</th><th scope=\"col\">Content</th><th scope=\"col\">Hash</th><th scope=\"col\">Marked</th></tr></thead>\n<tbody>\n",
+    )
+}
+
+/// Writes the table of a row: its entries begin at `from`.
+pub(crate) fn write_table(
+    page: &mut Page,
+    row: &Row,
+    cells: &[Drawn<'_>],
+) -> Result<(), AllocError> {
+    if cells.is_empty() {
+        return Ok(());
+    }
+    write_head(page, row)?;
+    for one in cells {
+        write_entry(page, one)?;
+    }
+    page.markup("</tbody></table></div></details>\n")
+}
