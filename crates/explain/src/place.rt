@@ -1,0 +1,129 @@
+//! Where in an input a fault stands.
+
+use authenticators::NodeId;
+use log_chain::{FieldFault, FieldReader};
+use std::fmt;
+
+/// What a store's text begins with: eight bytes by which it is known, and a count in eight.
+const HEADER: usize = 16;
+
+/// Where a fault stands. Lines count from 1, what stands in them from 0.
+#[derive(Clone, Copy, Debug)]
+pub enum Place {
+    /// Nowhere in the input.
+    None,
+    /// In this line.
+    Line(u8),
+    /// At this character of a line.
+    Character { line: u8, place: u64 },
+    /// At this item of the store in the second line.
+    Item(u64, Told),
+}
+
+/// What was read of an item: which form its first byte says, and the nodes and the number behind that.
+#[derive(Clone, Copy, Debug)]
+pub enum Told {
+    /// Nothing: there is no such item, or its first byte is none that begins one.
+    Nothing,
+    /// A form alone.
+    Form(&'static str),
+    /// A form and its node.
+    Of(&'static str, NodeId),
+    /// A form, its node, and the number of an entry: a statement's, a segment's first, or one that an audit challenge asks for.
+    At(&'static str, NodeId, u64),
+    /// A form of a message, its sender and its receiver.
+    Between(&'static str, NodeId, NodeId),
+    /// A form of a message, its sender, its receiver, and the number of the entry that sent it.
+    Sent(&'static str, NodeId, NodeId, u64),
+}
+
+/// The bytes of an item of a store's text, behind so many others, or as many as there are of it.
+fn item_at(text: &[u8], count: u64) -> Result<&[u8], FieldFault> {
+    let mut reader = FieldReader::new(text);
+    reader.take(HEADER)?;
+    for _ in 0..count {
+        let len = reader.u32()?;
+        reader.take(len as usize)?;
+    }
+    let len = reader.u32()? as usize;
+    let rest = reader.rest();
+    Ok(&rest[..len.min(rest.len())])
+}
+
+/// What is read of an item of one node, whose number stands behind so many bytes more.
+fn read_one(form: &'static str, fields: &[u8], between: usize) -> Told {
+    let mut reader = FieldReader::new(fields);
+    let Ok(node) = reader.u32() else {
+        return Told::Form(form);
+    };
+    let number = match reader.take(between) {
+        Ok(_) => reader.u64(),
+        Err(fault) => Err(fault),
+    };
+    match number {
+        Ok(number) => Told::At(form, NodeId(node), number),
+        Err(_) => Told::Of(form, NodeId(node)),
+    }
+}
+
+/// What is read of an item of a message.
+fn read_message(form: &'static str, fields: &[u8]) -> Told {
+    let mut reader = FieldReader::new(fields);
+    let (Ok(from), Ok(to)) = (reader.u32(), reader.u32()) else {
+        return Told::Form(form);
+    };
+    match reader.u64() {
+        Ok(number) => Told::Sent(form, NodeId(from), NodeId(to), number),
+        Err(_) => Told::Between(form, NodeId(from), NodeId(to)),
+    }
+}
+
+/// What is read of an item: of a segment its first entry's number stands behind a hash and a count, of an audit challenge the number
+/// behind a flag.
+fn told_of(item: &[u8]) -> Told {
+    match item {
+        [1, fields @ ..] => read_one("a statement", fields, 0),
+        [2, fields @ ..] => read_one("a segment", fields, 36),
+        [3, fields @ ..] => read_one("an audit challenge", fields, 1),
+        [4, fields @ ..] => read_message("a send challenge", fields),
+        [5, fields @ ..] => read_message("an acknowledgement", fields),
+        _ => Told::Nothing,
+    }
+}
+
+impl Place {
+    /// The place of an item of a store's text, before which so many others stand.
+    pub fn of_item(count: u64, text: &[u8]) -> Place {
+        match item_at(text, count) {
+            Ok(item) => Place::Item(count, told_of(item)),
+            Err(_) => Place::Item(count, Told::Nothing),
+        }
+    }
+}
+
+impl fmt::Display for Told {
+    fn fmt<W: fmt::Write>(&self, f: &mut fmt::Formatter<W>) -> fmt::Result {
+        match *self {
+            Told::Nothing => Ok(()),
+            Told::Form(form) => write!(f, ", {form}"),
+            Told::Of(form, node) => write!(f, ", {form} of node {node}"),
+            Told::At(form, node, number) => write!(f, ", {form} of node {node}, entry {number}"),
+            Told::Between(form, from, to) => write!(f, ", {form} from node {from} to node {to}"),
+            Told::Sent(form, from, to, number) => {
+                write!(f, ", {form} from node {from} to node {to}, entry {number}")
+            }
+        }
+    }
+}
+
+/// The place in words, with what is put before it.
+impl fmt::Display for Place {
+    fn fmt<W: fmt::Write>(&self, f: &mut fmt::Formatter<W>) -> fmt::Result {
+        match *self {
+            Place::None => Ok(()),
+            Place::Line(line) => write!(f, ": line {line}"),
+            Place::Character { line, place } => write!(f, ": line {line}, character {place}"),
+            Place::Item(count, told) => write!(f, ": line 2, item {count}{told}"),
+        }
+    }
+}

@@ -1,0 +1,86 @@
+//! Why an input is not explained, and where the fault stands.
+
+use crate::place::Place;
+use commands::fault::Fault;
+use outcome::Memory;
+use std::alloc::{AllocError, AllocFailed};
+use std::fmt;
+
+/// A refusal: the commands' fault, and its place.
+#[derive(Clone, Copy, Debug)]
+pub struct Refusal {
+    /// Its number and its name.
+    pub fault: Fault,
+    /// Where it stands.
+    pub place: Place,
+}
+
+impl Refusal {
+    /// A fault of this line.
+    pub fn of_line(fault: Fault, line: u8) -> Refusal {
+        Refusal {
+            fault,
+            place: Place::Line(line),
+        }
+    }
+}
+
+/// What is told of it on one line: `refused NUMBER NAME`, its place, and what it is in words.
+impl fmt::Display for Refusal {
+    fn fmt<W: fmt::Write>(&self, f: &mut fmt::Formatter<W>) -> fmt::Result {
+        let words = words_of(self.fault);
+        write!(f, "{}{}: {words}", self.fault, self.place)
+    }
+}
+
+/// What a fault is.
+fn words_of(fault: Fault) -> &'static str {
+    match fault {
+        Fault::UnknownLmsType => "a key has an LMS typecode that is not known",
+        Fault::UnknownOtsType => "a key has an LM-OTS typecode that is not known",
+        Fault::DuplicateNode => "the directory lists a node twice",
+        Fault::DuplicateKey => "the directory lists a key twice",
+        Fault::TooManyNodes => "the directory lists more nodes than it may",
+        Fault::DirectoryMagic => "the directory does not begin as one",
+        Fault::DirectoryTruncated => "the directory is cut off",
+        Fault::DirectoryTrailing => "bytes are left over after the directory",
+        Fault::KeyCount => "the directory lists a node with no key, or with more than it may have",
+        Fault::UnlistedNode => "a key is of a node that is not listed",
+        Fault::Truncated => "it is cut off",
+        Fault::BadTag => "a byte that tells forms apart is none of those that there are",
+        Fault::TooLong => "a length or a count is above its limit",
+        Fault::Trailing => "bytes are left over",
+        Fault::UnknownNode => "the directory does not list a node that it names",
+        Fault::SelfMessage => "it is a message from a node to itself",
+        Fault::EmptySegment => "the segment has no entry",
+        Fault::BadStart => "the segment begins neither with the log nor with a CHECKPOINT",
+        Fault::BadRange => "the range that the challenge asks for is empty",
+        Fault::BadSignature => "none of the node's keys verifies a signature of it",
+        Fault::NoContradiction => "the parts can be of one node's log, or are of two nodes",
+        Fault::Conforms => "the segment conforms",
+        Fault::BadMagic => "the store does not begin as one",
+        Fault::NotAscending => "its bytes are not above those of the item before",
+        Fault::Memory => "memory ran out",
+        Fault::ReadFailed => "standard input was not read to its end",
+        Fault::InputTooLong => "the input has more than 67108864 bytes",
+        Fault::WriteFailed => "standard output was not written",
+        Fault::BadHex => "the line is not an even number of hexadecimal digits",
+        Fault::LineCount => "the input does not have just two lines, of a directory and of a store or a proof",
+        Fault::BadScenario | Fault::Run(_) => "it is no evidence",
+    }
+}
+
+impl From<Fault> for Refusal {
+    fn from(fault: Fault) -> Refusal {
+        Refusal {
+            fault,
+            place: Place::None,
+        }
+    }
+}
+
+impl From<Memory> for Refusal {
+    fn from(_: Memory) -> Refusal {
+        Refusal::from(Fault::Memory)
+    }
+}
