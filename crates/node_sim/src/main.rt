@@ -8,74 +8,56 @@
 //! - `check` writes whom a proof convicts: `exposes ID`.
 //! - `run` plays a scenario, and writes what each of its witnesses tells of each node.
 //!
-//! Each of them is an engine of the crate `commands`, which carries its theorem. Here words are read, and an answer is told.
+//! Each of them is an engine of the crate `commands`, which carries its theorem. The crate `command_words` reads the words, and tells a
+//! refusal. Here stands which program the nodes run.
 #![tactic(auto)]
 
-ghost use Rattle.std.specs.Prelude.{◌≡◌, OnErr, OnOk};
-ghost use Rattle.std.specs.Process.{exit_status};
+ghost use Rattle.std.specs.Prelude.{◌≡◌, false, true};
 ghost use Rattle.commands.specs.Answers.{Answers};
-ghost use Rattle.commands.specs.Engines.{RanAnew};
+ghost use Rattle.commands.specs.Engines.{HasRoom, Ran};
+ghost use Rattle.ref_programs.specs.RelayMeaning.{relay};
+ghost use Rattle.ref_programs.specs.TallyMeaning.{tally};
 
-mod words;
-
-use commands::device::{CountedReader, CountedWriter};
+use command_words::{Asked, Flag, Request, read_words, told};
+use commands::device::{CountedReader, CountedWriter, Sink, Source};
 use commands::fault::Fault;
-use commands::task::Task;
 use ref_programs::{Relay, Tally};
-use replay_verifier::Program;
 use std::alloc::Global;
 use std::io;
 use std::process::ExitCode;
 use std::sync::Wait;
 use std::thread::Threads;
-use words::{Asked, Request};
 
 /// Ends with 0 where the command was done, with 1 after `refused NUMBER NAME`, and with 2 after clap's text.
 fn main(rt: HostRuntime) -> ExitCode {
-    match words::read_words(&rt) {
-        Asked::Run(Request { task, relay: true }) => {
-            told(
-                &rt,
-                run(&rt, rt.alloc(), &Relay, task, rt.stdin(), io::writer(&rt)),
-            )
-        }
-        Asked::Run(Request { task, relay: false }) => {
-            told(
-                &rt,
-                run(&rt, rt.alloc(), &Tally, task, rt.stdin(), io::writer(&rt)),
-            )
-        }
+    let flag = Flag {
+        name: "relay",
+        help: "The nodes run the program Relay, in place of Tally",
+    };
+    let mut reader = CountedReader::new(rt.stdin());
+    let mut writer = CountedWriter::new(io::writer(&rt));
+    match read_words(&rt, "node_sim", Some(flag)) {
+        Asked::Run(request) => told(&rt, run(&rt, rt.alloc(), request, &mut reader, &mut writer)),
         Asked::Refused(fault) => told(&rt, Err(fault)),
         Asked::Other => ExitCode::from(2),
     }
 }
 
-/// The command, on an input and an output.
-fn run<
-    H: Threads + Wait + Sync,
-    P: Program + Copy + Send + Sync + Drop,
-    R: io::Read + Drop,
-    W: io::Write + Drop,
->(rt: &H, alloc: Global, program: &P, task: Task, input: R, output: W) -> Result<(), Fault>
-where
-    P::State: Send,
-    ensures { RanAnew (Answers P.means task) result (R.remaining input) W.contents output }
+/// The command, of nodes that run Relay where the flag was there, and else Tally.
+fn run<H: Threads + Wait + Sync, R: Source, W: Sink>(
+    rt: &H,
+    alloc: Global,
+    request: Request,
+    reader: &mut R,
+    writer: &mut W,
+) -> Result<(), Fault>
+    requires { HasRoom (R.seen reader.old) (W.seen writer.old) }
+    ensures relay { request.flagged ≡ true → Ran (Answers relay request.task) result (R.seen reader.old) (R.seen reader.new) W.seen writer.old writer.new }
+    ensures tally { request.flagged ≡ false → Ran (Answers tally request.task) result (R.seen reader.old) (R.seen reader.new) W.seen writer.old writer.new }
 {
-    let mut reader = CountedReader::new(input);
-    let mut writer = CountedWriter::new(output);
-    task.run(rt, alloc, program, &mut reader, &mut writer)
-}
-
-/// Tells a refusal on standard error. Where that cannot be written, the exit status alone tells it.
-fn told(rt: &HostRuntime, done: Result<(), Fault>) -> ExitCode
-    ensures done { OnOk done (exit_status result ≡ 0) }
-    ensures refused { OnErr done (exit_status result ≡ 1) }
-{
-    match done {
-        Ok(()) => ExitCode::SUCCESS,
-        Err(fault) => {
-            let _ = eprintln!(rt; "{fault}");
-            ExitCode::FAILURE
-        }
+    if request.flagged {
+        request.task.run(rt, alloc, &Relay, reader, writer)
+    } else {
+        request.task.run(rt, alloc, &Tally, reader, writer)
     }
 }

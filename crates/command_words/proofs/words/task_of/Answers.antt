@@ -1,8 +1,8 @@
 use Rattle.std.proofs.Common.{◌∙◌, codes}
 use Rattle.clap.specs.Words.{found_of, rows_of}
 use Rattle.clap.proofs.WalkLemmas.{one_text-rows}
-use Rattle.node_sim.proofs.Numbers.{named, no_number, only_number, proving, running}
-use Rattle.node_sim.proofs.words.task_of.Goals as goal
+use Rattle.command_words.proofs.Numbers.{named, no_number, only_number, proving, running}
+use Rattle.command_words.proofs.words.task_of.Goals as goal
 
 -- ---- `prove`
 

@@ -1,12 +1,12 @@
 //! The words of the command line, read by `clap`.
 
-ghost use Rattle.std.specs.Prelude.{◌≡◌, codes, false, true, IfOk, IfSome, IsSome, MatchResult, Some, map};
+ghost use Rattle.std.specs.Prelude.{◌≡◌, ◌≢◌, codes, false, true, IfOk, IfSome, None, Some, map};
 ghost use Rattle.std.specs.String.{string_bytes};
-ghost use Rattle.clap.specs.Words.{FailsBy, app_of, found_of, kind_of, rows_of, rule_of};
-ghost use Rattle.node_sim.specs.CommandLine.{AsksFor, IsPlainLine, Names, alone, flag_in, node, plain, program, prove, relay, run, word_faults, workers};
+ghost use Rattle.clap.specs.Words.{FailsBy, app_of, found_of, is_simple_and_free, rows_of, rule_of};
+ghost use Rattle.command_words.specs.CommandLine.{AsksFor, Names, alone, flag_in, flag_name, flag_of, flag_rule, node, plain, program_of, prove, run, with_flag, word_faults, workers};
 ghost use Rattle.commands.specs.declared.fault.Fault.{Fault};
 ghost use Rattle.commands.specs.declared.fault.Fault.TheVariants.{Memory};
-ghost use Rattle.node_sim.specs.declared.words.Asked.TheVariants.{Refused};
+ghost use Rattle.command_words.specs.declared.words.Asked.TheVariants.{Refused};
 
 use authenticators::NodeId;
 use clap::error::ErrorKind;
@@ -17,15 +17,27 @@ use parallel_checking::MOST_WORKERS;
 use std::alloc::{AllocError, Global};
 use std::io;
 
-/// A command, for nodes that run Relay, or else Tally.
+/// A flag of a program's own, which each of its commands has: by it the nodes run another program.
+#[derive(Clone, Copy, Debug)]
+pub struct Flag<'a> {
+    /// Its name, without the dashes.
+    pub name: &'a str,
+    /// What the help says of it.
+    pub help: &'a str,
+}
+
+/// A command, and whether it was asked for with the flag.
 #[derive(Clone, Copy, Debug)]
 pub struct Request {
+    /// The command.
     pub task: Task,
-    pub relay: bool,
+    /// Whether the flag is among its words.
+    pub flagged: bool,
 }
 
 /// What the words ask for.
 pub enum Asked {
+    /// A command.
     Run(Request),
     /// Memory ran out while the words were read.
     Refused(Fault),
@@ -33,8 +45,9 @@ pub enum Asked {
     Other,
 }
 
-/// Reads the words of the command line.
-pub fn read_words(rt: &HostRuntime) -> Asked
+/// Reads the words of the command line, of a program of this name, which has this flag or none.
+pub fn read_words(rt: &HostRuntime, program: &str, flag: Option<Flag>) -> Asked
+    requires simple { is_simple_and_free (program_of program.now (flag_name flag)) ≡ true }
     ensures { (f : Fault) → result ≡ Refused f → f ≡ Memory }
 {
     let alloc = rt.alloc();
@@ -48,7 +61,7 @@ pub fn read_words(rt: &HostRuntime) -> Asked
             return Asked::Other;
         }
     };
-    match parsed(alloc, words.as_slice()) {
+    match parsed(alloc, program, flag, words.as_slice()) {
         Ok(Some(request)) => Asked::Run(request),
         Ok(None) => Asked::Other,
         Err(error) if error.kind() == ErrorKind::OutOfMemory => Asked::Refused(Fault::Memory),
@@ -64,15 +77,29 @@ fn words_of(rt: &HostRuntime) -> io::Result<Vec<String>> {
     Ok(words)
 }
 
-/// The flag of every command.
-fn relay<'a>(alloc: Global) -> Arg<'a>
-    ensures rule { rule_of result ≡ relay }
+/// The flag, as an argument.
+fn flag_arg<'a>(alloc: Global, flag: Flag<'a>) -> Arg<'a>
+    ensures rule { rule_of result ≡ flag_rule flag.entry.name.now }
     ensures local { result.global ≡ false }
 {
-    Arg::new(alloc, "relay")
-        .long("relay")
+    Arg::new(alloc, flag.name)
+        .long(flag.name)
         .action(ArgAction::SetTrue)
-        .help("The nodes run the program Relay, in place of Tally")
+        .help(flag.help)
+}
+
+/// The command with the flag, where there is one.
+fn with_flag<'a>(
+    alloc: Global,
+    command: Command<'a>,
+    flag: Option<Flag<'a>>,
+) -> Result<Command<'a>, AllocError>
+    ensures { IfOk result (λ c. app_of c ≡ with_flag (flag_name flag.entry) (app_of command.entry)) }
+{
+    match flag {
+        Some(flag) => command.arg(flag_arg(alloc, flag)),
+        None => Ok(command),
+    }
 }
 
 /// The number of a node.
@@ -103,10 +130,10 @@ fn workers<'a>(alloc: Global) -> Arg<'a>
 }
 
 /// The program's command, without those beneath it.
-fn alone<'a>(alloc: Global) -> Command<'a>
-    ensures { app_of result ≡ alone }
+fn alone<'a>(alloc: Global, program: &'a str) -> Command<'a>
+    ensures { app_of result ≡ alone program.entry.now }
 {
-    Command::new(alloc, "node_sim")
+    Command::new(alloc, program)
         .about(
             "Tells what signed evidence says of nodes. Reads lines from standard input: of a scenario for run, of hexadecimal digits for the others",
         )
@@ -115,59 +142,71 @@ fn alone<'a>(alloc: Global) -> Command<'a>
 }
 
 /// A command with the flag alone.
-fn plain<'a>(alloc: Global, name: &'a str, about: &'a str) -> Result<Command<'a>, AllocError>
-    ensures { IfOk result (λ c. app_of c ≡ plain name.entry.now) }
+fn plain<'a>(
+    alloc: Global,
+    flag: Option<Flag<'a>>,
+    name: &'a str,
+    about: &'a str,
+) -> Result<Command<'a>, AllocError>
+    ensures { IfOk result (λ c. app_of c ≡ plain (flag_name flag.entry) name.entry.now) }
 {
-    Command::new(alloc, name).about(about).arg(relay(alloc))
+    with_flag(alloc, Command::new(alloc, name).about(about), flag)
 }
 
 /// The command `prove`.
-fn prove<'a>(alloc: Global) -> Result<Command<'a>, AllocError>
-    ensures { IfOk result (λ c. app_of c ≡ prove) }
+fn prove<'a>(alloc: Global, flag: Option<Flag<'a>>) -> Result<Command<'a>, AllocError>
+    ensures { IfOk result (λ c. app_of c ≡ prove (flag_name flag.entry)) }
 {
-    Command::new(alloc, "prove")
+    let command = Command::new(alloc, "prove")
         .about("Writes a proof that the node misbehaved, or none. Two lines: a directory, a store")
-        .arg(node(alloc))?
-        .arg(relay(alloc))
+        .arg(node(alloc))?;
+    with_flag(alloc, command, flag)
 }
 
 /// The command `run`.
-fn run<'a>(alloc: Global) -> Result<Command<'a>, AllocError>
-    ensures { IfOk result (λ c. app_of c ≡ run) }
+fn run<'a>(alloc: Global, flag: Option<Flag<'a>>) -> Result<Command<'a>, AllocError>
+    ensures { IfOk result (λ c. app_of c ≡ run (flag_name flag.entry)) }
 {
-    Command::new(alloc, "run")
+    let command = Command::new(alloc, "run")
         .about(
             "Plays a scenario before its witnesses, and writes what each of them tells of each node. Lines: those of a scenario",
         )
-        .arg(workers(alloc))?
-        .arg(relay(alloc))
+        .arg(workers(alloc))?;
+    with_flag(alloc, command, flag)
 }
 
 /// The program's command.
-fn command<'a>(alloc: Global) -> Result<Command<'a>, AllocError>
-    ensures { IfOk result (λ c. app_of c ≡ program) }
+fn command<'a>(
+    alloc: Global,
+    program: &'a str,
+    flag: Option<Flag<'a>>,
+) -> Result<Command<'a>, AllocError>
+    ensures { IfOk result (λ c. app_of c ≡ program_of program.entry.now (flag_name flag.entry)) }
 {
     let status = plain(
         alloc,
+        flag,
         "status",
         "Writes what each node is: trusted, suspected or exposed. Two lines: a directory, a store",
     )?;
     let merge = plain(
         alloc,
+        flag,
         "merge",
         "Writes the store of all items of stores. A line for the directory, and one for each store",
     )?;
     let check = plain(
         alloc,
+        flag,
         "check",
         "Writes which node a proof exposes. Two lines: a directory, a proof",
     )?;
-    alone(alloc)
+    alone(alloc, program)
         .subcommand(status)?
         .subcommand(merge)?
-        .subcommand(prove(alloc)?)?
+        .subcommand(prove(alloc, flag)?)?
         .subcommand(check)?
-        .subcommand(run(alloc)?)
+        .subcommand(run(alloc, flag)?)
 }
 
 /// The command of the name; none where it is unknown or its number is missing, which clap has refused.
@@ -191,24 +230,40 @@ fn task_of(name: &str, options: &ArgMatches<'_>) -> Option<Task>
     }
 }
 
-/// What the words ask for, where clap takes them; none where they name no command, which clap has refused.
-fn parsed(alloc: Global, words: &[String]) -> Result<Option<Request>, Error>
-    ensures faults { FailsBy (word_faults (map string_bytes words.now)) result }
-    // The task is the one that clap finds, and Relay is taken where clap finds the flag.
-    ensures task { IfOk result (λ r. IfSome r (λ q. AsksFor (map string_bytes words.now) q.task)) }
-    ensures relay { IfOk result (λ r. IfSome r (λ q. flag_in (map string_bytes words.now) ≡ Some (codes "true") → q.relay ≡ true)) }
-    ensures tally { IfOk result (λ r. IfSome r (λ q. flag_in (map string_bytes words.now) ≡ Some (codes "false") → q.relay ≡ false)) }
-    // What clap finds is not passed over.
-    ensures found { (t : Task) → AsksFor (map string_bytes words.now) t → IfOk result (λ r. IsSome r) }
-    ensures plain { (q : Request) → IsPlainLine (map string_bytes words.now) q → MatchResult result (λ r. r ≡ Some q) (λ e. kind_of e ≡ ErrorKind.OutOfMemory) }
+/// Whether the flag is among the command's words.
+fn is_flagged(options: &ArgMatches<'_>, flag: Option<Flag>) -> bool
+    ensures on { flag_of (flag_name flag.entry) (rows_of (found_of options.now)) ≡ Some (codes "true") → result ≡ true }
+    ensures off { flag_of (flag_name flag.entry) (rows_of (found_of options.now)) ≡ Some (codes "false") → result ≡ false }
 {
-    let matches = command(alloc)?.try_get_matches_from(words)?;
+    match flag {
+        Some(flag) => options.get_flag(flag.name),
+        None => false,
+    }
+}
+
+/// What the words ask for, where clap takes them; none where they name no command, which clap has refused.
+fn parsed(
+    alloc: Global,
+    program: &str,
+    flag: Option<Flag>,
+    words: &[String],
+) -> Result<Option<Request>, Error>
+    requires simple { is_simple_and_free (program_of program.now (flag_name flag)) ≡ true }
+    ensures faults { FailsBy (word_faults program.now (flag_name flag.entry) (map string_bytes words.now)) result }
+    // The task is the one that clap finds, and the flag is taken where clap finds it.
+    ensures task { IfOk result (λ r. IfSome r (λ q. AsksFor program.now (flag_name flag.entry) (map string_bytes words.now) q.task)) }
+    ensures flagged { IfOk result (λ r. IfSome r (λ q. flag_in program.now (flag_name flag.entry) (map string_bytes words.now) ≡ Some (codes "true") → q.flagged ≡ true)) }
+    ensures plain { IfOk result (λ r. IfSome r (λ q. flag_in program.now (flag_name flag.entry) (map string_bytes words.now) ≡ Some (codes "false") → q.flagged ≡ false)) }
+    // What clap finds is not passed over.
+    ensures found { (t : Task) → AsksFor program.now (flag_name flag.entry) (map string_bytes words.now) t → IfOk result (λ r. r ≢ None) }
+{
+    let matches = command(alloc, program, flag)?.try_get_matches_from(words)?;
     let Some((name, options)) = matches.subcommand() else {
         return Ok(None);
     };
     let Some(task) = task_of(name, options) else {
         return Ok(None);
     };
-    let relay = options.get_flag("relay");
-    Ok(Some(Request { task, relay }))
+    let flagged = is_flagged(options, flag);
+    Ok(Some(Request { task, flagged }))
 }

@@ -2,7 +2,7 @@
 use Rattle.std.proofs.Common.{◌≡◌, ◌∙◌, ℕ, ap, arith, codes, refl, slice_index, subst, sym, Option, Some, None, Err, List, ◌∷◌}
 use Rattle.std.specs.Str.Parse.{ParsesUnsigned}
 use Rattle.clap.specs.Words.{Row, Text, one_of}
-use Rattle.node_sim.specs.CommandLine.{HasNumber, IsNumber, Names}
+use Rattle.command_words.specs.CommandLine.{HasNumber, IsNumber, Names}
 use Rattle.commands.specs.declared.task.Task.{Task}
 use Rattle.commands.specs.declared.task.Task.TheVariants.{Check, Merge, Prove, Run, Status}
 

@@ -1,4 +1,3 @@
 pub mod FoundWords
 pub mod Numbers
 pub mod PlainLines
-pub mod Runs

@@ -1,0 +1,13 @@
+//! Laws over the definitions. Each is a function that computes nothing: its contract is the law.
+
+ghost use Rattle.command_words.specs.PlainLines.{FlaggedLinesAreTaken, PlainLinesAreTaken};
+
+/// A program without a flag takes each plain line without one.
+pub fn plain_lines_are_taken()
+    ensures { PlainLinesAreTaken }
+{}
+
+/// A program with the flag `--relay` takes each plain line, with the flag or without.
+pub fn flagged_lines_are_taken()
+    ensures { FlaggedLinesAreTaken }
+{}
