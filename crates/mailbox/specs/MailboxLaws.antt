@@ -12,10 +12,10 @@ use Rattle.state_codec.specs.CodingLaws.{list_lawful, pair_lawful, struct_lawful
 use Rattle.state_codec.specs.StateLaws.{coded_lawful, either_stays, empty_stays, filter_stays, push_stays}
 use Rattle.mailbox.specs.declared.held.Held.{Held}
 use Rattle.mailbox.specs.declared.held.TheConstants.{LONGEST_TEXT, MOST_MAILS}
-use Rattle.mailbox.specs.declared.wishes.TheConstants.{FETCH, LEAVE}
+use Rattle.mailbox.specs.declared.wishes.TheConstants.{FETCH_WISH, LEAVE_WISH}
 use Rattle.mailbox.specs.HeldMails.{IsHeld, IsMail, held_coding, held_of, held_parts, mail_coding, mail_of, mail_parts}
 use Rattle.mailbox.specs.MailboxMeaning.{delivered, is_answer, is_delivery, is_fetch, mailbox, mailbox_start, mailbox_step, receiver}
-use Rattle.mailbox.specs.UserWishes.{is_unknown, leaving, letter, piece, wished, writing}
+use Rattle.mailbox.specs.UserWishes.{is_unknown, kind, leaving, piece, wished, writing}
 
 pub mail_lawful : IsCoding mail_coding IsMail
 mail_lawful = struct_lawful mail_of mail_parts (λ p. refl) (λ m. refl) (pair_lawful u32_lawful (pair_lawful u32_lawful (pair_lawful u64_lawful (text_lawful LONGEST_TEXT (lit≤ tt)))))
@@ -36,8 +36,8 @@ leaving_stays held from to text fits t h =
 wishes_stay : (held : Held) (wish : List ℕ) → IsHeld held → IsBytes wish → IsHeld (wished held wish).state
 unfolding leaving writing
 wishes_stay held wish fits b =
-    let more = IsBytes-drop (8 - (letter wish - FETCH)) wish b in
-    either_stays IsHeld (letter wish == FETCH) _ _ (λ f. fits) (λ f. either_stays IsHeld (letter wish == LEAVE) _ _ (λ l. (fits.0, (no_text, fits.1.1))) (λ l.
+    let more = IsBytes-drop (8 - (kind wish - FETCH_WISH)) wish b in
+    either_stays IsHeld (kind wish == FETCH_WISH) _ _ (λ f. fits) (λ f. either_stays IsHeld (kind wish == LEAVE_WISH) _ _ (λ l. (fits.0, (no_text, fits.1.1))) (λ l.
     either_stays IsHeld (is_unknown wish) _ _ (λ u. fits) (λ u. either_stays IsHeld (nat_lt LONGEST_TEXT (length (held.draft ++ piece wish))) _ _ (λ long. fits) (λ short.
     (fits.0, (record { each = λ i. grind (arith, fits.1.0.each i, more (i - length held.draft), get_or_append_left held.draft (piece wish) 0 i, get_or-append_right held.draft (piece wish) (length held.draft) i 0 refl); count = ltb-false _ _ short }, fits.1.1))))))
 
