@@ -111,7 +111,7 @@ module _ (program : Text) (flag : Option Text) where
   by_task line flagged status merge check run workers name Check is = subst (λ (n : Text). IsTaken program flag (line n) Check flagged) (sym is) (asks_for _ _ Check flagged (λ rows here. refl) check)
   by_task line flagged status merge check run workers name (Run n) is =
       subst (λ (k : ℕ). IsTaken program flag (line name) (Run k) flagged) (sym is.1)
-          (subst (λ (t : Text). IsTaken program flag (line t) (Run 1) flagged) (sym is.0) (run_asks _ flagged run workers))
+      (subst (λ (t : Text). IsTaken program flag (line t) (Run 1) flagged) (sym is.0) (run_asks _ flagged run workers))
 
   on_words : (words line : List Text) (task : Task) (flagged b : Bool) → words ≡ line → flagged ≡ b → IsTaken program flag line task b → IsTaken program flag words task flagged
   on_words words line task flagged b is same taken = subst (λ (f : Bool). IsTaken program flag words task f) (sym same) (subst (λ (ws : List Text). IsTaken program flag ws task b) (sym is) taken)

@@ -1,6 +1,7 @@
 //! Where in an input a fault stands.
 
 use authenticators::NodeId;
+use containers::{Cause, ImportFault};
 use log_chain::{FieldFault, FieldReader};
 use std::fmt;
 
@@ -18,6 +19,8 @@ pub enum Place {
     Character { line: u8, place: u64 },
     /// At this item of the store in the second line.
     Item(u64, Told),
+    /// Behind all items of the store in the second line, which are so many.
+    Behind(u64),
 }
 
 /// What was read of an item: which form its first byte says, and the nodes and the number behind that.
@@ -91,12 +94,32 @@ fn told_of(item: &[u8]) -> Told {
     }
 }
 
+/// The count in the header of a store's text; none where the text has no whole header.
+fn count_of(text: &[u8]) -> Option<u64> {
+    let mut reader = FieldReader::new(text);
+    match reader.take(HEADER - 8) {
+        Ok(_) => match reader.u64() {
+            Ok(count) => Some(count),
+            Err(_) => None,
+        },
+        Err(_) => None,
+    }
+}
+
 impl Place {
-    /// The place of an item of a store's text, before which so many others stand.
-    pub fn of_item(count: u64, text: &[u8]) -> Place {
-        match item_at(text, count) {
-            Ok(item) => Place::Item(count, told_of(item)),
-            Err(_) => Place::Item(count, Told::Nothing),
+    /// The place of a fault of a store's text in the second line.
+    pub fn of_import(fault: &ImportFault, text: &[u8]) -> Place {
+        let Some(count) = count_of(text) else {
+            return Place::Line(2);
+        };
+        match fault.cause {
+            Cause::Memory => Place::None,
+            Cause::BadMagic => Place::Line(2),
+            _ if fault.item >= count => Place::Behind(count),
+            _ => match item_at(text, fault.item) {
+                Ok(item) => Place::Item(fault.item, told_of(item)),
+                Err(_) => Place::Item(fault.item, Told::Nothing),
+            },
         }
     }
 }
@@ -124,6 +147,7 @@ impl fmt::Display for Place {
             Place::Line(line) => write!(f, ": line {line}"),
             Place::Character { line, place } => write!(f, ": line {line}, character {place}"),
             Place::Item(count, told) => write!(f, ": line 2, item {count}{told}"),
+            Place::Behind(count) => write!(f, ": line 2, behind {count} items"),
         }
     }
 }

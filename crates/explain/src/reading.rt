@@ -72,8 +72,8 @@ pub fn read_store<P: Program, S: Evidence<P>>(
     match store.import(program, &text) {
         Ok(_) => Ok(store),
         Err(fault) => Err(Refusal {
+            place: Place::of_import(&fault, &text),
             fault: Fault::from(fault),
-            place: Place::of_item(fault.item, &text),
         }),
     }
 }

@@ -65,7 +65,8 @@ fn words_of(fault: Fault) -> &'static str {
         Fault::InputTooLong => "the input has more than 67108864 bytes",
         Fault::WriteFailed => "standard output was not written",
         Fault::BadHex => "the line is not an even number of hexadecimal digits",
-        Fault::LineCount => "the input does not have just two lines, of a directory and of a store or a proof",
+        Fault::LineCount =>
+            "the input does not have just two lines, of a directory and of a store or a proof",
         Fault::BadScenario | Fault::Run(_) => "it is no evidence",
     }
 }
