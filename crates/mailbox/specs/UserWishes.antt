@@ -1,5 +1,5 @@
 -- What a node does at its user's wishes: the moments of the timer from 2 ^ 63 on.
-use Rattle.std.specs.Prelude.{ℕ, ◌-◌, ◌==◌, ◌||◌, nat_lt, Bool, List, [], ◌∷◌, ◌++◌, length, drop, slice_index, if◌then◌else◌}
+use Rattle.std.specs.Prelude.{ℕ, ◌-◌, ◌==◌, ◌&&◌, nat_lt, Bool, List, [], ◌∷◌, ◌++◌, length, drop, slice_index, if◌then◌else◌}
 use Rattle.std.specs.Int.{w32, from_be_bytes, to_be_bytes}
 use Rattle.replay_verifier.specs.declared.program.Step.{Step}
 use Rattle.mailbox.specs.declared.held.Held.{Held}
@@ -37,18 +37,24 @@ leaving held to = asking (record held { draft = [] }) (delivery to held.draft)
 abbrev pub kind : List ℕ → ℕ
 kind wish = slice_index wish 0
 
+abbrev pub is_fetching : List ℕ → Bool
+is_fetching wish = kind wish == FETCH_WISH
+
+abbrev pub is_leaving : List ℕ → Bool
+is_leaving wish = kind wish == LEAVE_WISH
+
 abbrev pub receiver : List ℕ → ℕ
 receiver wish = from_be_bytes w32 (drop 4 wish)
+
+-- Between the kinds of fetching and leaving stand those of writing one byte to seven.
+abbrev pub is_writing : List ℕ → Bool
+is_writing wish = nat_lt FETCH_WISH (kind wish) && nat_lt (kind wish) LEAVE_WISH
 
 abbrev pub piece : List ℕ → List ℕ
 piece wish = drop (8 - (kind wish - FETCH_WISH)) wish
 
--- Between the kinds of fetching and leaving stand those of writing one byte to seven.
-abbrev pub is_unknown : List ℕ → Bool
-is_unknown wish = nat_lt (kind wish) FETCH_WISH || nat_lt LEAVE_WISH (kind wish)
-
 abbrev pub wished : Held → List ℕ → Step Held
 wished held wish =
-    if kind wish == FETCH_WISH then fetching held
-    else (if kind wish == LEAVE_WISH then leaving held (receiver wish)
-    else (if is_unknown wish then silent held else writing held (piece wish)))
+    if is_fetching wish then fetching held
+    else (if is_leaving wish then leaving held (receiver wish)
+    else (if is_writing wish then writing held (piece wish) else silent held))
