@@ -1,5 +1,5 @@
 -- Why the items of a set say of a node what they say.
-use Rattle.std.specs.Prelude.{◌≡◌, ◌↔◌, ℕ, List, map, IsTrue, Result, Ok, Err}
+use Rattle.std.specs.Prelude.{◌↔◌, ℕ, List, map, IsTrue, Result, Ok, Err}
 use Rattle.std.specs.List.{All, Contains}
 use Rattle.std.specs.List.Sorted.{IsStrictlyIncreasing, IsStrictlySortedBy}
 use Rattle.authenticators.specs.Directory.{Listing, is_listed}

@@ -84,7 +84,6 @@ fn accounts_of<P: Program>(
 
 /// What a store says of the nodes of its directory, and why: in one pass over its items, in which nothing is verified or hashed that
 /// was before. `Memory` where a growth was refused.
-#[tactic(auto, using(crate::proofs::Rows::told_are))]
 pub fn explain_store<P: Program, S: Evidence<P>>(
     alloc: Global,
     program: &P,

@@ -1,4 +1,4 @@
-use Rattle.std.proofs.Common.{◌≡◌, ◌∙◌, refl, sym, ap, arith, take_all}
+use Rattle.std.proofs.Common.{◌∙◌, ap, arith, take_all}
 use Rattle.std.specs.Prelude.{map}
 use Rattle.explanations.specs.Whys.{row_of, told_of}
 use Rattle.explanations.proofs.Rows.{one_more}

@@ -1,4 +1,4 @@
-use Rattle.std.proofs.Common.{◌≡◌, ℕ, take}
+use Rattle.std.proofs.Common.{◌≡◌, take}
 use Rattle.std.specs.Prelude.{map}
 use Rattle.explanations.specs.Whys.{row_of, told_of}
 use Rattle.explanations.proofs.telling.accounts_of.Given as goal

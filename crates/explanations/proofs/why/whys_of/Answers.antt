@@ -1,5 +1,4 @@
-use Rattle.std.proofs.Common.{◌≡◌, ◌∙◌, refl, sym, arith, take_all}
-use Rattle.std.specs.Prelude.{map}
+use Rattle.std.proofs.Common.{◌∙◌, refl, arith, take_all}
 use Rattle.std.proofs.lemmas.List.Elements.{All-push}
 use Rattle.explanations.specs.Whys.{IsWhy}
 use Rattle.explanations.proofs.Rows.{map_self, one_more, rows_are}
