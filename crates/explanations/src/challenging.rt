@@ -1,7 +1,6 @@
 //! Challenges that nobody answered, in sentences.
 
-use crate::lines::Lines;
-use crate::words::Bytes;
+use accounts::{Bytes, Lines};
 use item_forms::{AuditChallenge, Form, Item, Message, Statement};
 use outcome::Memory;
 
@@ -24,11 +23,15 @@ fn say_range(
     let node = challenge.node;
     let from = first.seq;
     let to = challenge.last.seq;
-    let asked = format!(in alloc; "Item {place}, an audit challenge, asks node {node} for its log from entry {from} to entry {to}.")?;
+    let asked = format!(in alloc;
+        "Item {place}, an audit challenge, asks node {node} for its log from entry {from} to entry {to}."
+    )?;
     lines.say(asked)?;
     let before = first.hash;
     let hash = challenge.last.hash;
-    let answer = format!(in alloc; "A segment of node {node} with both would answer it: entry {from} with the hash {before}, and entry {to} with the hash {hash}.")?;
+    let answer = format!(in alloc;
+        "A segment of node {node} that has entry {from} with the hash {before} and entry {to} with the hash {hash} would answer it."
+    )?;
     lines.say(answer)
 }
 
@@ -37,10 +40,14 @@ fn say_front(lines: &mut Lines, place: u64, challenge: &AuditChallenge) -> Resul
     let alloc = lines.alloc();
     let node = challenge.node;
     let to = challenge.last.seq;
-    let asked = format!(in alloc; "Item {place}, an audit challenge, asks node {node} for its log from the beginning to entry {to}.")?;
+    let asked = format!(in alloc;
+        "Item {place}, an audit challenge, asks node {node} for its log from the beginning to entry {to}."
+    )?;
     lines.say(asked)?;
     let hash = challenge.last.hash;
-    let answer = format!(in alloc; "A segment of node {node} from the beginning with entry {to} would answer it, with the hash {hash}.")?;
+    let answer = format!(in alloc;
+        "A segment of node {node} from the beginning that has entry {to} with the hash {hash} would answer it."
+    )?;
     lines.say(answer)
 }
 
@@ -51,9 +58,13 @@ fn say_send(lines: &mut Lines, place: u64, message: &Message) -> Result<(), Memo
     let to = message.to;
     let seq = message.seq;
     let payload = Bytes(message.payload.as_slice());
-    let asked = format!(in alloc; "Item {place}, a send challenge of node {from}, asks node {to} to acknowledge entry {seq} of node {from}: {payload}.")?;
+    let asked = format!(in alloc;
+        "Item {place}, a send challenge of node {from}, asks node {to} to acknowledge entry {seq} of node {from}: {payload}."
+    )?;
     lines.say(asked)?;
-    let answer = format!(in alloc; "An acknowledgement of node {to} would answer it, or a segment of node {to} with a RECV of entry {seq} of node {from}.")?;
+    let answer = format!(in alloc;
+        "An acknowledgement of node {to} would answer it, or a segment of node {to} with a RECV of entry {seq} of node {from}."
+    )?;
     lines.say(answer)
 }
 

@@ -2,9 +2,7 @@
 
 use crate::deviating::say_segment;
 use crate::grounds::{Found, Grounds};
-use crate::lines::Lines;
-use crate::site::Sites;
-use crate::words::Logged;
+use accounts::{Lines, Logged, Sites};
 use authenticators::{Authenticator, NodeId};
 use item_forms::{Entry, Segment};
 use log_chain::base_hash;
@@ -18,17 +16,29 @@ fn say_hash(lines: &mut Lines, found: &Found) -> Result<(), Memory> {
     lines.say(text)
 }
 
+/// The two in the order of the first places where they stand.
+fn in_order<'a>(one: &'a Found, other: &'a Found) -> (&'a Found, &'a Found) {
+    if other.first_place() < one.first_place() {
+        (other, one)
+    } else {
+        (one, other)
+    }
+}
+
 /// Says which two hashes the node signed for one entry, and where.
 pub(crate) fn say_two_hashes(
     lines: &mut Lines,
     node: NodeId,
     grounds: &Grounds,
 ) -> Result<(), Memory> {
-    let (Some(first), Some(second)) = (grounds.statement(0), grounds.statement(1)) else {
+    let (Some(one), Some(other)) = (&grounds.first, &grounds.second) else {
         return Ok(());
     };
+    let (first, second) = in_order(one, other);
     let seq = first.seq;
-    let text = format!(in lines.alloc(); "Node {node} signed two hashes for entry {seq} of its log.")?;
+    let text = format!(in lines.alloc();
+        "Node {node} signed two hashes for entry {seq} of its log."
+    )?;
     lines.say_of(node, seq, text)?;
     say_hash(lines, first)?;
     say_hash(lines, second)
@@ -40,43 +50,50 @@ enum Denial {
     /// Its number lies within the segment's, and no entry has it with its hash.
     LeftOut,
     /// Its number is just before the segment's first one, and its hash is not the one before the segment.
-    OffStart,
+    OffStart {
+        /// The segment's first number.
+        first: u64,
+    },
     /// The segment begins the log, and its number is below the first one.
-    BeforeLog,
+    BeforeLog {
+        /// The segment's first number.
+        first: u64,
+    },
 }
 
 /// How a statement with this number contradicts the segment, where it does.
 fn denial_of(seq: u64, segment: &Segment) -> Denial {
-    match segment.entries.as_slice() {
-        [first, ..] if seq < first.seq => {
-            if segment.prev == base_hash() {
-                Denial::BeforeLog
-            } else {
-                Denial::OffStart
-            }
-        }
-        _ => Denial::LeftOut,
+    let first = match segment.entries.as_slice() {
+        [first, ..] => first.seq,
+        [] => seq,
+    };
+    if first <= seq {
+        Denial::LeftOut
+    } else if segment.prev == base_hash() {
+        Denial::BeforeLog { first }
+    } else {
+        Denial::OffStart { first }
     }
 }
 
 /// Says how the statement contradicts the segment.
-fn say_denial(
-    lines: &mut Lines,
-    node: NodeId,
-    seq: u64,
-    first: u64,
-    denial: Denial,
-) -> Result<(), Memory> {
+fn say_denial(lines: &mut Lines, node: NodeId, seq: u64, denial: Denial) -> Result<(), Memory> {
     let alloc = lines.alloc();
     let text = match denial {
         Denial::LeftOut => {
-            format!(in alloc; "Node {node} signed a hash for entry {seq} that its own log leaves out.")?
+            format!(in alloc;
+                "Node {node} signed a hash for entry {seq} that its own log leaves out."
+            )?
         }
-        Denial::OffStart => {
-            format!(in alloc; "Node {node} signed a hash for entry {seq} that is not the one before its own log from entry {first} on.")?
+        Denial::OffStart { first } => {
+            format!(in alloc;
+                "Node {node} signed a hash for entry {seq} that is not the one before its own log from entry {first} on."
+            )?
         }
-        Denial::BeforeLog => {
-            format!(in alloc; "Node {node} signed a hash for entry {seq}, and its own log begins with entry {first}.")?
+        Denial::BeforeLog { first } => {
+            format!(in alloc;
+                "Node {node} signed a hash for entry {seq}, and its own log begins with entry {first}."
+            )?
         }
     };
     lines.say_of(node, seq, text)
@@ -84,7 +101,11 @@ fn say_denial(
 
 /// The entry of the segment with the number, if there is one.
 fn entry_at(segment: &Segment, seq: u64) -> Option<&Entry> {
-    segment.entries.as_slice().iter().find(|entry| entry.seq == seq)
+    segment
+        .entries
+        .as_slice()
+        .iter()
+        .find(|entry| entry.seq == seq)
 }
 
 /// Says what stands in the segment at the number.
@@ -115,12 +136,12 @@ fn say_other_side(
 ) -> Result<(), Memory> {
     match denial {
         Denial::LeftOut => say_entry(lines, segment, seq, grounds),
-        Denial::OffStart => {
+        Denial::OffStart { first } => {
             let prev = segment.prev;
-            let text = format!(in lines.alloc(); "There the hash before the first entry is {prev}.")?;
+            let text = format!(in lines.alloc(); "There the hash before entry {first} is {prev}.")?;
             lines.say(text)
         }
-        Denial::BeforeLog => Ok(()),
+        Denial::BeforeLog { .. } => Ok(()),
     }
 }
 
@@ -131,11 +152,11 @@ pub(crate) fn say_contradiction(
     segment: &Segment,
     grounds: &Grounds,
 ) -> Result<(), Memory> {
-    let (Some(found), [first, ..]) = (grounds.statement(0), segment.entries.as_slice()) else {
+    let Some(found) = &grounds.first else {
         return Ok(());
     };
     let denial = denial_of(auth.seq, segment);
-    say_denial(lines, auth.node, auth.seq, first.seq, denial)?;
+    say_denial(lines, auth.node, auth.seq, denial)?;
     say_hash(lines, found)?;
     say_segment(lines, segment, &grounds.segment)?;
     say_other_side(lines, segment, auth.seq, grounds, denial)

@@ -1,10 +1,16 @@
 //! What is told of a proof.
 
-use crate::account::{Account, NodeAccount};
+ghost use Rattle.std.specs.Prelude.{◌≡◌, ◌∷◌, [], Err, IfOk, Ok, Some, map, ℕ};
+ghost use Rattle.outcome.specs.Outcome.{Gives};
+ghost use Rattle.proofs.specs.declared.fault.ProofFault.{ProofFault as TheFault};
+ghost use Rattle.proofs.specs.declared.fault.ProofFault.TheVariants as fault;
+ghost use Rattle.proofs.specs.Convicting.{Convicts, Tells, early_fault_of};
+ghost use Rattle.evidence_set.specs.declared.indication.Indication.TheVariants.{Exposed};
+ghost use Rattle.explanations.specs.Whys.{convicted_of, told_of};
+
 use crate::grounds::{Found, Grounds};
-use crate::lines::Lines;
-use crate::site::{Input, Role, Site};
 use crate::telling::say_proof;
+use accounts::{Account, Lines, NodeAccount, Role, Site};
 use authenticators::{Directory, NodeId};
 use evidence_set::Indication;
 use item_forms::{Entry, Hash, Segment};
@@ -23,15 +29,6 @@ pub struct Conviction {
     pub account: Account,
 }
 
-/// A part of the proof, counted from 1.
-fn part(place: u64, role: Role) -> Site {
-    Site {
-        input: Input::Proof,
-        place,
-        role,
-    }
-}
-
 /// The entries up to the one with the number, where there is one.
 fn front(entries: &[Entry], seq: u64) -> Option<&[Entry]> {
     let place = entries.iter().position(|entry| entry.seq == seq)?;
@@ -44,12 +41,10 @@ fn hash_at(segment: &Segment, seq: u64) -> Option<Hash> {
     Some(chain_end(segment.prev, front))
 }
 
-/// Where the statements of a proof stand: each in a part of its own.
-fn place_statements(statements: &mut [Found]) -> Result<(), Memory> {
-    let mut place = 1u64;
-    for found in statements {
-        found.sites.push(part(place, Role::Statement))?;
-        place = place.saturating_add(1);
+/// Places a statement in this part of the proof.
+fn place_statement(sought: &mut Option<Found>, place: u64) -> Result<(), Memory> {
+    if let Some(found) = sought {
+        found.sites.push(Site::part(place, Role::Statement))?;
     }
     Ok(())
 }
@@ -61,16 +56,19 @@ fn grounds_of<P: Program>(
     directory: &Directory,
     proof: &Proof,
 ) -> Result<Grounds, Memory> {
-    let mut grounds = Grounds::of_proof(alloc, proof)?;
-    place_statements(&mut grounds.statements)?;
+    let mut grounds = Grounds::of_proof(alloc, proof);
     match proof.parts() {
-        Parts::TwoAuths(..) => {}
+        Parts::TwoAuths(..) => {
+            place_statement(&mut grounds.first, 1)?;
+            place_statement(&mut grounds.second, 2)?;
+        }
         Parts::AuthSegment(auth, segment) => {
-            grounds.segment.sites.push(part(2, Role::Segment))?;
+            place_statement(&mut grounds.first, 1)?;
+            grounds.segment.sites.push(Site::part(2, Role::Segment))?;
             grounds.segment.hash = hash_at(segment, auth.seq);
         }
         Parts::Nonconforming(segment) => {
-            grounds.segment.sites.push(part(1, Role::Segment))?;
+            grounds.segment.sites.push(Site::part(1, Role::Segment))?;
             let entries = segment.entries.as_slice();
             let verdict = replay(
                 alloc,
@@ -103,7 +101,9 @@ fn account_of<P: Program>(
     directory: &Directory,
     proof: &Proof,
     node: NodeId,
-) -> Result<Account, Memory> {
+) -> Result<Account, Memory>
+    ensures { IfOk result (λ account. map told_of account.nodes.items ≡ (node, Exposed) ∷ []) }
+{
     let heading = heading_of(alloc, node, proof)?;
     let grounds = grounds_of(alloc, program, directory, proof)?;
     let mut lines = Lines::new(alloc);
@@ -123,7 +123,16 @@ pub fn explain_proof<P: Program>(
     program: &P,
     directory: &Directory,
     proof: &Proof,
-) -> Result<Conviction, ProofFault> {
+) -> Result<Conviction, ProofFault>
+    // Whom it convicts, or why it is refused.
+    ensures told { Tells directory.now P.means proof.now.parts (convicted_of result) }
+    // Where it convicts a node, that node is told, unless memory runs out.
+    ensures only { (node : ℕ) → Convicts directory.now P.means node proof.now.parts → Gives fault.Memory (λ c. c.node) result (Ok node) }
+    // What is told of the parts before a segment's signature is told, whether there is memory or not.
+    ensures early { (e : TheFault) → early_fault_of directory.now proof.now.parts ≡ Some e → result ≡ Err e }
+    // The account is of that node, which is exposed.
+    ensures account { IfOk result (λ c. map told_of c.account.nodes.items ≡ (c.node, Exposed) ∷ []) }
+{
     let node = check_proof(alloc, program, directory, proof)?;
     let account = account_of(alloc, program, directory, proof, node)?;
     Ok(Conviction { node, account })

@@ -1,11 +1,9 @@
 //! A segment that deviates from its node's program, in sentences.
 
 use crate::grounds::FoundSegment;
-use crate::lines::Lines;
-use crate::site::Sites;
 use crate::stepping::{Before, standing_before};
-use crate::words::{Bytes, Kind, Logged, Sending};
-use authenticators::Directory;
+use accounts::{Bytes, Kind, Lines, Logged, Sending, Sites};
+use authenticators::{Directory, NodeId};
 use item_forms::{Entry, Segment};
 use outcome::Memory;
 use replay_verifier::{Program, Reason, Receipt, Verdict};
@@ -38,7 +36,9 @@ fn say_place(
     let kind = Kind(entry.kind);
     let words = words_of(reason);
     let name = reason.name();
-    let text = format!(in lines.alloc(); "Node {node} deviates from its program at entry {seq} of its log, {kind}: {words} ({name}).")?;
+    let text = format!(in lines.alloc();
+        "Node {node} deviates from its program at entry {seq} of its log, {kind}: {words} ({name})."
+    )?;
     lines.say_of(node, seq, text)
 }
 
@@ -62,11 +62,11 @@ fn say_awaited<S>(lines: &mut Lines, before: &Before<S>, reason: Reason) -> Resu
     match before.awaited.last() {
         Some(output) => {
             let sending = Sending(output);
-            let text = format!(in lines.alloc(); "The program awaits {sending}.")?;
+            let text = format!(in lines.alloc(); "The program awaited {sending}.")?;
             lines.say(text)
         }
         None if reason == Reason::ExtraOutput => {
-            let text = format!(in lines.alloc(); "The program awaits no SEND.")?;
+            let text = format!(in lines.alloc(); "The program awaited no SEND.")?;
             lines.say(text)
         }
         None => Ok(()),
@@ -85,14 +85,16 @@ fn say_state<P: Program>(
     }
     let state = program.encode(lines.alloc(), &before.state)?;
     let shown = Bytes(&state);
-    let text = format!(in lines.alloc(); "The program's state is {shown}.")?;
+    let text = format!(in lines.alloc(); "The program's state was {shown}.")?;
     lines.say(text)
 }
 
 /// The sender and the send number of a message that an entry quotes.
 fn quoted_number(entry: &Entry) -> Option<(u32, u64)> {
-    let receipt = Receipt::read(entry.content.as_slice())?;
-    Some((receipt.from.0, receipt.seq))
+    match Receipt::read(entry.content.as_slice()) {
+        Some(receipt) => Some((receipt.from.0, receipt.seq)),
+        None => None,
+    }
 }
 
 /// The entry among these that quotes the same message.
@@ -118,6 +120,7 @@ fn rival<'a>(entries: &'a [Entry], entry: &Entry, reason: Reason) -> Option<&'a 
 /// Says which entry before this one it does not agree with, where there is one.
 fn say_rival(
     lines: &mut Lines,
+    node: NodeId,
     entries: &[Entry],
     entry: &Entry,
     reason: Reason,
@@ -128,7 +131,7 @@ fn say_rival(
     let seq = rival.seq;
     let logged = Logged(rival);
     let text = format!(in lines.alloc(); "Before it stands entry {seq}, {logged}.")?;
-    lines.say(text)
+    lines.say_of(node, seq, text)
 }
 
 /// Says what is logged.
@@ -171,7 +174,7 @@ pub(crate) fn say_deviation<P: Program>(
     };
     say_place(lines, segment, entry, reason)?;
     say_segment(lines, segment, found)?;
-    say_rival(lines, earlier, entry, reason)?;
+    say_rival(lines, segment.node, earlier, entry, reason)?;
     say_before(lines, program, directory, segment, at, reason)?;
     say_logged(lines, entry)
 }

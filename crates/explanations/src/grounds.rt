@@ -1,6 +1,6 @@
 //! What a proof's parts are in an input: where they stand, and what was found of them.
 
-use crate::site::Site;
+use accounts::{Role, Site};
 use authenticators::Authenticator;
 use item_forms::Hash;
 use outcome::Memory;
@@ -16,6 +16,25 @@ pub(crate) struct Found {
     pub(crate) sites: Vec<Site>,
 }
 
+impl Found {
+    /// The first place where it stands: 0 where none is known.
+    pub(crate) fn first_place(&self) -> u64 {
+        match self.sites.as_slice() {
+            [first, ..] => first.place,
+            [] => 0,
+        }
+    }
+
+    /// Notes that a statement stands in the item, where it is this one.
+    fn note(&mut self, seq: u64, hash: Hash, item: u64, role: &Role) -> Result<(), Memory> {
+        if self.seq != seq || self.hash != hash {
+            return Ok(());
+        }
+        self.sites.push(Site::item(item, *role))?;
+        Ok(())
+    }
+}
+
 /// A convicting segment: where it stands, its verdict, and, where a statement convicts with it, the hash that it has at the statement's
 /// number.
 #[derive(Debug, Drop)]
@@ -28,7 +47,8 @@ pub(crate) struct FoundSegment {
 /// What is found of a proof's parts.
 #[derive(Debug, Drop)]
 pub(crate) struct Grounds {
-    pub(crate) statements: Vec<Found>,
+    pub(crate) first: Option<Found>,
+    pub(crate) second: Option<Found>,
     pub(crate) segment: FoundSegment,
 }
 
@@ -45,7 +65,8 @@ impl Grounds {
     /// Nothing is sought.
     pub(crate) fn none(alloc: Global) -> Grounds {
         Grounds {
-            statements: Vec::new(alloc),
+            first: None,
+            second: None,
             segment: FoundSegment {
                 sites: Vec::new(alloc),
                 verdict: None,
@@ -54,32 +75,43 @@ impl Grounds {
         }
     }
 
-    /// The parts of the proof are sought.
-    pub(crate) fn of_proof(alloc: Global, proof: &Proof) -> Result<Grounds, Memory> {
+    /// The parts of the proof are sought. It takes no memory.
+    pub(crate) fn of_proof(alloc: Global, proof: &Proof) -> Grounds {
         let mut grounds = Grounds::none(alloc);
         match proof.parts() {
             Parts::TwoAuths(first, second) => {
-                grounds.statements.push(sought(alloc, first))?;
-                grounds.statements.push(sought(alloc, second))?;
+                grounds.first = Some(sought(alloc, first));
+                grounds.second = Some(sought(alloc, second));
             }
-            Parts::AuthSegment(auth, _) => grounds.statements.push(sought(alloc, auth))?,
+            Parts::AuthSegment(auth, _) => grounds.first = Some(sought(alloc, auth)),
             Parts::Nonconforming(_) => {}
         }
-        Ok(grounds)
+        grounds
     }
 
-    /// Notes that a statement of the node stands there, where it is sought.
-    pub(crate) fn note(&mut self, seq: u64, hash: Hash, site: Site) -> Result<(), Memory> {
-        for found in &mut self.statements {
-            if found.seq == seq && found.hash == hash {
-                found.sites.push(site)?;
-            }
-        }
-        Ok(())
+    /// Notes that a statement of the node stands in the item, where it is sought.
+    pub(crate) fn note(
+        &mut self,
+        seq: u64,
+        hash: Hash,
+        item: u64,
+        role: &Role,
+    ) -> Result<(), Memory> {
+        note_in(&mut self.first, seq, hash, item, role)?;
+        note_in(&mut self.second, seq, hash, item, role)
     }
+}
 
-    /// The statement of this place in the proof.
-    pub(crate) fn statement(&self, place: usize) -> Option<&Found> {
-        self.statements.get(place)
+/// Notes that a statement stands in the item, where it is the sought one.
+fn note_in(
+    sought: &mut Option<Found>,
+    seq: u64,
+    hash: Hash,
+    item: u64,
+    role: &Role,
+) -> Result<(), Memory> {
+    match sought {
+        Some(found) => found.note(seq, hash, item, role),
+        None => Ok(()),
     }
 }

@@ -2,7 +2,7 @@
 
 use crate::places::FormCounts;
 use crate::why::NodeWhy;
-use crate::words::Count;
+use accounts::Count;
 use evidence_set::Indication;
 use std::alloc::{AllocError, Global};
 use std::fmt;
@@ -57,7 +57,10 @@ impl fmt::Display for Indications {
             suspected,
             exposed,
         } = *self;
-        write!(f, "{trusted} trusted, {suspected} suspected, {exposed} exposed")
+        write!(
+            f,
+            "{trusted} trusted, {suspected} suspected, {exposed} exposed"
+        )
     }
 }
 

@@ -1,27 +1,34 @@
-//! What a store of evidence, or a proof, says, in sentences that a person can read.
+//! What a store of evidence, or a proof, says of nodes and why (PeerReview, SOSP 2007: failure indications), as an [`Account`].
+//!
+//! - [`why_of`] tells of a node why the store says of it what it says: the proof that convicts it, or the challenges that are open;
+//!   [`whys_of`] the same of each node. `specs/Whys.antt` says what that is.
+//! - [`explain_store`] tells of each node what the store says of it, with where the items stand that say so. One pass over the items
+//!   finds that; the program is run again over the entries before a deviation.
+//! - [`explain_proof`] tells whom a proof convicts, and the same of its parts.
 #![tactic(auto)]
 
-pub use account::{Account, Mark, NodeAccount, Sentence};
-pub use authenticators::NodeId;
+pub use accounts::{Account, Mark, NodeAccount, Sentence, text_of};
+pub use authenticators::{Directory, NodeId};
 pub use convicting::{Conviction, explain_proof};
+pub use evidence::{AskFault, Evidence};
+pub use evidence_item::Item;
 pub use evidence_set::Indication;
+pub use outcome::Memory;
+pub use proofs::{Proof, ProofFault};
+pub use replay_verifier::Program;
 pub use telling::explain_store;
 pub use why::{NodeWhy, Why, why_of, whys_of};
-pub use writing::text_of;
 
-mod account;
 mod challenging;
 mod contradicting;
 mod convicting;
 mod deviating;
 mod grounds;
 mod heading;
-mod lines;
+mod nodes;
+mod noting;
 mod places;
-mod site;
 mod stepping;
 mod telling;
 mod trusting;
 mod why;
-mod words;
-mod writing;

@@ -78,11 +78,7 @@ impl<'a, P: Program> Stepper<'a, P> {
     }
 
     /// Behind all of the entries.
-    fn run(
-        &self,
-        begun: Before<P::State>,
-        entries: &[Entry],
-    ) -> Result<Before<P::State>, Memory> {
+    fn run(&self, begun: Before<P::State>, entries: &[Entry]) -> Result<Before<P::State>, Memory> {
         let mut before = begun;
         for entry in entries {
             before = self.advance(before, entry)?;

@@ -1,15 +1,18 @@
 //! What is told of a store.
 
-use crate::account::{Account, NodeAccount, Sentence};
+ghost use Rattle.std.specs.Prelude.{◌≡◌, IfOk, map};
+ghost use Rattle.explanations.specs.Whys.{AreIndications, row_of, told_of};
+
 use crate::challenging::say_challenges;
 use crate::contradicting::{say_contradiction, say_two_hashes};
 use crate::deviating::say_deviation;
 use crate::grounds::Grounds;
 use crate::heading::heading_of;
-use crate::lines::Lines;
-use crate::places::{NodePlaces, places_of};
+use crate::noting::places_of;
+use crate::places::NodePlaces;
 use crate::trusting::say_trust;
 use crate::why::{NodeWhy, Why, whys_of};
+use accounts::{Account, Lines, NodeAccount, Sentence};
 use authenticators::{Directory, NodeId};
 use evidence::Evidence;
 use outcome::Memory;
@@ -34,33 +37,41 @@ pub(crate) fn say_proof<P: Program>(
     }
 }
 
-/// The sentences about a node.
+/// The sentences about a node: none where nothing was looked for.
 fn sentences_of<P: Program>(
     alloc: Global,
     program: &P,
     directory: &Directory,
     row: &NodeWhy<'_>,
-    found: &NodePlaces,
+    found: Option<&NodePlaces>,
 ) -> Result<Vec<Sentence>, Memory> {
     let mut lines = Lines::new(alloc);
-    match &row.why {
-        Why::Exposed(proof) => say_proof(&mut lines, program, directory, proof, &found.grounds)?,
-        Why::Suspected(open) => say_challenges(&mut lines, open, &found.open)?,
-        Why::Trusted => say_trust(&mut lines, row.node, found)?,
+    match (&row.why, found) {
+        (Why::Exposed(proof), Some(found)) => {
+            say_proof(&mut lines, program, directory, proof, &found.grounds)?
+        }
+        (Why::Suspected(challenges), Some(found)) => {
+            say_challenges(&mut lines, challenges, &found.unanswered)?
+        }
+        (Why::Trusted, Some(found)) => say_trust(&mut lines, row.node, found)?,
+        (_, None) => {}
     }
     Ok(lines.into_sentences())
 }
 
-/// What is told of all nodes.
+/// What is told of all nodes, in their order.
 fn accounts_of<P: Program>(
     alloc: Global,
     program: &P,
     directory: &Directory,
     whys: &[NodeWhy<'_>],
     found: &[NodePlaces],
-) -> Result<Vec<NodeAccount>, Memory> {
+) -> Result<Vec<NodeAccount>, Memory>
+    ensures { IfOk result (λ told. map told_of told.items ≡ map row_of whys.now) }
+{
     let mut nodes = Vec::with_capacity(alloc, whys.len())?;
-    for (row, found) in whys.iter().zip(found) {
+    for row in whys {
+        let found = found.get(nodes.len());
         let sentences = sentences_of(alloc, program, directory, row, found)?;
         nodes.push(NodeAccount {
             node: row.node,
@@ -71,12 +82,15 @@ fn accounts_of<P: Program>(
     Ok(nodes)
 }
 
-/// What a store says of the nodes of its directory, and why.
+/// What a store says of the nodes of its directory, and why: in one pass over its items, in which nothing is verified or hashed that
+/// was before. `Memory` where a growth was refused.
 pub fn explain_store<P: Program, S: Evidence<P>>(
     alloc: Global,
     program: &P,
     store: &S,
-) -> Result<Account, Memory> {
+) -> Result<Account, Memory>
+    ensures { IfOk result (λ account. AreIndications P.means (S.contents store.now) account.nodes.items) }
+{
     let whys = whys_of::<P, S>(alloc, store)?;
     let places = places_of::<P, S>(alloc, store, &whys)?;
     let heading = heading_of(alloc, &whys, store.count(), places.counts)?;

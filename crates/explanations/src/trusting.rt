@@ -1,8 +1,7 @@
 //! What a store has of a node against which nothing speaks, in sentences.
 
-use crate::lines::Lines;
 use crate::places::{NodePlaces, Span};
-use crate::words::Count;
+use accounts::{Count, Lines};
 use authenticators::NodeId;
 use outcome::Memory;
 use std::fmt;
@@ -60,8 +59,12 @@ fn say_statements(lines: &mut Lines, found: &NodePlaces) -> Result<(), Memory> {
     if found.statements == 0 {
         return Ok(());
     }
-    let count = Count(found.statements, "statement of it stands", "statements of it stand");
-    let text = format!(in lines.alloc(); "{count} in the items.")?;
+    let count = Count(found.statements, "statement", "statements");
+    let text = if found.segments.is_empty() {
+        format!(in lines.alloc(); "The items hold {count} of it.")?
+    } else {
+        format!(in lines.alloc(); "Beside that the items hold {count} of it.")?
+    };
     lines.say(text)
 }
 
@@ -70,17 +73,17 @@ fn say_answered(lines: &mut Lines, found: &NodePlaces) -> Result<(), Memory> {
     if found.challenges == 0 {
         return Ok(());
     }
-    let count = Count(found.challenges, "challenge against it is answered", "challenges against it are answered");
+    let count = Count(
+        found.challenges,
+        "challenge against it is answered",
+        "challenges against it are answered",
+    );
     let text = format!(in lines.alloc(); "{count}.")?;
     lines.say(text)
 }
 
 /// Says what there is of the node, or that there is nothing.
-pub(crate) fn say_trust(
-    lines: &mut Lines,
-    node: NodeId,
-    found: &NodePlaces,
-) -> Result<(), Memory> {
+pub(crate) fn say_trust(lines: &mut Lines, node: NodeId, found: &NodePlaces) -> Result<(), Memory> {
     if found.segments.is_empty() && found.statements == 0 && found.challenges == 0 {
         let text = format!(in lines.alloc(); "No item is of node {node}.")?;
         return lines.say(text);

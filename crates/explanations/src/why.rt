@@ -5,7 +5,8 @@ ghost use Rattle.authenticators.specs.Directory.{is_listed};
 ghost use Rattle.evidence.specs.declared.fault.AskFault.TheVariants as ask;
 ghost use Rattle.explanations.specs.Whys.{AreWhys, IsWhy, indication_of};
 
-use authenticators::{Directory, NodeId};
+use crate::nodes::ascending_nodes;
+use authenticators::NodeId;
 use evidence::{AskFault, Evidence};
 use evidence_set::Indication;
 use item_forms::Item;
@@ -13,7 +14,6 @@ use outcome::Memory;
 use proofs::Proof;
 use replay_verifier::Program;
 use std::alloc::Global;
-use std::collections::BTreeSet;
 
 /// Why a node is what it is.
 #[derive(Debug, Drop)]
@@ -49,7 +49,10 @@ impl<'a> Why<'a> {
 }
 
 /// Why the store says of the node what it says. `UnknownNode` (44) where the directory does not list the node; `Memory`.
-pub fn why_of<'a, P: Program, S: Evidence<P>>(store: &'a S, node: NodeId) -> Result<Why<'a>, AskFault>
+pub fn why_of<'a, P: Program, S: Evidence<P>>(
+    store: &'a S,
+    node: NodeId,
+) -> Result<Why<'a>, AskFault>
     ensures told { IfOk result (λ w. IsWhy (S.contents store.now).directory P.means (S.contents store.now).items node w) }
     ensures unknown { (result ≡ Err ask.UnknownNode) ↔ (is_listed (S.contents store.now).directory node ≡ false) }
 {
@@ -71,13 +74,6 @@ pub fn why_of<'a, P: Program, S: Evidence<P>>(store: &'a S, node: NodeId) -> Res
     }
 }
 
-/// The numbers of the directory's nodes, ascending.
-fn ascending_nodes(alloc: Global, directory: &Directory) -> Result<Vec<NodeId>, Memory> {
-    let mut nodes = Vec::from_slice(alloc, directory.nodes())?;
-    nodes.sort()?;
-    Ok(nodes)
-}
-
 /// Why the store says of each node of its directory what it says, ascending by the nodes' numbers.
 pub fn whys_of<'a, P: Program, S: Evidence<P>>(
     alloc: Global,
@@ -88,8 +84,9 @@ pub fn whys_of<'a, P: Program, S: Evidence<P>>(
     let nodes = ascending_nodes(alloc, store.directory())?;
     let mut rows = Vec::with_capacity(alloc, nodes.len())?;
     for node in nodes.as_slice() {
-        let Ok(why) = why_of::<P, S>(store, *node) else {
-            return Err(Memory);
+        let why = match why_of::<P, S>(store, *node) {
+            Ok(why) => why,
+            Err(_) => return Err(Memory),
         };
         rows.push(NodeWhy { node: *node, why })?;
     }

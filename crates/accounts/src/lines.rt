@@ -7,14 +7,14 @@ use std::alloc::Global;
 
 /// The sentences about a node, so far.
 #[derive(Debug, Drop)]
-pub(crate) struct Lines {
+pub struct Lines {
     alloc: Global,
     sentences: Vec<Sentence>,
 }
 
 impl Lines {
     /// No sentence. It takes no memory.
-    pub(crate) fn new(alloc: Global) -> Lines {
+    pub fn new(alloc: Global) -> Lines {
         Lines {
             alloc,
             sentences: Vec::new(alloc),
@@ -22,19 +22,19 @@ impl Lines {
     }
 
     /// The allocator.
-    pub(crate) fn alloc(&self) -> Global {
+    pub fn alloc(&self) -> Global {
         self.alloc
     }
 
     /// Says a sentence that speaks of no contradiction.
-    pub(crate) fn say(&mut self, text: String) -> Result<(), Memory> {
+    pub fn say(&mut self, text: String) -> Result<(), Memory> {
         let marks = Vec::new(self.alloc);
         self.sentences.push(Sentence { text, marks })?;
         Ok(())
     }
 
     /// Says a sentence that speaks of this entry as contradicting something.
-    pub(crate) fn say_of(&mut self, node: NodeId, seq: u64, text: String) -> Result<(), Memory> {
+    pub fn say_of(&mut self, node: NodeId, seq: u64, text: String) -> Result<(), Memory> {
         let mut marks = Vec::new(self.alloc);
         marks.push(Mark { node, seq })?;
         self.sentences.push(Sentence { text, marks })?;
@@ -42,7 +42,7 @@ impl Lines {
     }
 
     /// The sentences in order.
-    pub(crate) fn into_sentences(self) -> Vec<Sentence> {
+    pub fn into_sentences(self) -> Vec<Sentence> {
         self.sentences
     }
 }

@@ -1,6 +1,6 @@
 //! The words for counts, kinds, bytes, entries and forms.
 
-use item_forms::{Entry, Form};
+use log_chain::Entry;
 use log_chain::kind::{CHECKPOINT, INIT, RECV, SEND, TIMER};
 use replay_verifier::{Output, Receipt};
 use std::fmt;
@@ -10,7 +10,7 @@ const MOST_SHOWN: usize = 64;
 
 /// A number of things, with the word for one and the word for more.
 #[derive(Clone, Copy)]
-pub(crate) struct Count(pub u64, pub &'static str, pub &'static str);
+pub struct Count(pub u64, pub &'static str, pub &'static str);
 
 /// `1 segment`, `2 segments`.
 impl fmt::Display for Count {
@@ -23,7 +23,7 @@ impl fmt::Display for Count {
 
 /// An entry's kind.
 #[derive(Clone, Copy)]
-pub(crate) struct Kind(pub u8);
+pub struct Kind(pub u8);
 
 /// `a SEND`, `an entry of the unknown kind 9`.
 impl fmt::Display for Kind {
@@ -41,7 +41,7 @@ impl fmt::Display for Kind {
 
 /// Bytes for a person: as text in quotes where what is shown is printable ASCII, else as hexadecimal digits.
 #[derive(Clone, Copy)]
-pub(crate) struct Bytes<'a>(pub &'a [u8]);
+pub struct Bytes<'a>(pub &'a [u8]);
 
 /// Whether the byte is a printable ASCII character.
 fn is_printable(byte: u8) -> bool {
@@ -92,17 +92,19 @@ impl<'a> fmt::Display for Bytes<'a> {
         if len == 0 {
             return f.write_str("no bytes");
         }
-        if len <= MOST_SHOWN {
-            return write_shown(bytes, f);
+        match bytes.get(..MOST_SHOWN) {
+            Some(shown) if len > MOST_SHOWN => {
+                write_shown(shown, f)?;
+                write!(f, ".. ({len} bytes)")
+            }
+            _ => write_shown(bytes, f),
         }
-        write_shown(&bytes[..MOST_SHOWN], f)?;
-        write!(f, ".. ({len} bytes)")
     }
 }
 
 /// A message that a program puts out.
 #[derive(Clone, Copy)]
-pub(crate) struct Sending<'a>(pub &'a Output);
+pub struct Sending<'a>(pub &'a Output);
 
 /// `a SEND to node 3 of "total"`.
 impl<'a> fmt::Display for Sending<'a> {
@@ -115,7 +117,7 @@ impl<'a> fmt::Display for Sending<'a> {
 
 /// What an entry says.
 #[derive(Clone, Copy)]
-pub(crate) struct Logged<'a>(pub &'a Entry);
+pub struct Logged<'a>(pub &'a Entry);
 
 /// Writes the kind, and the content as it stands.
 fn write_plain<W: fmt::Write>(entry: &Entry, f: &mut fmt::Formatter<W>) -> fmt::Result {

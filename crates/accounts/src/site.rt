@@ -5,7 +5,7 @@ use std::fmt;
 
 /// What holds a part of an input.
 #[derive(Clone, Copy, Debug, PartialEq, Eq)]
-pub(crate) enum Input {
+pub enum Input {
     /// A store, by its items.
     Store,
     /// A proof, by its parts.
@@ -14,7 +14,7 @@ pub(crate) enum Input {
 
 /// As what a statement or a segment stands in an item or in a part.
 #[derive(Clone, Copy, Debug, PartialEq, Eq)]
-pub(crate) enum Role {
+pub enum Role {
     /// As a statement alone.
     Statement,
     /// As a segment.
@@ -40,13 +40,36 @@ pub(crate) enum Role {
 
 /// A place in an input, and what stands there. Items are counted from 0, and parts from 1.
 #[derive(Clone, Copy, Debug, PartialEq, Eq)]
-pub(crate) struct Site {
-    pub(crate) input: Input,
-    pub(crate) place: u64,
-    pub(crate) role: Role,
+pub struct Site {
+    /// What it is a place in.
+    pub input: Input,
+    /// The number of the item or of the part.
+    pub place: u64,
+    /// As what it stands there.
+    pub role: Role,
 }
 
-/// What stands there, in the order of `Site`'s text.
+impl Site {
+    /// An item of a store.
+    pub fn item(place: u64, role: Role) -> Site {
+        Site {
+            input: Input::Store,
+            place,
+            role,
+        }
+    }
+
+    /// A part of a proof.
+    pub fn part(place: u64, role: Role) -> Site {
+        Site {
+            input: Input::Proof,
+            place,
+            role,
+        }
+    }
+}
+
+/// `a statement`, `a segment of node 3, whose entry 2 quotes it`.
 impl fmt::Display for Role {
     fn fmt<W: fmt::Write>(&self, f: &mut fmt::Formatter<W>) -> fmt::Result {
         match self {
@@ -76,9 +99,9 @@ impl fmt::Display for Site {
     }
 }
 
-/// Places in order.
+/// Places in order, to be written.
 #[derive(Clone, Copy)]
-pub(crate) struct Sites<'a>(pub &'a [Site]);
+pub struct Sites<'a>(pub &'a [Site]);
 
 /// So many places are told at most.
 const MOST_SITES: usize = 12;

@@ -1,0 +1,76 @@
+//! What is told of a segment that deviates.
+
+use crate::samples::{Nodes, entry, make_nodes, told_of_items, told_of_proof};
+use authenticators::NodeId;
+use evidence_item::Item;
+use log_chain::base_hash;
+use log_chain::kind::{INIT, SEND, TIMER};
+use std::alloc::Global;
+use std::test::Fail;
+
+/// The log of node 1, whose timer ticks at 5. Tally then sends node 2 an A and the 5; what stands there instead is given.
+fn deviating(
+    alloc: Global,
+    nodes: &mut Nodes,
+    kind: u8,
+    content: &[u8],
+) -> Result<Vec<Item>, Fail> {
+    let mut entries = Vec::new(alloc);
+    entries.push(entry(alloc, 1, INIT, &[0, 0, 0, 1])?)?;
+    entries.push(entry(alloc, 2, TIMER, &[0, 0, 0, 0, 0, 0, 0, 5])?)?;
+    entries.push(entry(alloc, 3, kind, content)?)?;
+    let segment = nodes.one.part(alloc, base_hash(), entries)?;
+    let mut items = Vec::new(alloc);
+    items.push(Box::into_inner(segment))?;
+    Ok(items)
+}
+
+/// What is told where the message is missing.
+fn told_of_missing(alloc: Global) -> Result<String, Fail> {
+    let mut nodes = make_nodes(alloc)?;
+    let items = deviating(alloc, &mut nodes, TIMER, &[0, 0, 0, 0, 0, 0, 0, 6])?;
+    told_of_items(alloc, &nodes.directory, items)
+}
+
+/// What is told of the proof where another message is sent.
+fn told_of_other(alloc: Global) -> Result<String, Fail> {
+    let mut nodes = make_nodes(alloc)?;
+    let items = deviating(alloc, &mut nodes, SEND, b"\0\0\0\x02say \"no\"")?;
+    told_of_proof(alloc, &nodes.directory, items, NodeId(1))
+}
+
+fn missing_text() -> &'static str {
+    "2 nodes: 1 trusted, 0 suspected, 1 exposed; 1 item: 1 segment
+1 exposed
+  Node 1 deviates from its program at entry 3 of its log, a TIMER: a message that the program sends is missing (MissingOutput).
+  Its log from entry 1 to entry 3: item 0, a segment.
+  The program awaited a SEND to node 2 of the bytes 410000000000000005.
+  Logged is a TIMER of the moment 6.
+2 trusted
+  No item is of node 2.
+"
+}
+
+fn other_text() -> &'static str {
+    "The proof exposes node 1 by one segment.
+1 exposed
+  Node 1 deviates from its program at entry 3 of its log, a SEND: the program sends another message there (WrongOutput).
+  Its log from entry 1 to entry 3: part 1, a segment.
+  The program awaited a SEND to node 2 of the bytes 410000000000000005.
+  Logged is a SEND to node 2 of \"say \\\"no\\\"\".
+"
+}
+
+#[test]
+fn a_message_that_is_missing(rt: HostRuntime) -> Result<(), Fail> {
+    let told = told_of_missing(rt.alloc())?;
+    assert!(rt; told.as_str() == missing_text(), "{told}");
+    Ok(())
+}
+
+#[test]
+fn a_proof_of_another_message(rt: HostRuntime) -> Result<(), Fail> {
+    let told = told_of_other(rt.alloc())?;
+    assert!(rt; told.as_str() == other_text(), "{told}");
+    Ok(())
+}
