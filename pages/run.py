@@ -44,7 +44,7 @@ FACTS = r'''(() => {
     wide: document.documentElement.scrollWidth > document.documentElement.clientWidth,
     ground: getComputedStyle(document.body).backgroundColor,
     ink: getComputedStyle(document.body).color,
-    texts: all('h1,h2,p,li,td,th,a,summary,svg text').filter((e) => e.textContent.trim()).map((e) => {
+    texts: all('h1,h2,p,li,td,th,:not(svg) a:not(svg a),summary,code,span,strong,svg text').filter((e) => e.textContent.trim()).map((e) => {
       const style = getComputedStyle(e);
       return [e.namespaceURI.endsWith('svg') ? style.fill : style.color, groundOf(e), e.textContent.trim().slice(0, 30)];
     }),
