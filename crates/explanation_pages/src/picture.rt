@@ -10,6 +10,9 @@ use page_text::Page;
 use page_text::Piece::{Markup, Number};
 use std::alloc::{AllocError, Global};
 
+/// How far the rows go on beyond the picture, for a window that is wider.
+const FAR: u64 = 4000;
+
 /// Halfway between two numbers.
 fn middle(a: u64, b: u64) -> u64 {
     a / 2 + b / 2
@@ -257,10 +260,10 @@ fn draw_entries(
 fn draw_row(page: &mut Page, row: &Row, band: &Band, width: u64) -> Result<(), AllocError> {
     let middle = band.top.saturating_add(PAD + HEIGHT / 2);
     page.write(&[
-        Markup("<rect class=\"band\" rx=\"6\" y=\""),
+        Markup("<rect class=\"band\" y=\""),
         Number(band.top),
         Markup("\" width=\""),
-        Number(width),
+        Number(width.saturating_add(FAR)),
         Markup("\" height=\""),
         Number(band.height),
         Markup("\"/><text class=\"name\" x=\"14\" y=\""),

@@ -25,7 +25,7 @@ fn note_sent(known: &mut Known, message: &Message, hash: Hash) -> Result<(), Mem
     let place = stated(message.from, message.seq, hash);
     let payload = message.payload.as_slice();
     let detail = Detail::of_message(message.prev, SEND, message.to, payload);
-    known.note_entry(place, false, detail)
+    known.note_entry(&place, false, detail)
 }
 
 /// The entries of an acknowledged message: the SEND entry and the RECV entry have these hashes.
@@ -33,27 +33,28 @@ fn note_ack(known: &mut Known, ack: &AckItem, sent: Hash, received: Hash) -> Res
     let message = &ack.message;
     note_sent(known, message, sent)?;
     let place = stated(message.to, ack.seq, received);
-    known.note_quoted(place, stated(message.from, message.seq, sent))?;
+    let quoted = stated(message.from, message.seq, sent);
+    known.note_quoted(&place, &quoted)?;
     let payload = message.payload.as_slice();
     let detail = Detail::of_message(ack.prev, RECV, message.from, payload);
-    known.note_entry(place, false, detail)
+    known.note_entry(&place, false, detail)
 }
 
 /// The SEND entry, of this hash, that the content of an entry at this place quotes.
-fn note_quoted(known: &mut Known, place: Place, content: &[u8], hash: Hash) -> Result<(), Memory> {
+fn note_quoted(known: &mut Known, place: &Place, content: &[u8], hash: Hash) -> Result<(), Memory> {
     let Some(receipt) = Receipt::read(content) else {
         return Ok(());
     };
     let sent = stated(receipt.from, receipt.seq, hash);
-    known.note_quoted(place, sent)?;
+    known.note_quoted(place, &sent)?;
     let detail = Detail::of_message(receipt.prev, SEND, place.node, receipt.payload);
-    known.note_entry(sent, false, detail)
+    known.note_entry(&sent, false, detail)
 }
 
 /// An entry of a segment, at this place and behind that hash, and what it quotes.
 fn note_logged(
     known: &mut Known,
-    place: Place,
+    place: &Place,
     prev: Hash,
     entry: &Entry,
     quoted: Option<Hash>,
@@ -75,7 +76,7 @@ fn note_entries(
     let mut prev = segment.prev;
     for ((entry, hash), quoted) in entries.iter().zip(hashes).zip(quotes) {
         let place = stated(segment.node, entry.seq, *hash);
-        note_logged(known, place, prev, entry, *quoted)?;
+        note_logged(known, &place, prev, entry, *quoted)?;
         prev = *hash;
     }
     Ok(())
@@ -84,10 +85,10 @@ fn note_entries(
 /// The statements of an audit challenge.
 fn note_audit(known: &mut Known, challenge: &AuditChallenge) -> Result<(), Memory> {
     if let Some(Statement { seq, hash, .. }) = &challenge.first {
-        known.note_signed(stated(challenge.node, *seq, *hash))?;
+        known.note_signed(&stated(challenge.node, *seq, *hash))?;
     }
     let last = &challenge.last;
-    known.note_signed(stated(challenge.node, last.seq, last.hash))
+    known.note_signed(&stated(challenge.node, last.seq, last.hash))
 }
 
 /// What is known from an item, and from what was found of it.
@@ -160,7 +161,7 @@ fn note_segment(
 
 /// What is known from a statement.
 fn note_auth(known: &mut Known, auth: &Authenticator) -> Result<(), Memory> {
-    known.note_signed(stated(auth.node, auth.seq, auth.hash))
+    known.note_signed(&stated(auth.node, auth.seq, auth.hash))
 }
 
 /// What is known of the logs of nodes from the parts of a proof. The statements are taken as they are: whether the proof is valid is

@@ -42,9 +42,9 @@ impl Known {
     }
 
     /// Adds a statement of which nothing more is known.
-    pub(crate) fn note_signed(&mut self, place: Place) -> Result<(), Memory> {
+    pub(crate) fn note_signed(&mut self, place: &Place) -> Result<(), Memory> {
         self.note(Cell {
-            place,
+            place: *place,
             is_logged: false,
             detail: None,
         })
@@ -53,22 +53,22 @@ impl Known {
     /// Adds an entry with what it says.
     pub(crate) fn note_entry(
         &mut self,
-        place: Place,
+        place: &Place,
         is_logged: bool,
         detail: Detail,
     ) -> Result<(), Memory> {
         let at = self.details.len();
         self.details.push(detail)?;
         self.note(Cell {
-            place,
+            place: *place,
             is_logged,
             detail: Some(at),
         })
     }
 
     /// Adds that an entry quotes another one.
-    pub(crate) fn note_quoted(&mut self, entry: Place, quoted: Place) -> Result<(), Memory> {
-        self.quoted.insert(entry, quoted)?;
+    pub(crate) fn note_quoted(&mut self, entry: &Place, quoted: &Place) -> Result<(), Memory> {
+        self.quoted.insert(*entry, *quoted)?;
         Ok(())
     }
 
