@@ -143,8 +143,10 @@ pub(crate) fn write_hash(page: &mut Page, hash: &Hash) -> Result<(), AllocError>
 
 /// Writes what is known of an entry that is known.
 fn write_known(page: &mut Page, rows: &Rows, one: &Drawn, cell: &Cell) -> Result<(), AllocError> {
-    page.markup(", ")?;
-    page.markup(kind_of(rows, one))?;
+    if let Some(detail) = one.detail(rows) {
+        page.markup(", ")?;
+        page.markup(kind_name(detail.kind))?;
+    }
     page.markup(": ")?;
     write_content(page, rows, one)?;
     page.markup("; known from a ")?;

@@ -304,7 +304,7 @@ fn begin(page: &mut Page, layout: &Layout) -> Result<(), AllocError> {
         Markup(" "),
         Number(layout.height),
         Markup(
-            "\">\n<title id=\"picture-title\">The logs of the nodes</title>\n<desc id=\"picture-desc\">A row for each node with what is known of its log, by number, and arrows from what was sent to the entry that quotes it. The tables below say the same.</desc>\n",
+            "\" preserveAspectRatio=\"xMinYMin meet\">\n<title id=\"picture-title\">The logs of the nodes</title>\n<desc id=\"picture-desc\">A row for each node with what is known of its log, by number, and arrows from what was sent to the entry that quotes it. The tables below say the same.</desc>\n",
         ),
     ])
 }
