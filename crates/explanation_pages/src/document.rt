@@ -80,12 +80,12 @@ fn write_chips(page: &mut Page, nodes: &[NodeAccount]) -> Result<(), AllocError>
 fn write_cut(page: &mut Page, row: &Row) -> Result<(), AllocError> {
     if row.drawn < row.known {
         page.write(&[
-            Markup("<p class=\"cut\">Of the "),
+            Markup("<p class=\"cut\">"),
+            Number(row.drawn as u64),
+            Markup(" of the "),
             Number(row.known as u64),
             Markup(" entries of node "),
             Number(row.node.0 as u64),
-            Markup(" "),
-            Number(row.drawn as u64),
             Markup(
                 " are drawn: those of which the sentences speak, with their neighbours, and both ends.</p>\n",
             ),

@@ -2,6 +2,8 @@
 #![tactic(auto)]
 
 #[cfg(test)]
+mod cutting;
+#[cfg(test)]
 mod escaping;
 #[cfg(test)]
 mod pages;
