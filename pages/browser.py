@@ -9,7 +9,10 @@ def program():
     for name in NAMES:
         if shutil.which(name):
             return shutil.which(name)
-    subprocess.run(['apt-get', 'install', '-y', '--no-install-recommends', 'chromium'], check=True, stdout=subprocess.DEVNULL)
+    install = ['apt-get', 'install', '-y', '--no-install-recommends', 'chromium']
+    if subprocess.run(install, stdout=subprocess.DEVNULL).returncode != 0:
+        subprocess.run(['apt-get', 'update'], check=True, stdout=subprocess.DEVNULL)
+        subprocess.run(install, check=True, stdout=subprocess.DEVNULL)
     return shutil.which('chromium')
 
 
@@ -104,4 +107,6 @@ class Browser:
         self.session = None
         self.ask('Browser.close')
         self.process.wait()
+        os.close(self.writer)
+        os.close(self.reader)
         shutil.rmtree(self.profile, ignore_errors=True)

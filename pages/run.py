@@ -1,12 +1,19 @@
 #!/usr/bin/env python3
 """Opens the page of each store of examples/ in a real browser, and holds it to the text that is told of the same store.
 
-    pages/run.py PROGRAM [FOLDER]
+    pages/run.py PROGRAM [FOLDER] [--node-sim PROGRAM]
 
-PROGRAM is `explain`; FOLDER is where the pages, their pictures and their prints go (a new one below /tmp if none is given).
-It builds nothing. Debian's chromium is installed where no browser is there.
+PROGRAM is `explain`; FOLDER is where the pages, their pictures and their prints go (a new one below /tmp if none is given). With
+`node_sim`, the page of a proof of each node that a store exposes is opened too. It builds nothing. Debian's chromium is installed where
+no browser is there.
+
+A page is held to this: it runs nothing, asks for nothing and links to nothing but itself; it has a language, a title, and what the
+picture shows in tables too; its sentences are those of the text; the entries that are marked in the picture are those that the sentences
+name, each with a shape and a link to its sentence; and in light and in dark each text stands out from its ground.
 """
-import os, re, subprocess, sys, tempfile
+import argparse, os, re, subprocess, sys, tempfile
+
+sys.dont_write_bytecode = True
 
 from browser import Browser
 
@@ -174,29 +181,59 @@ def hold_colours(name, scheme, facts):
         need(contrast(ink, ground) >= 4.5, name, scheme, text, ink, 'on', ground, round(contrast(ink, ground), 2))
 
 
-def main():
-    need(len(sys.argv) in (2, 3), __doc__)
-    program = os.path.abspath(sys.argv[1])
-    folder = sys.argv[2] if len(sys.argv) == 3 else tempfile.mkdtemp(prefix='pages-')
-    os.makedirs(folder, exist_ok=True)
-    browser = Browser()
+def look(browser, program, folder, name, text, what):
+    """Opens the page of an input, and gives the text of the same."""
+    page = said(program, text, what, '--html')
+    path = os.path.join(folder, name + '.html')
+    with open(path, 'wb') as out:
+        out.write(page)
+    told = said(program, text, what)
+    for scheme in ['light', 'dark']:
+        asked, complaints = browser.open(path, scheme)
+        facts = browser.value(FACTS)
+        hold_alone(name, page, asked, complaints, facts)
+        hold_form(name, page, facts)
+        hold_text(name, told, facts)
+        hold_colours(name, scheme, facts)
+        browser.picture(os.path.join(folder, f'{name}-{scheme}.png'))
+    need(browser.print(os.path.join(folder, name + '.pdf')) >= 1, name, 'prints on no sheet')
+    return told
+
+
+def proofs_of(node_sim, text, told):
+    """Of each node that is exposed the directory and a proof."""
+    directory = text.split(b'\n')[0]
+    for number, indication, _ in nodes_of(told)[1]:
+        if indication == 'exposed':
+            yield number, directory + b'\n' + said(node_sim, text, 'prove', str(number))
+
+
+def look_at_all(browser, program, folder, node_sim):
+    """Opens each page, and gives how many they were."""
     count = 0
     for name, text in inputs():
-        page = said(program, text, 'store', '--html')
-        path = os.path.join(folder, name + '.html')
-        with open(path, 'wb') as out:
-            out.write(page)
-        for scheme in ['light', 'dark']:
-            asked, complaints = browser.open(path, scheme)
-            facts = browser.value(FACTS)
-            hold_alone(name, page, asked, complaints, facts)
-            hold_form(name, page, facts)
-            hold_text(name, said(program, text, 'store'), facts)
-            hold_colours(name, scheme, facts)
-            browser.picture(os.path.join(folder, f'{name}-{scheme}.png'))
-        need(browser.print(os.path.join(folder, name + '.pdf')) >= 1, name, 'prints on no sheet')
+        told = look(browser, program, folder, name, text, 'store')
         count += 1
-    browser.close()
+        for number, proof in proofs_of(node_sim, text, told) if node_sim else []:
+            look(browser, program, folder, f'{name}-proof-{number}', proof, 'proof')
+            count += 1
+    return count
+
+
+def main():
+    words = argparse.ArgumentParser(description=__doc__, formatter_class=argparse.RawDescriptionHelpFormatter)
+    words.add_argument('program')
+    words.add_argument('folder', nargs='?')
+    words.add_argument('--node-sim')
+    words = words.parse_args()
+    program = os.path.abspath(words.program)
+    folder = words.folder or tempfile.mkdtemp(prefix='pages-')
+    os.makedirs(folder, exist_ok=True)
+    browser = Browser()
+    try:
+        count = look_at_all(browser, program, folder, words.node_sim and os.path.abspath(words.node_sim))
+    finally:
+        browser.close()
     need(count > 0, 'no example')
     print(f'{count} pages agree with their texts; pictures are in {folder}')
 
