@@ -17,7 +17,10 @@ const NEIGHBOURS: usize = 2;
 const MOST_ALIKE: u64 = 8;
 
 /// With more nodes, those of which nothing is known have no row.
-const MOST_ROWS: usize = 20;
+const MOST_EMPTY: usize = 20;
+
+/// With more nodes, those of which no sentence speaks have no row.
+const MOST_ROWS: usize = 200;
 
 /// An entry that is drawn.
 #[derive(Clone, Copy, Debug)]
@@ -82,6 +85,8 @@ impl Row {
 /// What is drawn: the entries row by row, by number.
 #[derive(Debug, Drop)]
 pub(crate) struct Choice {
+    /// How many nodes are known of that have no row.
+    pub(crate) left_out: u64,
     pub(crate) rows: Vec<Row>,
     pub(crate) cells: Vec<Drawn>,
 }
@@ -270,8 +275,20 @@ fn nodes_of(alloc: Global, account: &Account, rows: &Rows) -> Result<BTreeSet<u3
     Ok(nodes)
 }
 
+/// Whether a node has a row, of so many nodes.
+fn has_row(rows: &Rows, node: NodeId, marks: &Marks, nodes: usize) -> bool {
+    let cells = rows.of(node);
+    if marks.of(node).is_some() {
+        true
+    } else if nodes > MOST_ROWS {
+        cells.iter().any(|cell| is_spoken_of(rows, cell, marks))
+    } else {
+        nodes <= MOST_EMPTY || !cells.is_empty()
+    }
+}
+
 /// What is drawn of the rows. A row of more than 200 entries is cut to what the sentences speak of, with its neighbours and the row's
-/// ends.
+/// ends; of more than 200 nodes those have rows of which the sentences speak.
 pub(crate) fn choice_of(
     alloc: Global,
     account: &Account,
@@ -279,15 +296,17 @@ pub(crate) fn choice_of(
     marks: &Marks,
 ) -> Result<Choice, AllocError> {
     let mut choice = Choice {
+        left_out: 0,
         rows: Vec::new(alloc),
         cells: Vec::new(alloc),
     };
     let nodes = nodes_of(alloc, account, rows)?;
-    let few = nodes.len() <= MOST_ROWS;
     for node in nodes.iter() {
         let node = NodeId(*node);
-        if few || !rows.of(node).is_empty() || marks.of(node).is_some() {
+        if has_row(rows, node, marks, nodes.len()) {
             choice.add_row(alloc, node, rows, marks)?;
+        } else {
+            choice.left_out = choice.left_out.saturating_add(1);
         }
     }
     Ok(choice)

@@ -94,6 +94,23 @@ fn write_cut(page: &mut Page, row: &Row) -> Result<(), AllocError> {
     Ok(())
 }
 
+/// Writes that nodes have no row.
+fn write_left_out(page: &mut Page, nodes: u64) -> Result<(), AllocError> {
+    match nodes {
+        0 => Ok(()),
+        1 => page.markup(
+            "<p class=\"cut\">The log of 1 node is not drawn: nothing is known of it, or no sentence speaks of it.</p>\n",
+        ),
+        _ => page.write(&[
+            Markup("<p class=\"cut\">The logs of "),
+            Number(nodes),
+            Markup(
+                " nodes are not drawn: nothing is known of them, or no sentence speaks of them.</p>\n",
+            ),
+        ]),
+    }
+}
+
 /// Writes the picture with its legend.
 fn write_picture(
     alloc: Global,
@@ -111,6 +128,7 @@ fn write_picture(
     for row in &choice.rows {
         write_cut(page, row)?;
     }
+    write_left_out(page, choice.left_out)?;
     page.markup("</section>\n")
 }
 

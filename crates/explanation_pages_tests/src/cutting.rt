@@ -59,6 +59,34 @@ fn page(alloc: Global, count: u64) -> Result<Vec<u8>, Fail> {
     Ok(page_of(alloc, &account, &rows)?)
 }
 
+/// An account of this node, of which no sentence speaks.
+fn quiet(alloc: Global, node: u32) -> NodeAccount {
+    NodeAccount {
+        node: NodeId(node),
+        indication: Indication::Trusted,
+        sentences: Vec::new(alloc),
+    }
+}
+
+/// The page of 25 nodes, of which one has entries.
+fn page_of_many(alloc: Global) -> Result<Vec<u8>, Fail> {
+    let directory = Box::new(alloc, Directory::new(alloc))?;
+    let proof = proof(alloc, 3)?;
+    let rows = Box::new(alloc, rows_of_proof(alloc, &directory, &proof)?)?;
+    let mut nodes = Vec::new(alloc);
+    for node in 0..25 {
+        nodes.push(quiet(alloc, node))?;
+    }
+    let account = Box::new(
+        alloc,
+        Account {
+            heading: String::from_str(alloc, "25 nodes")?,
+            nodes,
+        },
+    )?;
+    Ok(page_of(alloc, &account, &rows)?)
+}
+
 /// Whether the text stands in the page.
 fn has(page: &[u8], text: &str) -> bool {
     match str::from_utf8(page) {
@@ -91,5 +119,14 @@ fn a_short_row_is_whole(rt: HostRuntime) -> Result<(), Fail> {
     let page = page(rt.alloc(), 200)?;
     assert!(rt; has(&page, "<g id=\"entry-1-147\""));
     assert!(rt; !has(&page, "are drawn"));
+    Ok(())
+}
+
+#[test]
+fn many_nodes_without_entries_have_no_row(rt: HostRuntime) -> Result<(), Fail> {
+    let page = page_of_many(rt.alloc())?;
+    assert!(rt; has(&page, "The logs of 24 nodes are not drawn"));
+    assert!(rt; has(&page, "<g id=\"entry-1-3\""));
+    assert!(rt; has(&page, "<section class=\"node\" id=\"node-24\""));
     Ok(())
 }
