@@ -1,11 +1,11 @@
 //! What of the rows is drawn.
 
 use crate::marks::{Marks, SentenceId};
-use crate::rows::{Cell, Rows};
 use authenticators::NodeId;
 use explanations::Account;
+use known_logs::{Cell, Detail, Place, Rows};
 use std::alloc::{AllocError, Global};
-use std::collections::BTreeSet;
+use std::collections::{BTreeMap, BTreeSet};
 
 /// A row with more entries is cut.
 const MOST_CELLS: usize = 200;
@@ -17,20 +17,48 @@ const NEIGHBOURS: usize = 2;
 const MOST_ALIKE: u64 = 8;
 
 /// With more nodes, those of which nothing is known have no row.
-const MOST_ROWS: usize = 20;
+const MOST_EMPTY: usize = 20;
 
-/// An entry that is drawn. Where it has no cell, a sentence marks it and nothing is known of it.
+/// With more nodes, those of which no sentence speaks have no row.
+const MOST_ROWS: usize = 200;
+
+/// An entry that is drawn.
 #[derive(Clone, Copy, Debug)]
-pub(crate) struct Drawn<'a> {
+pub(crate) struct Drawn {
+    /// The row's place, from 0.
     pub(crate) row: usize,
     pub(crate) node: NodeId,
     pub(crate) seq: u64,
     /// How many entries of this number are drawn before it.
     pub(crate) alike: u64,
-    pub(crate) cell: Option<&'a Cell>,
+    /// The sentence that marks it.
     pub(crate) sentence: Option<SentenceId>,
     /// Whether entries before it are left out.
     pub(crate) is_behind_gap: bool,
+    /// Its place among the known entries of its node. Of an entry that has none a sentence speaks, and nothing is known.
+    at: Option<usize>,
+}
+
+impl Drawn {
+    /// The entry, where it is known.
+    pub(crate) fn cell(&self, rows: &Rows) -> Option<Cell> {
+        rows.cell(self.node, self.at?)
+    }
+
+    /// What it says, where that is known.
+    pub(crate) fn detail(&self, rows: &Rows) -> Option<Detail> {
+        rows.detail(&self.cell(rows)?)
+    }
+
+    /// The entry that it quotes, where it does.
+    pub(crate) fn quoted(&self, rows: &Rows) -> Option<Place> {
+        rows.quoted(&self.cell(rows)?)
+    }
+
+    /// Whether it is known.
+    fn is_known(&self) -> bool {
+        self.at.is_some()
+    }
 }
 
 /// A row of the picture.
@@ -56,17 +84,19 @@ impl Row {
 
 /// What is drawn: the entries row by row, by number.
 #[derive(Debug, Drop)]
-pub(crate) struct Choice<'a> {
+pub(crate) struct Choice {
+    /// How many nodes are known of that have no row.
+    pub(crate) left_out: u64,
     pub(crate) rows: Vec<Row>,
-    pub(crate) cells: Vec<Drawn<'a>>,
+    pub(crate) cells: Vec<Drawn>,
 }
 
 /// Whether a sentence speaks of the entry, or of what it quotes.
-fn is_spoken_of(cell: &Cell, marks: &Marks) -> bool {
+fn is_spoken_of(rows: &Rows, cell: &Cell, marks: &Marks) -> bool {
     if marks.sentence(cell.place.node, cell.place.seq).is_some() {
         return true;
     }
-    match cell.quotes {
+    match rows.quoted(cell) {
         Some(quoted) => marks.sentence(quoted.node, quoted.seq).is_some(),
         None => false,
     }
@@ -82,24 +112,22 @@ fn is_near(spoken: &[bool], i: usize) -> bool {
     from.iter().take(2 * NEIGHBOURS + 1).any(|one| *one)
 }
 
-/// Which entries of a node are drawn.
-fn wanted(alloc: Global, cells: &[Cell], marks: &Marks) -> Result<Vec<bool>, AllocError> {
-    let mut spoken = Vec::new(alloc);
+/// Which entries of a node are spoken of.
+fn spoken_of(
+    alloc: Global,
+    rows: &Rows,
+    cells: &[Cell],
+    marks: &Marks,
+) -> Result<Vec<bool>, AllocError> {
+    let mut spoken = Vec::with_capacity(alloc, cells.len())?;
     for cell in cells {
-        spoken.push(is_spoken_of(cell, marks))?;
+        spoken.push(is_spoken_of(rows, cell, marks))?;
     }
-    if cells.len() <= MOST_CELLS {
-        return vec![in alloc; true; cells.len()];
-    }
-    let mut wanted = Vec::new(alloc);
-    for i in 0..spoken.len() {
-        wanted.push(is_near(&spoken, i))?;
-    }
-    Ok(wanted)
+    Ok(spoken)
 }
 
-/// The entry as it is drawn, but for its place among those of its number.
-fn as_drawn<'a>(row: usize, cell: &'a Cell, marks: &Marks, is_behind_gap: bool) -> Drawn<'a> {
+/// Entry `at` of a node as it is drawn, but for its place among those of its number.
+fn as_drawn(row: usize, at: usize, cell: &Cell, marks: &Marks, is_behind_gap: bool) -> Drawn {
     let node = cell.place.node;
     let seq = cell.place.seq;
     Drawn {
@@ -107,55 +135,56 @@ fn as_drawn<'a>(row: usize, cell: &'a Cell, marks: &Marks, is_behind_gap: bool) 
         node,
         seq,
         alike: 0,
-        cell: Some(cell),
         sentence: marks.sentence(node, seq),
         is_behind_gap,
+        at: Some(at),
     }
 }
 
-/// The entries of a node that are wanted.
-fn known_of<'a>(
+/// The entries of a node that are drawn: all of a short row, and of a longer one those that are near.
+fn known_of(
     alloc: Global,
+    rows: &Rows,
     row: usize,
-    cells: &'a [Cell],
+    cells: &[Cell],
     marks: &Marks,
-) -> Result<Vec<Drawn<'a>>, AllocError> {
-    let wanted = wanted(alloc, cells, marks)?;
+) -> Result<Vec<Drawn>, AllocError> {
+    let spoken = spoken_of(alloc, rows, cells, marks)?;
+    let is_short = cells.len() <= MOST_CELLS;
     let mut kept = Vec::new(alloc);
     let mut is_behind_gap = false;
-    for (cell, is_wanted) in cells.iter().zip(wanted.as_slice()) {
-        if *is_wanted {
-            kept.push(as_drawn(row, cell, marks, is_behind_gap))?;
+    for (i, cell) in cells.iter().enumerate() {
+        let is_wanted = is_short || is_near(&spoken, i);
+        if is_wanted {
+            kept.push(as_drawn(row, i, cell, marks, is_behind_gap))?;
         }
-        is_behind_gap = !*is_wanted;
+        is_behind_gap = !is_wanted;
     }
     Ok(kept)
 }
 
 /// Adds the marked entries of a node of which nothing is known.
-fn add_absent<'a>(
-    kept: &mut Vec<Drawn<'a>>,
+fn add_absent(
+    kept: &mut Vec<Drawn>,
     row: usize,
     node: NodeId,
     cells: &[Cell],
-    marks: &Marks,
+    marked: &BTreeMap<u64, SentenceId>,
 ) -> Result<(), AllocError> {
-    let Some(marked) = marks.of(node) else {
-        return Ok(());
-    };
     for (seq, sentence) in marked.iter() {
+        let seq = *seq;
         if cells
-            .binary_search_by_key(seq, |cell| cell.place.seq)
+            .binary_search_by_key(&seq, |cell| cell.place.seq)
             .is_err()
         {
             kept.push(Drawn {
                 row,
                 node,
-                seq: *seq,
+                seq,
                 alike: 0,
-                cell: None,
                 sentence: Some(*sentence),
                 is_behind_gap: false,
+                at: None,
             })?;
         }
     }
@@ -163,42 +192,57 @@ fn add_absent<'a>(
 }
 
 /// Numbers the entries under one number, and keeps the first ones.
-fn numbered<'a>(alloc: Global, kept: &[Drawn<'a>]) -> Result<Vec<Drawn<'a>>, AllocError> {
+fn numbered(alloc: Global, kept: &[Drawn]) -> Result<Vec<Drawn>, AllocError> {
     let mut numbered = Vec::new(alloc);
     let mut last = None;
     let mut alike: u64 = 0;
     for one in kept {
+        let mut one = *one;
         alike = if last == Some(one.seq) {
             alike.saturating_add(1)
         } else {
             0
         };
         last = Some(one.seq);
+        one.alike = alike;
         if alike < MOST_ALIKE {
-            numbered.push(Drawn { alike, ..*one })?;
+            numbered.push(one)?;
         }
     }
     Ok(numbered)
 }
 
-impl<'a> Choice<'a> {
+/// The entries of a row.
+fn row_cells(
+    alloc: Global,
+    rows: &Rows,
+    row: usize,
+    node: NodeId,
+    marks: &Marks,
+) -> Result<Vec<Drawn>, AllocError> {
+    let cells = rows.of(node);
+    let mut kept = known_of(alloc, rows, row, cells, marks)?;
+    if let Some(marked) = marks.of(node) {
+        add_absent(&mut kept, row, node, cells, marked)?;
+    }
+    kept.sort_by_key(|one| one.seq)?;
+    numbered(alloc, &kept)
+}
+
+impl Choice {
     /// Adds the row of a node.
     fn add_row(
         &mut self,
         alloc: Global,
         node: NodeId,
-        cells: &'a [Cell],
+        rows: &Rows,
         marks: &Marks,
     ) -> Result<(), AllocError> {
-        let row = self.rows.len();
-        let mut kept = known_of(alloc, row, cells, marks)?;
-        add_absent(&mut kept, row, node, cells, marks)?;
-        kept.sort_by_key(|one| one.seq)?;
-        let kept = numbered(alloc, &kept)?;
+        let kept = row_cells(alloc, rows, self.rows.len(), node, marks)?;
         self.rows.push(Row {
             node,
-            known: cells.len(),
-            drawn: kept.iter().filter(|one| one.cell.is_some()).count(),
+            known: rows.of(node).len(),
+            drawn: kept.iter().filter(|one| one.is_known()).count(),
             from: self.cells.len(),
             count: kept.len(),
         })?;
@@ -207,7 +251,7 @@ impl<'a> Choice<'a> {
     }
 
     /// The entries of a row.
-    pub(crate) fn cells_of(&self, row: &Row) -> &[Drawn<'a>] {
+    pub(crate) fn cells_of(&self, row: &Row) -> &[Drawn] {
         let behind = self.cells.get(row.from..).unwrap_or(&[]);
         behind.get(..row.count).unwrap_or(behind)
     }
@@ -231,25 +275,38 @@ fn nodes_of(alloc: Global, account: &Account, rows: &Rows) -> Result<BTreeSet<u3
     Ok(nodes)
 }
 
+/// Whether a node has a row, of so many nodes.
+fn has_row(rows: &Rows, node: NodeId, marks: &Marks, nodes: usize) -> bool {
+    let cells = rows.of(node);
+    if marks.of(node).is_some() {
+        true
+    } else if nodes > MOST_ROWS {
+        cells.iter().any(|cell| is_spoken_of(rows, cell, marks))
+    } else {
+        nodes <= MOST_EMPTY || !cells.is_empty()
+    }
+}
+
 /// What is drawn of the rows. A row of more than 200 entries is cut to what the sentences speak of, with its neighbours and the row's
-/// ends.
-pub(crate) fn choice_of<'a>(
+/// ends; of more than 200 nodes those have rows of which the sentences speak.
+pub(crate) fn choice_of(
     alloc: Global,
     account: &Account,
-    rows: &'a Rows,
+    rows: &Rows,
     marks: &Marks,
-) -> Result<Choice<'a>, AllocError> {
+) -> Result<Choice, AllocError> {
     let mut choice = Choice {
+        left_out: 0,
         rows: Vec::new(alloc),
         cells: Vec::new(alloc),
     };
     let nodes = nodes_of(alloc, account, rows)?;
-    let few = nodes.len() <= MOST_ROWS;
     for node in nodes.iter() {
         let node = NodeId(*node);
-        let cells = rows.of(node);
-        if few || !cells.is_empty() || marks.of(node).is_some() {
-            choice.add_row(alloc, node, cells, marks)?;
+        if has_row(rows, node, marks, nodes.len()) {
+            choice.add_row(alloc, node, rows, marks)?;
+        } else {
+            choice.left_out = choice.left_out.saturating_add(1);
         }
     }
     Ok(choice)

@@ -2,13 +2,15 @@
 
 use crate::choosing::Drawn;
 use crate::marks::SentenceId;
-use crate::page::Page;
-use crate::page::Piece::{Digits, Markup, Number};
-use crate::rows::Cell;
+use known_logs::{Cell, Detail, Payload, Rows};
+use log_chain::kind::{CHECKPOINT, INIT, RECV, SEND, TIMER};
+use log_chain::{FieldReader, Hash};
+use page_text::Page;
+use page_text::Piece::{Digits, Markup, Number, Text};
 use std::alloc::AllocError;
 
 /// Writes the name of an entry in the picture.
-pub(crate) fn entry_id(page: &mut Page, one: &Drawn<'_>) -> Result<(), AllocError> {
+pub(crate) fn entry_id(page: &mut Page, one: &Drawn) -> Result<(), AllocError> {
     page.write(&[
         Markup("entry-"),
         Number(one.node.0 as u64),
@@ -25,7 +27,7 @@ pub(crate) fn entry_id(page: &mut Page, one: &Drawn<'_>) -> Result<(), AllocErro
 pub(crate) fn sentence_id(page: &mut Page, id: SentenceId) -> Result<(), AllocError> {
     page.write(&[
         Markup("node-"),
-        Number(id.node.0 as u64),
+        Number(id.node as u64),
         Markup("-sentence-"),
         Number(id.number),
     ])
@@ -38,53 +40,131 @@ pub(crate) fn sentence_link(page: &mut Page, id: SentenceId) -> Result<(), Alloc
     page.markup("\"")
 }
 
+/// The name of a kind.
+pub(crate) fn kind_name(kind: u8) -> &'static str {
+    match kind {
+        INIT => "INIT",
+        SEND => "SEND",
+        RECV => "RECV",
+        TIMER => "TIMER",
+        CHECKPOINT => "CHECKPOINT",
+        _ => "OTHER",
+    }
+}
+
+/// The name of an entry's kind, where it is known.
+pub(crate) fn kind_of(rows: &Rows, one: &Drawn) -> &'static str {
+    match one.detail(rows) {
+        Some(detail) => kind_name(detail.kind),
+        None => "not known",
+    }
+}
+
 /// From what an entry is known.
-pub(crate) fn standing(cell: &Cell) -> &'static str {
+pub(crate) fn source_of(rows: &Rows, cell: &Cell) -> &'static str {
     if cell.is_logged {
         "segment"
-    } else if cell.content.is_some() {
+    } else if rows.detail(cell).is_some() {
         "message"
     } else {
         "statement"
     }
 }
 
-/// Writes what an entry says.
-pub(crate) fn tell_content(page: &mut Page, cell: &Cell) -> Result<(), AllocError> {
-    let Some(content) = &cell.content else {
-        return page.markup("only its hash is known");
-    };
-    content.write(page)?;
-    if let Some(quoted) = cell.quotes {
-        page.write(&[Markup(", quotes entry "), Number(quoted.seq)])?;
-    }
-    Ok(())
+/// Whether the bytes are printable ASCII.
+fn is_printable(bytes: &[u8]) -> bool {
+    bytes.iter().all(|byte| matches!(*byte, 32..=126))
 }
 
-/// The name of an entry's kind.
-pub(crate) fn kind(cell: &Cell) -> &'static str {
-    cell.content
-        .as_ref()
-        .map_or("not known", |content| content.name())
+/// Writes the beginning of a payload, as text where it is printable and else in digits, and how long it is.
+fn write_payload(page: &mut Page, payload: &Payload) -> Result<(), AllocError> {
+    let shown = payload.shown();
+    let size = payload.size();
+    if is_printable(shown) {
+        page.write(&[Text(b"\""), Text(shown), Text(b"\"")])?;
+    } else {
+        page.write(&[Digits(shown)])?;
+    }
+    page.markup(if shown.len() < size { ".. (" } else { " (" })?;
+    page.write(&[Number(size as u64)])?;
+    page.markup(if size == 1 { " byte)" } else { " bytes)" })
+}
+
+/// The number that a content says: a node's of INIT, a moment of TIMER.
+fn number_of(detail: &Detail) -> Option<u64> {
+    let mut reader = FieldReader::new(detail.payload.shown());
+    match (detail.kind, detail.payload.size()) {
+        (INIT, 4) => match reader.u32() {
+            Ok(node) => Some(node as u64),
+            Err(_) => None,
+        },
+        (TIMER, 8) => reader.u64().ok(),
+        _ => None,
+    }
+}
+
+/// Writes whom an entry names, and its payload.
+fn write_detail(page: &mut Page, detail: &Detail) -> Result<(), AllocError> {
+    if let Some(number) = number_of(detail) {
+        page.markup(if detail.kind == INIT {
+            "node "
+        } else {
+            "moment "
+        })?;
+        return page.write(&[Number(number)]);
+    }
+    if let Some(peer) = detail.peer() {
+        page.markup(if detail.kind == SEND {
+            "to node "
+        } else {
+            "from node "
+        })?;
+        page.write(&[Number(peer.0 as u64), Markup(", ")])?;
+    }
+    write_payload(page, &detail.payload)
+}
+
+/// Writes what an entry says, and what it quotes.
+pub(crate) fn write_content(page: &mut Page, rows: &Rows, one: &Drawn) -> Result<(), AllocError> {
+    match one.detail(rows) {
+        Some(detail) => write_detail(page, &detail)?,
+        None => page.markup("only its hash is known")?,
+    }
+    match one.quoted(rows) {
+        Some(quoted) => page.write(&[Markup(", quotes entry "), Number(quoted.seq)]),
+        None => Ok(()),
+    }
+}
+
+/// Writes a hash.
+pub(crate) fn write_hash(page: &mut Page, hash: &Hash) -> Result<(), AllocError> {
+    page.write(&[Digits(&hash.0)])
+}
+
+/// Writes what is known of an entry that is known.
+fn write_known(page: &mut Page, rows: &Rows, one: &Drawn, cell: &Cell) -> Result<(), AllocError> {
+    if let Some(detail) = one.detail(rows) {
+        page.markup(", ")?;
+        page.markup(kind_name(detail.kind))?;
+    }
+    page.markup(": ")?;
+    write_content(page, rows, one)?;
+    page.markup("; known from a ")?;
+    page.markup(source_of(rows, cell))?;
+    page.markup("; hash ")?;
+    write_hash(page, &cell.place.hash)
 }
 
 /// Writes what is known of an entry, in a line.
-pub(crate) fn tell_entry(page: &mut Page, one: &Drawn<'_>) -> Result<(), AllocError> {
+pub(crate) fn write_line(page: &mut Page, rows: &Rows, one: &Drawn) -> Result<(), AllocError> {
     page.write(&[
         Markup("Node "),
         Number(one.node.0 as u64),
         Markup(", entry "),
         Number(one.seq),
     ])?;
-    let Some(cell) = one.cell else {
-        return page.markup(": nothing of it is here");
-    };
-    page.write(&[Markup(", "), Markup(kind(cell)), Markup(": ")])?;
-    tell_content(page, cell)?;
-    page.write(&[
-        Markup("; known from a "),
-        Markup(standing(cell)),
-        Markup("; hash "),
-        Digits(&cell.place.hash.0),
-    ])
+    match one.cell(rows) {
+        Some(cell) => write_known(page, rows, one, &cell),
+        None => page.markup(": nothing of it is here"),
+    }
 }

@@ -3,15 +3,15 @@
 use crate::choosing::{Choice, Row, choice_of};
 use crate::describing::sentence_id;
 use crate::marks::{Marks, SentenceId};
-use crate::page::Page;
-use crate::page::Piece::{Markup, Number, Text};
 use crate::picture::draw;
-use crate::rows::Rows;
 use crate::style::{LEGEND, STYLE};
 use crate::tables::write_table;
 use authenticators::NodeId;
 use evidence_set::Indication;
 use explanations::{Account, Mark, NodeAccount, Sentence};
+use known_logs::Rows;
+use page_text::Page;
+use page_text::Piece::{Markup, Number, Text};
 use std::alloc::{AllocError, Global};
 use std::collections::BTreeSet;
 
@@ -80,12 +80,12 @@ fn write_chips(page: &mut Page, nodes: &[NodeAccount]) -> Result<(), AllocError>
 fn write_cut(page: &mut Page, row: &Row) -> Result<(), AllocError> {
     if row.drawn < row.known {
         page.write(&[
-            Markup("<p class=\"cut\">Of the "),
+            Markup("<p class=\"cut\">"),
+            Number(row.drawn as u64),
+            Markup(" of the "),
             Number(row.known as u64),
             Markup(" entries of node "),
             Number(row.node.0 as u64),
-            Markup(" "),
-            Number(row.drawn as u64),
             Markup(
                 " are drawn: those of which the sentences speak, with their neighbours, and both ends.</p>\n",
             ),
@@ -94,18 +94,41 @@ fn write_cut(page: &mut Page, row: &Row) -> Result<(), AllocError> {
     Ok(())
 }
 
+/// Writes that nodes have no row.
+fn write_left_out(page: &mut Page, nodes: u64) -> Result<(), AllocError> {
+    match nodes {
+        0 => Ok(()),
+        1 => page.markup(
+            "<p class=\"cut\">The log of 1 node is not drawn: nothing is known of it, or no sentence speaks of it.</p>\n",
+        ),
+        _ => page.write(&[
+            Markup("<p class=\"cut\">The logs of "),
+            Number(nodes),
+            Markup(
+                " nodes are not drawn: nothing is known of them, or no sentence speaks of them.</p>\n",
+            ),
+        ]),
+    }
+}
+
 /// Writes the picture with its legend.
-fn write_picture(alloc: Global, page: &mut Page, choice: &Choice<'_>) -> Result<(), AllocError> {
+fn write_picture(
+    alloc: Global,
+    page: &mut Page,
+    rows: &Rows,
+    choice: &Choice,
+) -> Result<(), AllocError> {
     page.markup(
         "<section aria-labelledby=\"picture-heading\">\n<h2 id=\"picture-heading\">The logs</h2>\n",
     )?;
     page.markup(LEGEND)?;
     page.markup("<div class=\"scroll\" role=\"region\" aria-label=\"Picture\" tabindex=\"0\">\n")?;
-    draw(alloc, page, choice)?;
+    draw(alloc, page, rows, choice)?;
     page.markup("</div>\n")?;
     for row in &choice.rows {
         write_cut(page, row)?;
     }
+    write_left_out(page, choice.left_out)?;
     page.markup("</section>\n")
 }
 
@@ -138,13 +161,11 @@ fn write_sentence(page: &mut Page, id: SentenceId, sentence: &Sentence) -> Resul
 /// Writes a node's sentences.
 fn write_sentences(page: &mut Page, told: &NodeAccount) -> Result<(), AllocError> {
     page.markup("<ul class=\"sentences\">\n")?;
-    let mut id = SentenceId {
-        node: told.node,
-        number: 1,
-    };
+    let NodeId(node) = told.node;
+    let mut number: u64 = 1;
     for sentence in &told.sentences {
-        write_sentence(page, id, sentence)?;
-        id.number = id.number.saturating_add(1);
+        write_sentence(page, SentenceId { node, number }, sentence)?;
+        number = number.saturating_add(1);
     }
     page.markup("</ul>\n")
 }
@@ -180,9 +201,14 @@ fn write_heading(
 }
 
 /// Writes the table of a node, where it has a row.
-fn write_row(page: &mut Page, choice: &Choice<'_>, node: NodeId) -> Result<(), AllocError> {
+fn write_row(
+    page: &mut Page,
+    rows: &Rows,
+    choice: &Choice,
+    node: NodeId,
+) -> Result<(), AllocError> {
     if let Some(row) = choice.row_of(node) {
-        write_table(page, row, choice.cells_of(row))?;
+        write_table(page, rows, row, choice.cells_of(row))?;
     }
     page.markup("</section>\n")
 }
@@ -192,13 +218,14 @@ fn write_told(
     alloc: Global,
     page: &mut Page,
     account: &Account,
-    choice: &Choice<'_>,
+    rows: &Rows,
+    choice: &Choice,
 ) -> Result<BTreeSet<u32>, AllocError> {
     let mut written = BTreeSet::new(alloc);
     for told in &account.nodes {
         write_heading(page, told.node, Some(told.indication))?;
         write_sentences(page, told)?;
-        write_row(page, choice, told.node)?;
+        write_row(page, rows, choice, told.node)?;
         written.insert(told.node.0)?;
     }
     Ok(written)
@@ -208,12 +235,13 @@ fn write_told(
 fn write_others(
     page: &mut Page,
     written: &BTreeSet<u32>,
-    choice: &Choice<'_>,
+    rows: &Rows,
+    choice: &Choice,
 ) -> Result<(), AllocError> {
     for row in &choice.rows {
         if !written.contains(&row.node.0) {
             write_heading(page, row.node, None)?;
-            write_row(page, choice, row.node)?;
+            write_row(page, rows, choice, row.node)?;
         }
     }
     Ok(())
@@ -227,9 +255,9 @@ pub fn page_of(alloc: Global, account: &Account, rows: &Rows) -> Result<Vec<u8>,
     let mut page = Page::new(alloc);
     write_head(&mut page, account.heading.as_bytes())?;
     write_chips(&mut page, &account.nodes)?;
-    write_picture(alloc, &mut page, &choice)?;
-    let written = write_told(alloc, &mut page, account, &choice)?;
-    write_others(&mut page, &written, &choice)?;
+    write_picture(alloc, &mut page, rows, &choice)?;
+    let written = write_told(alloc, &mut page, account, rows, &choice)?;
+    write_others(&mut page, &written, rows, &choice)?;
     page.markup("</main>\n</body>\n</html>\n")?;
     Ok(page.into_bytes())
 }

@@ -1,235 +1,115 @@
-//! Where each entry stands in the picture.
+//! Where each entry and each row lies in the picture.
 
-use crate::choosing::{Choice, Drawn};
-use crate::rows::Place;
-use authenticators::NodeId;
-use log_chain::Hash;
+use crate::choosing::Choice;
+use crate::grid::Grid;
 use std::alloc::{AllocError, Global};
-use std::collections::BTreeMap;
 
-/// How often the columns are gone over, so that what quotes stands right of what it quotes.
-const MOST_SWEEPS: u32 = 64;
+/// Where the first column begins.
+pub(crate) const LEFT: u64 = 104;
 
-/// The end of a node's log at an entry.
-#[derive(Clone, Copy, Debug, PartialEq, Eq, PartialOrd, Ord)]
-struct LogEnd {
-    node: NodeId,
-    hash: Hash,
+/// How far the columns stand from each other.
+pub(crate) const COLUMN: u64 = 102;
+
+/// How far the lanes of a row stand from each other.
+const LANE: u64 = 58;
+
+/// The room above and below the entries of a row.
+pub(crate) const PAD: u64 = 18;
+
+/// The room between two rows.
+const BETWEEN: u64 = 12;
+
+/// An entry's width.
+pub(crate) const WIDTH: u64 = 80;
+
+/// An entry's height.
+pub(crate) const HEIGHT: u64 = 42;
+
+/// The least number of columns.
+const LEAST_COLUMNS: u64 = 4;
+
+/// A point.
+#[derive(Clone, Copy, Debug)]
+pub(crate) struct Point {
+    pub(crate) x: u64,
+    pub(crate) y: u64,
 }
 
-/// Of each entry that is drawn its column, its lane within the row, and the entries that it stands behind and that it quotes.
+/// Where a row lies.
+#[derive(Clone, Copy, Debug)]
+pub(crate) struct Band {
+    pub(crate) top: u64,
+    pub(crate) height: u64,
+}
+
+/// The upper left corner of each entry, where each row lies, and how large the whole is.
 #[derive(Debug, Drop)]
 pub(crate) struct Layout {
-    columns: Vec<u64>,
-    lanes: Vec<u64>,
-    before: Vec<Option<usize>>,
-    quoted: Vec<Option<usize>>,
+    corners: Vec<Point>,
+    pub(crate) bands: Vec<Band>,
+    pub(crate) width: u64,
+    pub(crate) height: u64,
 }
 
-/// The value at a place, or 0.
-fn at(numbers: &[u64], i: usize) -> u64 {
-    numbers.get(i).copied().unwrap_or(0)
-}
-
-/// For each entry the one that it quotes, where that is drawn.
-fn quoted_of(alloc: Global, cells: &[Drawn<'_>]) -> Result<Vec<Option<usize>>, AllocError> {
-    let mut places: BTreeMap<Place, usize> = BTreeMap::new(alloc);
-    for (i, one) in cells.iter().enumerate() {
-        if let Some(cell) = one.cell {
-            places.insert(cell.place, i)?;
-        }
+/// Where the rows lie that have so many lanes.
+fn bands_of(alloc: Global, lanes: &[u64]) -> Result<Vec<Band>, AllocError> {
+    let mut bands = Vec::new(alloc);
+    let mut top: u64 = 0;
+    for count in lanes {
+        let more = count.saturating_sub(1).saturating_mul(LANE);
+        let height = more.saturating_add(HEIGHT + 2 * PAD);
+        bands.push(Band { top, height })?;
+        top = top.saturating_add(height).saturating_add(BETWEEN);
     }
-    let mut quoted = Vec::new(alloc);
-    for one in cells {
-        let place = one.cell.and_then(|cell| cell.quotes);
-        quoted.push(place.and_then(|place| places.get(&place).copied()))?;
-    }
-    Ok(quoted)
+    Ok(bands)
 }
 
-/// For each entry the one that it stands behind in its node's log, where that is drawn.
-fn before_of(alloc: Global, cells: &[Drawn<'_>]) -> Result<Vec<Option<usize>>, AllocError> {
-    let mut ends: BTreeMap<LogEnd, usize> = BTreeMap::new(alloc);
-    let mut before = Vec::new(alloc);
-    for (i, one) in cells.iter().enumerate() {
-        let prev = one.cell.and_then(|cell| cell.prev);
-        let end = prev.map(|hash| LogEnd {
-            node: one.node,
-            hash,
-        });
-        before.push(end.and_then(|end| ends.get(&end).copied()))?;
-        if let Some(cell) = one.cell {
-            let end = LogEnd {
-                node: one.node,
-                hash: cell.place.hash,
-            };
-            ends.insert(end, i)?;
-        }
-    }
-    Ok(before)
-}
-
-/// Whether two entries stand in one column, one above the other.
-fn are_stacked(a: &Drawn<'_>, b: &Drawn<'_>) -> bool {
-    a.row == b.row && a.seq == b.seq
-}
-
-/// The first column that an entry can have beside the one on its left.
-fn column_behind(left: Option<&Drawn<'_>>, column: u64, one: &Drawn<'_>) -> u64 {
-    match left {
-        Some(left) if are_stacked(left, one) => column,
-        Some(left) if left.row == one.row => {
-            column.saturating_add(if one.is_behind_gap { 2 } else { 1 })
-        }
-        _ => 0,
+/// Where the last row ends.
+fn end_of(bands: &[Band]) -> u64 {
+    match bands.last() {
+        Some(band) => band.top.saturating_add(band.height),
+        None => 0,
     }
 }
 
-/// Moves each entry behind the one on its left and behind what it quotes, and answers whether one was moved.
-fn sweep(cells: &[Drawn<'_>], quoted: &[Option<usize>], columns: &mut Vec<u64>) -> bool {
-    let mut moved = false;
-    let mut left = None;
-    let mut column = 0;
-    for (i, one) in cells.iter().enumerate() {
-        let mut wanted = column_behind(left, column, one);
-        if let Some(Some(source)) = quoted.get(i) {
-            wanted = wanted.max(at(columns, *source).saturating_add(1));
-        }
-        column = wanted.max(at(columns, i));
-        if let Some(held) = columns.get_mut(i) {
-            moved |= column != *held;
-            *held = column;
-        }
-        left = Some(one);
+/// The upper left corner of an entry of this column and lane, in a row that lies there.
+fn corner(column: u64, lane: u64, band: Option<&Band>) -> Point {
+    let top = match band {
+        Some(band) => band.top,
+        None => 0,
+    };
+    Point {
+        x: column.saturating_mul(COLUMN).saturating_add(LEFT),
+        y: lane
+            .saturating_mul(LANE)
+            .saturating_add(top)
+            .saturating_add(PAD),
     }
-    moved
-}
-
-/// Moves the entries of one number to the column of the one that is farthest right.
-fn level(cells: &[Drawn<'_>], columns: &mut Vec<u64>) {
-    let mut right = None;
-    let mut column = 0;
-    for (i, one) in cells.iter().enumerate().rev() {
-        let held = at(columns, i);
-        column = match right {
-            Some(right) if are_stacked(one, right) => held.max(column),
-            _ => held,
-        };
-        if let Some(held) = columns.get_mut(i) {
-            *held = column;
-        }
-        right = Some(one);
-    }
-}
-
-/// The column of each entry.
-fn columns_of(
-    alloc: Global,
-    cells: &[Drawn<'_>],
-    quoted: &[Option<usize>],
-) -> Result<Vec<u64>, AllocError> {
-    let mut columns = vec![in alloc; 0; cells.len()]?;
-    for _ in 0..MOST_SWEEPS {
-        if !sweep(cells, quoted, &mut columns) {
-            break;
-        }
-        level(cells, &mut columns);
-    }
-    Ok(columns)
-}
-
-/// The first of a few lanes, from this one on, in which none of the last entries stands.
-fn free_lane(taken: &[u64], wanted: u64) -> u64 {
-    let mut lane = wanted;
-    for _ in 0..taken.len() {
-        if !taken.contains(&lane) {
-            break;
-        }
-        lane = lane.saturating_add(1);
-    }
-    lane
-}
-
-/// The lane of each entry: that of the entry that it stands behind, where it is free.
-fn lanes_of(
-    alloc: Global,
-    cells: &[Drawn<'_>],
-    before: &[Option<usize>],
-) -> Result<Vec<u64>, AllocError> {
-    let mut lanes = Vec::new(alloc);
-    let mut taken = Vec::new(alloc);
-    for (i, one) in cells.iter().enumerate() {
-        if one.alike == 0 {
-            taken.clear();
-        }
-        let wanted = match before.get(i) {
-            Some(Some(prev)) => at(&lanes, *prev),
-            _ => 0,
-        };
-        let lane = free_lane(&taken, wanted);
-        taken.push(lane)?;
-        lanes.push(lane)?;
-    }
-    Ok(lanes)
 }
 
 impl Layout {
-    /// Where each entry stands.
-    pub(crate) fn new(alloc: Global, choice: &Choice<'_>) -> Result<Layout, AllocError> {
-        let cells = choice.cells.as_slice();
-        let before = before_of(alloc, cells)?;
-        let quoted = quoted_of(alloc, cells)?;
-        let columns = columns_of(alloc, cells, &quoted)?;
-        let lanes = lanes_of(alloc, cells, &before)?;
+    /// Where all of them lie.
+    pub(crate) fn new(alloc: Global, choice: &Choice, grid: &Grid) -> Result<Layout, AllocError> {
+        let lanes = grid.lanes_by_row(alloc, choice)?;
+        let bands = bands_of(alloc, &lanes)?;
+        let mut corners = Vec::new(alloc);
+        for (i, one) in choice.cells.iter().enumerate() {
+            corners.push(corner(grid.column(i), grid.lane(i), bands.get(one.row)))?;
+        }
+        let columns = grid.width().max(LEAST_COLUMNS);
         Ok(Layout {
-            columns,
-            lanes,
-            before,
-            quoted,
+            corners,
+            width: columns.saturating_mul(COLUMN).saturating_add(LEFT),
+            height: end_of(&bands),
+            bands,
         })
     }
 
-    /// The column of entry `i`, from 0.
-    pub(crate) fn column(&self, i: usize) -> u64 {
-        at(&self.columns, i)
-    }
-
-    /// The lane of entry `i` within its row, from 0.
-    pub(crate) fn lane(&self, i: usize) -> u64 {
-        at(&self.lanes, i)
-    }
-
-    /// The entry that entry `i` stands behind.
-    pub(crate) fn before(&self, i: usize) -> Option<usize> {
-        self.before.get(i).copied().unwrap_or(None)
-    }
-
-    /// The entry that entry `i` quotes.
-    pub(crate) fn quoted(&self, i: usize) -> Option<usize> {
-        self.quoted.get(i).copied().unwrap_or(None)
-    }
-
-    /// How many columns there are.
-    pub(crate) fn width(&self) -> u64 {
-        self.columns
-            .iter()
-            .copied()
-            .max()
-            .map_or(0, |last| last.saturating_add(1))
-    }
-
-    /// How many lanes each of so many rows has.
-    pub(crate) fn lanes_by_row(
-        &self,
-        alloc: Global,
-        choice: &Choice<'_>,
-    ) -> Result<Vec<u64>, AllocError> {
-        let mut rows = vec![in alloc; 1; choice.rows.len()]?;
-        for (one, lane) in choice.cells.iter().zip(self.lanes.as_slice()) {
-            if let Some(lanes) = rows.get_mut(one.row) {
-                *lanes = (*lanes).max(lane.saturating_add(1));
-            }
+    /// The upper left corner of entry `i`.
+    pub(crate) fn corner(&self, i: usize) -> Point {
+        match self.corners.get(i) {
+            Some(corner) => *corner,
+            None => Point { x: 0, y: 0 },
         }
-        Ok(rows)
     }
 }

@@ -5,10 +5,10 @@ use explanations::{Account, NodeAccount, Sentence};
 use std::alloc::{AllocError, Global};
 use std::collections::BTreeMap;
 
-/// A sentence: the node that it is told of, and its number among that node's, from 1.
+/// A sentence: the number of the node that it is told of, and its own among that node's, from 1.
 #[derive(Clone, Copy, Debug)]
 pub(crate) struct SentenceId {
-    pub(crate) node: NodeId,
+    pub(crate) node: u32,
     pub(crate) number: u64,
 }
 
@@ -38,13 +38,11 @@ fn note_node(
     by_node: &mut BTreeMap<u32, BTreeMap<u64, SentenceId>>,
     told: &NodeAccount,
 ) -> Result<(), AllocError> {
-    let mut id = SentenceId {
-        node: told.node,
-        number: 1,
-    };
+    let NodeId(node) = told.node;
+    let mut number: u64 = 1;
     for sentence in &told.sentences {
-        note_sentence(alloc, by_node, id, sentence)?;
-        id.number = id.number.saturating_add(1);
+        note_sentence(alloc, by_node, SentenceId { node, number }, sentence)?;
+        number = number.saturating_add(1);
     }
     Ok(())
 }

@@ -1,111 +1,21 @@
 //! The picture: a row for each node, its entries by number, and arrows from what was sent to what quotes it.
 
 use crate::choosing::{Choice, Drawn, Row};
-use crate::describing::{entry_id, sentence_link, tell_entry};
-use crate::layout::Layout;
-use crate::page::Page;
-use crate::page::Piece::{Markup, Number};
+use crate::describing::{entry_id, kind_name, sentence_link, write_line};
+use crate::grid::Grid;
+use crate::layout::{Band, COLUMN, HEIGHT, LEFT, Layout, PAD, Point, WIDTH};
+use known_logs::Rows;
+use log_chain::kind::{CHECKPOINT, INIT, RECV, SEND, TIMER};
+use page_text::Page;
+use page_text::Piece::{Markup, Number};
 use std::alloc::{AllocError, Global};
 
-/// Where the first column begins.
-const LEFT: u64 = 104;
-
-/// How far the columns stand from each other.
-const COLUMN: u64 = 102;
-
-/// How far the lanes of a row stand from each other.
-const LANE: u64 = 58;
-
-/// The room above and below the entries of a row.
-const PAD: u64 = 18;
-
-/// The room between two rows.
-const BETWEEN: u64 = 12;
-
-/// An entry's width and height.
-const WIDTH: u64 = 80;
-
-const HEIGHT: u64 = 42;
-
-/// The entries with their places, and where each row lies.
-#[derive(Debug, Drop)]
-struct Canvas<'a> {
-    choice: &'a Choice<'a>,
-    layout: &'a Layout,
-    bands: Vec<Band>,
-    width: u64,
-    height: u64,
-}
-
-/// Where a row lies.
-#[derive(Clone, Copy, Debug)]
-struct Band {
-    top: u64,
-    height: u64,
-}
-
-/// A point.
-#[derive(Clone, Copy, Debug)]
-struct Point {
-    x: u64,
-    y: u64,
-}
+/// How far the rows go on beyond the picture, for a window that is wider.
+const FAR: u64 = 4000;
 
 /// Halfway between two numbers.
 fn middle(a: u64, b: u64) -> u64 {
     a / 2 + b / 2
-}
-
-/// Where the rows lie that have so many lanes, and how high all of them are.
-fn bands_of(alloc: Global, lanes: &[u64]) -> Result<(Vec<Band>, u64), AllocError> {
-    let mut bands = Vec::new(alloc);
-    let mut top: u64 = 0;
-    for count in lanes {
-        let more = count.saturating_sub(1).saturating_mul(LANE);
-        let height = more.saturating_add(HEIGHT + 2 * PAD);
-        bands.push(Band { top, height })?;
-        top = top.saturating_add(height).saturating_add(BETWEEN);
-    }
-    Ok((bands, top.saturating_sub(BETWEEN)))
-}
-
-impl<'a> Canvas<'a> {
-    /// A canvas with room for all.
-    fn new(
-        alloc: Global,
-        choice: &'a Choice<'a>,
-        layout: &'a Layout,
-    ) -> Result<Canvas<'a>, AllocError> {
-        let lanes = layout.lanes_by_row(alloc, choice)?;
-        let (bands, height) = bands_of(alloc, &lanes)?;
-        let columns = layout.width().max(4);
-        Ok(Canvas {
-            choice,
-            layout,
-            bands,
-            width: columns.saturating_mul(COLUMN).saturating_add(LEFT),
-            height,
-        })
-    }
-
-    /// The upper left corner of entry `i`.
-    fn corner(&self, i: usize) -> Point {
-        let row = self.choice.cells.get(i).map_or(0, |one| one.row);
-        let top = self.bands.get(row).map_or(0, |band| band.top);
-        Point {
-            x: self
-                .layout
-                .column(i)
-                .saturating_mul(COLUMN)
-                .saturating_add(LEFT),
-            y: self
-                .layout
-                .lane(i)
-                .saturating_mul(LANE)
-                .saturating_add(top)
-                .saturating_add(PAD),
-        }
-    }
 }
 
 /// Writes the line from an entry to the one behind it in its log.
@@ -189,38 +99,56 @@ fn draw_arrow(page: &mut Page, from: Point, to: Point) -> Result<(), AllocError>
     }
 }
 
-/// The classes of an entry.
-fn classes(one: &Drawn<'_>) -> (&'static str, &'static str) {
-    let Some(cell) = one.cell else {
-        return ("unknown", " absent");
-    };
-    let kind = cell
-        .content
-        .as_ref()
-        .map_or("bare", |content| content.class());
-    (kind, if cell.is_logged { " logged" } else { " signed" })
+/// The class of an entry's kind.
+fn kind_class(rows: &Rows, one: &Drawn) -> &'static str {
+    match one.detail(rows) {
+        None => "bare",
+        Some(detail) => match detail.kind {
+            INIT => "init",
+            SEND => "send",
+            RECV => "recv",
+            TIMER => "timer",
+            CHECKPOINT => "checkpoint",
+            _ => "other",
+        },
+    }
+}
+
+/// The class that says from what an entry is known.
+fn source_class(rows: &Rows, one: &Drawn) -> &'static str {
+    match one.cell(rows) {
+        None => "absent",
+        Some(cell) if cell.is_logged => "logged",
+        Some(_) => "signed",
+    }
 }
 
 /// The word on an entry.
-fn word(one: &Drawn<'_>) -> &'static str {
-    let Some(cell) = one.cell else {
-        return "nothing";
-    };
-    cell.content
-        .as_ref()
-        .map_or("SIGNED", |content| content.name())
+fn word(rows: &Rows, one: &Drawn) -> &'static str {
+    match one.detail(rows) {
+        Some(detail) => kind_name(detail.kind),
+        None if one.cell(rows).is_some() => "SIGNED",
+        None => "nothing",
+    }
 }
 
-/// Writes the box of an entry: of a segment a box with corners, of a statement a rounded one.
-fn draw_box(page: &mut Page, one: &Drawn<'_>) -> Result<(), AllocError> {
-    let is_logged = one.cell.is_some_and(|cell| cell.is_logged);
-    page.markup("<rect class=\"box\" width=\"80\" height=\"42\" rx=\"")?;
-    page.markup(if is_logged { "3" } else { "21" })?;
+/// How round an entry's corners are: a segment's are sharp.
+fn rounding(rows: &Rows, one: &Drawn) -> &'static str {
+    match one.cell(rows) {
+        Some(cell) if cell.is_logged => "3",
+        _ => "21",
+    }
+}
+
+/// Writes the box of an entry, and the sign on one that is marked.
+fn draw_box(page: &mut Page, rows: &Rows, one: &Drawn) -> Result<(), AllocError> {
     page.write(&[
+        Markup("<rect class=\"box\" width=\"80\" height=\"42\" rx=\""),
+        Markup(rounding(rows, one)),
         Markup("\"/><text class=\"number\" x=\"40\" y=\"19\">"),
         Number(one.seq),
         Markup("</text><text class=\"kind\" x=\"40\" y=\"33\">"),
-        Markup(word(one)),
+        Markup(word(rows, one)),
         Markup("</text>"),
     ])?;
     if one.sentence.is_some() {
@@ -232,7 +160,7 @@ fn draw_box(page: &mut Page, one: &Drawn<'_>) -> Result<(), AllocError> {
 }
 
 /// Writes the sign of what is left out before an entry.
-fn draw_gap(page: &mut Page, one: &Drawn<'_>, corner: Point) -> Result<(), AllocError> {
+fn draw_gap(page: &mut Page, one: &Drawn, corner: Point) -> Result<(), AllocError> {
     if one.is_behind_gap {
         page.write(&[
             Markup("<text class=\"gap\" x=\""),
@@ -245,24 +173,20 @@ fn draw_gap(page: &mut Page, one: &Drawn<'_>, corner: Point) -> Result<(), Alloc
     Ok(())
 }
 
-/// Writes an entry, with what it says on its title, and a link to the sentence that marks it.
-fn draw_entry(page: &mut Page, one: &Drawn<'_>, corner: Point) -> Result<(), AllocError> {
-    draw_gap(page, one, corner)?;
-    let (kind, standing) = classes(one);
-    if let Some(sentence) = one.sentence {
-        page.markup("<a tabindex=\"-1\"")?;
-        sentence_link(page, sentence)?;
-        page.markup(">")?;
-    }
+/// Writes the beginning of an entry: its name, its classes, and where it stands.
+fn begin_entry(page: &mut Page, rows: &Rows, one: &Drawn, corner: Point) -> Result<(), AllocError> {
     page.markup("<g id=\"")?;
     entry_id(page, one)?;
-    page.write(&[Markup("\" class=\"entry "), Markup(kind), Markup(standing)])?;
-    page.markup(if one.sentence.is_some() {
-        " marked"
-    } else {
-        ""
-    })?;
     page.write(&[
+        Markup("\" class=\"entry "),
+        Markup(kind_class(rows, one)),
+        Markup(" "),
+        Markup(source_class(rows, one)),
+        Markup(if one.sentence.is_some() {
+            " marked"
+        } else {
+            ""
+        }),
         Markup("\" data-node=\""),
         Number(one.node.0 as u64),
         Markup("\" data-seq=\""),
@@ -271,36 +195,63 @@ fn draw_entry(page: &mut Page, one: &Drawn<'_>, corner: Point) -> Result<(), All
         Number(corner.x),
         Markup(" "),
         Number(corner.y),
-        Markup(")\"><title>"),
-    ])?;
-    tell_entry(page, one)?;
-    page.markup("</title>")?;
-    draw_box(page, one)?;
-    page.markup(if one.sentence.is_some() {
-        "</g></a>\n"
-    } else {
-        "</g>\n"
-    })
+        Markup(")\">"),
+    ])
 }
 
-/// Writes what is beneath the entries: chains and arrows.
-fn draw_lines(page: &mut Page, canvas: &Canvas<'_>) -> Result<(), AllocError> {
-    for i in 0..canvas.choice.cells.len() {
-        let here = canvas.corner(i);
-        if let Some(before) = canvas.layout.before(i) {
-            draw_chain(page, canvas.corner(before), here)?;
+/// Writes an entry, with what it says on its title.
+fn draw_entry(page: &mut Page, rows: &Rows, one: &Drawn, corner: Point) -> Result<(), AllocError> {
+    begin_entry(page, rows, one, corner)?;
+    page.markup("<title>")?;
+    write_line(page, rows, one)?;
+    page.markup("</title>")?;
+    draw_box(page, rows, one)?;
+    page.markup("</g>")
+}
+
+/// Writes an entry, in a link to the sentence that marks it where one does.
+fn draw_linked(page: &mut Page, rows: &Rows, one: &Drawn, corner: Point) -> Result<(), AllocError> {
+    draw_gap(page, one, corner)?;
+    if let Some(sentence) = one.sentence {
+        page.markup("<a tabindex=\"-1\"")?;
+        sentence_link(page, sentence)?;
+        page.markup(">")?;
+        draw_entry(page, rows, one, corner)?;
+        page.markup("</a>\n")
+    } else {
+        draw_entry(page, rows, one, corner)?;
+        page.markup("\n")
+    }
+}
+
+/// Writes what is beneath the entries: the lines of logs, and arrows.
+fn draw_lines(
+    page: &mut Page,
+    grid: &Grid,
+    layout: &Layout,
+    count: usize,
+) -> Result<(), AllocError> {
+    for i in 0..count {
+        let here = layout.corner(i);
+        if let Some(before) = grid.before(i) {
+            draw_chain(page, layout.corner(before), here)?;
         }
-        if let Some(source) = canvas.layout.quoted(i) {
-            draw_arrow(page, canvas.corner(source), here)?;
+        if let Some(source) = grid.quoted(i) {
+            draw_arrow(page, layout.corner(source), here)?;
         }
     }
     Ok(())
 }
 
 /// Writes the entries.
-fn draw_entries(page: &mut Page, canvas: &Canvas<'_>) -> Result<(), AllocError> {
-    for (i, one) in canvas.choice.cells.iter().enumerate() {
-        draw_entry(page, one, canvas.corner(i))?;
+fn draw_entries(
+    page: &mut Page,
+    rows: &Rows,
+    cells: &[Drawn],
+    layout: &Layout,
+) -> Result<(), AllocError> {
+    for (i, one) in cells.iter().enumerate() {
+        draw_linked(page, rows, one, layout.corner(i))?;
     }
     Ok(())
 }
@@ -309,10 +260,10 @@ fn draw_entries(page: &mut Page, canvas: &Canvas<'_>) -> Result<(), AllocError> 
 fn draw_row(page: &mut Page, row: &Row, band: &Band, width: u64) -> Result<(), AllocError> {
     let middle = band.top.saturating_add(PAD + HEIGHT / 2);
     page.write(&[
-        Markup("<rect class=\"band\" rx=\"6\" y=\""),
+        Markup("<rect class=\"band\" y=\""),
         Number(band.top),
         Markup("\" width=\""),
-        Number(width),
+        Number(width.saturating_add(FAR)),
         Markup("\" height=\""),
         Number(band.height),
         Markup("\"/><text class=\"name\" x=\"14\" y=\""),
@@ -334,37 +285,42 @@ fn draw_row(page: &mut Page, row: &Row, band: &Band, width: u64) -> Result<(), A
 }
 
 /// Writes the rows' grounds and names.
-fn draw_rows(page: &mut Page, canvas: &Canvas<'_>) -> Result<(), AllocError> {
-    for (row, band) in canvas.choice.rows.iter().zip(canvas.bands.as_slice()) {
-        draw_row(page, row, band, canvas.width)?;
+fn draw_rows(page: &mut Page, rows: &[Row], layout: &Layout) -> Result<(), AllocError> {
+    for (row, band) in rows.iter().zip(layout.bands.as_slice()) {
+        draw_row(page, row, band, layout.width)?;
     }
     Ok(())
 }
 
 /// Writes the beginning of the picture, with its size.
-fn draw_frame(page: &mut Page, canvas: &Canvas<'_>) -> Result<(), AllocError> {
+fn begin(page: &mut Page, layout: &Layout) -> Result<(), AllocError> {
     page.write(&[
         Markup("<svg role=\"img\" aria-labelledby=\"picture-title picture-desc\" width=\""),
-        Number(canvas.width),
+        Number(layout.width),
         Markup("\" height=\""),
-        Number(canvas.height),
+        Number(layout.height),
         Markup("\" viewBox=\"0 0 "),
-        Number(canvas.width),
+        Number(layout.width),
         Markup(" "),
-        Number(canvas.height),
+        Number(layout.height),
         Markup(
-            "\">\n<title id=\"picture-title\">The logs of the nodes</title>\n<desc id=\"picture-desc\">A row for each node with what is known of its log, by number, and arrows from what was sent to the entry that quotes it. The tables below say the same.</desc>\n",
+            "\" preserveAspectRatio=\"xMinYMin meet\">\n<title id=\"picture-title\">The logs of the nodes</title>\n<desc id=\"picture-desc\">A row for each node with what is known of its log, by number, and arrows from what was sent to the entry that quotes it. The tables below say the same.</desc>\n",
         ),
     ])
 }
 
 /// Writes the picture.
-pub(crate) fn draw(alloc: Global, page: &mut Page, choice: &Choice<'_>) -> Result<(), AllocError> {
-    let layout = Layout::new(alloc, choice)?;
-    let canvas = Canvas::new(alloc, choice, &layout)?;
-    draw_frame(page, &canvas)?;
-    draw_rows(page, &canvas)?;
-    draw_lines(page, &canvas)?;
-    draw_entries(page, &canvas)?;
+pub(crate) fn draw(
+    alloc: Global,
+    page: &mut Page,
+    rows: &Rows,
+    choice: &Choice,
+) -> Result<(), AllocError> {
+    let grid = Grid::new(alloc, rows, choice)?;
+    let layout = Layout::new(alloc, choice, &grid)?;
+    begin(page, &layout)?;
+    draw_rows(page, &choice.rows, &layout)?;
+    draw_lines(page, &grid, &layout, choice.cells.len())?;
+    draw_entries(page, rows, &choice.cells, &layout)?;
     page.markup("</svg>\n")
 }

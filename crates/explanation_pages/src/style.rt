@@ -30,6 +30,7 @@ section{background:var(--card);border:1px solid var(--rule);border-radius:8px;pa
 .legend li{display:flex;align-items:center;gap:.4rem}
 .legend svg{flex:none}
 .scroll{overflow-x:auto}
+.scroll>svg{display:block;min-width:100%}
 .sentences{margin:0 0 .6rem;padding-left:1.2rem}
 .sentences li{margin:.15rem 0;overflow-wrap:anywhere}
 li:target,tr:target{background:var(--warn-ground)}
@@ -39,7 +40,7 @@ details{margin-top:.4rem}
 summary{cursor:pointer;color:var(--muted);font-size:.9rem}
 table{border-collapse:collapse;font-size:.85rem;margin-top:.4rem;min-width:100%}
 th,td{text-align:left;padding:.25rem .7rem .25rem 0;border-bottom:1px solid var(--rule);vertical-align:top}
-thead th{color:var(--muted);font-weight:600}
+thead th{white-space:nowrap;color:var(--muted);font-weight:600}
 td.content{overflow-wrap:anywhere;min-width:10rem}
 td.hash code{font-size:.78rem;color:var(--muted);overflow-wrap:anywhere}
 tr.marked td,tr.marked th{background:var(--alarm-ground)}
@@ -76,7 +77,7 @@ body{font-size:11pt}
 header,main{max-width:none;padding:0}
 section{border:0;border-top:1px solid var(--rule);border-radius:0;padding:.6rem 0;margin:0}
 .scroll{overflow:visible}
-.scroll>svg{max-width:100%;height:auto}
+.scroll>svg{min-width:0;max-width:100%;height:auto}
 *{-webkit-print-color-adjust:exact;print-color-adjust:exact}
 h2,summary{break-after:avoid}tr,li,svg{break-inside:avoid}}
 ";

@@ -1,33 +1,37 @@
 //! The entries in tables, for whoever can't see the picture.
 
 use crate::choosing::{Choice, Drawn, Row};
-use crate::describing::{entry_id, kind, sentence_link, standing, tell_content};
-use crate::page::Page;
-use crate::page::Piece::{Digits, Markup, Number};
+use crate::describing::{entry_id, kind_of, sentence_link, source_of, write_content, write_hash};
+use known_logs::{Cell, Rows};
+use page_text::Page;
+use page_text::Piece::{Markup, Number};
 use std::alloc::AllocError;
 
-/// Writes the cells of an entry of which something is known.
-fn write_known(page: &mut Page, one: &Drawn<'_>) -> Result<(), AllocError> {
-    let Some(cell) = one.cell else {
-        return page.markup("<td>not known</td><td>nothing of it is here</td><td></td><td></td>");
-    };
-    page.write(&[
-        Markup("<td>"),
-        Markup(kind(cell)),
-        Markup("</td><td>"),
-        Markup(standing(cell)),
-        Markup("</td><td class=\"content\">"),
-    ])?;
-    tell_content(page, cell)?;
-    page.write(&[
-        Markup("</td><td class=\"hash\"><code>"),
-        Digits(&cell.place.hash.0),
-        Markup("</code></td>"),
-    ])
+/// Writes the cells of an entry that is known.
+fn write_known(page: &mut Page, rows: &Rows, one: &Drawn, cell: &Cell) -> Result<(), AllocError> {
+    page.markup("<td>")?;
+    page.markup(kind_of(rows, one))?;
+    page.markup("</td><td>")?;
+    page.markup(source_of(rows, cell))?;
+    page.markup("</td><td class=\"content\">")?;
+    write_content(page, rows, one)?;
+    page.markup("</td><td class=\"hash\"><code>")?;
+    write_hash(page, &cell.place.hash)?;
+    page.markup("</code></td>")
+}
+
+/// Writes the cells between an entry's number and its mark.
+fn write_cells(page: &mut Page, rows: &Rows, one: &Drawn) -> Result<(), AllocError> {
+    match one.cell(rows) {
+        Some(cell) => write_known(page, rows, one, &cell),
+        None => {
+            page.markup("<td>not known</td><td></td><td>nothing of it is here</td><td></td>")
+        }
+    }
 }
 
 /// Writes the cell that says whether the entry contradicts something.
-fn write_mark(page: &mut Page, one: &Drawn<'_>) -> Result<(), AllocError> {
+fn write_mark(page: &mut Page, one: &Drawn) -> Result<(), AllocError> {
     let Some(sentence) = one.sentence else {
         return page.markup("<td></td>");
     };
@@ -37,7 +41,7 @@ fn write_mark(page: &mut Page, one: &Drawn<'_>) -> Result<(), AllocError> {
 }
 
 /// Writes the row of an entry.
-fn write_entry(page: &mut Page, one: &Drawn<'_>) -> Result<(), AllocError> {
+fn write_entry(page: &mut Page, rows: &Rows, one: &Drawn) -> Result<(), AllocError> {
     page.markup(if one.sentence.is_some() {
         "<tr class=\"marked\">"
     } else {
@@ -46,7 +50,7 @@ fn write_entry(page: &mut Page, one: &Drawn<'_>) -> Result<(), AllocError> {
     page.markup("<th scope=\"row\"><a href=\"#")?;
     entry_id(page, one)?;
     page.write(&[Markup("\">"), Number(one.seq), Markup("</a></th>")])?;
-    write_known(page, one)?;
+    write_cells(page, rows, one)?;
     write_mark(page, one)?;
     page.markup("</tr>\n")
 }
@@ -75,15 +79,16 @@ fn write_head(page: &mut Page, row: &Row) -> Result<(), AllocError> {
 /// Writes the table of a row: its entries begin at `from`.
 pub(crate) fn write_table(
     page: &mut Page,
+    rows: &Rows,
     row: &Row,
-    cells: &[Drawn<'_>],
+    cells: &[Drawn],
 ) -> Result<(), AllocError> {
     if cells.is_empty() {
         return Ok(());
     }
     write_head(page, row)?;
     for one in cells {
-        write_entry(page, one)?;
+        write_entry(page, rows, one)?;
     }
     page.markup("</tbody></table></div></details>\n")
 }

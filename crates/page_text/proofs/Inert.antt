@@ -1,8 +1,8 @@
 -- No byte of an escaped text ends an element or an attribute, or begins an element.
-use Rattle.std.proofs.Common.{◌≡◌, ◌<◌, ◌/◌, ◌%◌, ◌==◌, ◌||◌, ℕ, List, [], ◌∷◌, ◌++◌, All, Bool, true, false, nat_lt, codes, if◌then◌else◌, refl, arith}
+use Rattle.std.proofs.Common.{◌≡◌, ◌<◌, ◌/◌, ◌%◌, ◌==◌, ℕ, List, [], ◌∷◌, All, Bool, true, false, codes, if◌then◌else◌, refl, arith}
 use Rattle.std.proofs.lemmas.List.Elements.{All-append, All-cons, All-nil}
 use Rattle.std.proofs.lemmas.Bool.Decides.{nat_tests}
-use Rattle.explanation_pages.specs.Escaping.{IsInert, digit, escaped, is_control, spelled}
+use Rattle.page_text.specs.Escaping.{IsInert, digit, escaped, is_control, spelled}
 
 -- a hexadecimal digit
 inert_digit : (n : ℕ) → n < 16 → IsInert (digit n)

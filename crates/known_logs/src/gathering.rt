@@ -1,7 +1,8 @@
 //! What is known of the logs of nodes, from the items of a store or the parts of a proof.
 
-use crate::content::Content;
-use crate::rows::{Cell, Known, Place, Rows};
+use crate::detail::Detail;
+use crate::known::Known;
+use crate::rows::{Place, Rows};
 use authenticators::{Authenticator, Directory, NodeId};
 use commitment::Message;
 use evidence::Evidence;
@@ -14,126 +15,58 @@ use proofs::{Parts, Proof};
 use replay_verifier::{Program, Receipt, quoted_hashes};
 use std::alloc::Global;
 
-/// A statement of which nothing more is known.
-fn note_signed(known: &mut Known, node: NodeId, seq: u64, hash: Hash) -> Result<(), Memory> {
-    known.note(Cell {
-        place: Place { node, seq, hash },
-        is_logged: false,
-        prev: None,
-        content: None,
-        quotes: None,
-    })
+/// The place that a statement names.
+fn stated(node: NodeId, seq: u64, hash: Hash) -> Place {
+    Place { node, seq, hash }
 }
 
 /// The SEND entry of a message, which has this hash.
-fn note_sent(
-    alloc: Global,
-    known: &mut Known,
-    message: &Message,
-    hash: Hash,
-) -> Result<(), Memory> {
+fn note_sent(known: &mut Known, message: &Message, hash: Hash) -> Result<(), Memory> {
+    let place = stated(message.from, message.seq, hash);
     let payload = message.payload.as_slice();
-    let content = Content::new(alloc, SEND, Some(message.to), payload)?;
-    known.note(Cell {
-        place: sending(message, hash),
-        is_logged: false,
-        prev: Some(message.prev),
-        content: Some(content),
-        quotes: None,
-    })
+    let detail = Detail::of_message(message.prev, SEND, message.to, payload);
+    known.note_entry(&place, false, detail)
 }
 
-/// The place of the SEND entry of a message, which has this hash.
-fn sending(message: &Message, hash: Hash) -> Place {
-    Place {
-        node: message.from,
-        seq: message.seq,
-        hash,
-    }
-}
-
-/// The RECV entry of an acknowledged message: the SEND entry and it have these hashes.
-fn note_received(
-    alloc: Global,
-    known: &mut Known,
-    ack: &AckItem,
-    sent: Hash,
-    received: Hash,
-) -> Result<(), Memory> {
+/// The entries of an acknowledged message: the SEND entry and the RECV entry have these hashes.
+fn note_ack(known: &mut Known, ack: &AckItem, sent: Hash, received: Hash) -> Result<(), Memory> {
     let message = &ack.message;
+    note_sent(known, message, sent)?;
+    let place = stated(message.to, ack.seq, received);
+    let quoted = stated(message.from, message.seq, sent);
+    known.note_quoted(&place, &quoted)?;
     let payload = message.payload.as_slice();
-    let content = Content::new(alloc, RECV, Some(message.from), payload)?;
-    known.note(Cell {
-        place: Place {
-            node: message.to,
-            seq: ack.seq,
-            hash: received,
-        },
-        is_logged: false,
-        prev: Some(ack.prev),
-        content: Some(content),
-        quotes: Some(sending(message, sent)),
-    })
+    let detail = Detail::of_message(ack.prev, RECV, message.from, payload);
+    known.note_entry(&place, false, detail)
 }
 
-/// The SEND entry that an entry of this node quotes, which has this hash; it is noted too.
-fn note_quoted(
-    alloc: Global,
-    known: &mut Known,
-    node: NodeId,
-    entry: &Entry,
-    hash: Hash,
-) -> Result<Option<Place>, Memory> {
-    let Some(receipt) = Receipt::read(entry.content.as_slice()) else {
-        return Ok(None);
+/// The SEND entry, of this hash, that the content of an entry at this place quotes.
+fn note_quoted(known: &mut Known, place: &Place, content: &[u8], hash: Hash) -> Result<(), Memory> {
+    let Some(receipt) = Receipt::read(content) else {
+        return Ok(());
     };
-    let place = Place {
-        node: receipt.from,
-        seq: receipt.seq,
-        hash,
-    };
-    let content = Content::new(alloc, SEND, Some(node), receipt.payload)?;
-    known.note(Cell {
-        place,
-        is_logged: false,
-        prev: Some(receipt.prev),
-        content: Some(content),
-        quotes: None,
-    })?;
-    Ok(Some(place))
+    let sent = stated(receipt.from, receipt.seq, hash);
+    known.note_quoted(place, &sent)?;
+    let detail = Detail::of_message(receipt.prev, SEND, place.node, receipt.payload);
+    known.note_entry(&sent, false, detail)
 }
 
-/// An entry of a segment of this node, which has this hash and stands behind that one, and what it quotes.
-fn note_entry(
-    alloc: Global,
+/// An entry of a segment, at this place and behind that hash, and what it quotes.
+fn note_logged(
     known: &mut Known,
-    node: NodeId,
-    entry: &Entry,
+    place: &Place,
     prev: Hash,
-    hash: Hash,
+    entry: &Entry,
     quoted: Option<Hash>,
 ) -> Result<(), Memory> {
-    let quotes = match quoted {
-        Some(quoted) => note_quoted(alloc, known, node, entry, quoted)?,
-        None => None,
-    };
-    let content = Content::of_entry(alloc, entry)?;
-    known.note(Cell {
-        place: Place {
-            node,
-            seq: entry.seq,
-            hash,
-        },
-        is_logged: true,
-        prev: Some(prev),
-        content: Some(content),
-        quotes,
-    })
+    if let Some(hash) = quoted {
+        note_quoted(known, place, entry.content.as_slice(), hash)?;
+    }
+    known.note_entry(place, true, Detail::of_entry(prev, entry))
 }
 
 /// The entries of a segment, which have these hashes and quote what has those.
 fn note_entries(
-    alloc: Global,
     known: &mut Known,
     segment: &Segment,
     hashes: &[Hash],
@@ -142,7 +75,8 @@ fn note_entries(
     let entries = segment.entries.as_slice();
     let mut prev = segment.prev;
     for ((entry, hash), quoted) in entries.iter().zip(hashes).zip(quotes) {
-        note_entry(alloc, known, segment.node, entry, prev, *hash, *quoted)?;
+        let place = stated(segment.node, entry.seq, *hash);
+        note_logged(known, &place, prev, entry, *quoted)?;
         prev = *hash;
     }
     Ok(())
@@ -151,35 +85,28 @@ fn note_entries(
 /// The statements of an audit challenge.
 fn note_audit(known: &mut Known, challenge: &AuditChallenge) -> Result<(), Memory> {
     if let Some(Statement { seq, hash, .. }) = &challenge.first {
-        note_signed(known, challenge.node, *seq, *hash)?;
+        known.note_signed(&stated(challenge.node, *seq, *hash))?;
     }
     let last = &challenge.last;
-    note_signed(known, challenge.node, last.seq, last.hash)
+    known.note_signed(&stated(challenge.node, last.seq, last.hash))
 }
 
 /// What is known from an item, and from what was found of it.
-fn note_item(
-    alloc: Global,
-    known: &mut Known,
-    form: Form<'_>,
-    findings: Option<&Findings>,
-) -> Result<(), Memory> {
+fn note_item(known: &mut Known, form: Form<'_>, findings: Option<&Findings>) -> Result<(), Memory> {
     match (form, findings) {
-        (Form::Auth(auth), _) => note_signed(known, auth.node, auth.seq, auth.hash),
+        (Form::Auth(auth), _) => note_auth(known, auth),
         (Form::Audit(challenge), _) => note_audit(known, challenge),
-        (Form::Segment(segment), Some(Findings::Segment(found))) => note_entries(
-            alloc,
-            known,
-            segment,
-            found.hashes.as_slice(),
-            found.quotes.as_slice(),
-        ),
-        (Form::Send(message), Some(Findings::Send(hash))) => {
-            note_sent(alloc, known, message, *hash)
+        (Form::Segment(segment), Some(Findings::Segment(found))) => {
+            note_entries(
+                known,
+                segment,
+                found.hashes.as_slice(),
+                found.quotes.as_slice(),
+            )
         }
+        (Form::Send(message), Some(Findings::Send(hash))) => note_sent(known, message, *hash),
         (Form::Ack(ack), Some(Findings::Ack { sent, received })) => {
-            note_sent(alloc, known, &ack.message, *sent)?;
-            note_received(alloc, known, ack, *sent, *received)
+            note_ack(known, ack, *sent, *received)
         }
         _ => Ok(()),
     }
@@ -196,7 +123,7 @@ fn note_item_at<P: Program, S: Evidence<P>>(
         return Ok(());
     };
     checked.find(alloc, store.directory())?;
-    note_item(alloc, known, checked.item().form(), checked.findings())
+    note_item(known, checked.item().form(), checked.findings())
 }
 
 /// What is known of the logs of nodes from the items of a store, in one pass over them. No signature is verified and no content
@@ -229,12 +156,12 @@ fn note_segment(
 ) -> Result<(), Memory> {
     let hashes = hashes_of(alloc, segment)?;
     let quotes = quoted_hashes(alloc, directory, segment.node, segment.entries.as_slice())?;
-    note_entries(alloc, known, segment, &hashes, quotes.as_slice())
+    note_entries(known, segment, &hashes, quotes.as_slice())
 }
 
 /// What is known from a statement.
 fn note_auth(known: &mut Known, auth: &Authenticator) -> Result<(), Memory> {
-    note_signed(known, auth.node, auth.seq, auth.hash)
+    known.note_signed(&stated(auth.node, auth.seq, auth.hash))
 }
 
 /// What is known of the logs of nodes from the parts of a proof. The statements are taken as they are: whether the proof is valid is

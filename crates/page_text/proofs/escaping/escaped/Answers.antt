@@ -1,7 +1,7 @@
 use Rattle.std.proofs.Common.{rules, ◌≡◌, ℕ, List, All, subst, sym}
-use Rattle.explanation_pages.specs.Escaping.{IsInert, escaped}
-use Rattle.explanation_pages.proofs.Inert.{escaped_inert}
-use Rattle.explanation_pages.proofs.escaping.escaped.Goals as goal
+use Rattle.page_text.specs.Escaping.{IsInert, escaped}
+use Rattle.page_text.proofs.Inert.{escaped_inert}
+use Rattle.page_text.proofs.escaping.escaped.Goals as goal
 
 pub returns-clause-inert : goal.returns-clause-inert
 returns-clause-inert c =

@@ -1,7 +1,7 @@
 //! How a text stands in a page.
 
 ghost use Rattle.std.specs.Prelude.{◌≡◌, ◌<◌, ◌++◌, IfOk, OnOk, All};
-ghost use Rattle.explanation_pages.specs.Escaping.{IsInert, digit, escaped, spelled};
+ghost use Rattle.page_text.specs.Escaping.{IsInert, digit, escaped, spelled};
 
 use std::alloc::{AllocError, Global};
 

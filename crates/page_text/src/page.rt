@@ -2,16 +2,16 @@
 
 ghost use Rattle.std.specs.Prelude.{◌≡◌, ◌++◌, [], OnOk};
 ghost use Rattle.std.specs.List.{flat_map};
-ghost use Rattle.explanation_pages.specs.Pages.{written};
+ghost use Rattle.page_text.specs.Pages.{written};
 
 use crate::escaping::escape;
 use std::alloc::{AllocError, Global};
 use std::marker::Model;
 
-/// A piece of a page. Markup is this crate's own; all else is text.
+/// A piece of a page.
 #[derive(Clone, Copy, Debug)]
-pub(crate) enum Piece<'a> {
-    /// Markup, as it is.
+pub enum Piece<'a> {
+    /// Markup, as it is: of a text that the program has in itself.
     Markup(&'static str),
     /// Text, which is escaped.
     Text(&'a [u8]),
@@ -23,7 +23,7 @@ pub(crate) enum Piece<'a> {
 
 /// A page, up to where it is written. A contract sees its bytes.
 #[derive(Debug, Drop)]
-pub(crate) struct Page {
+pub struct Page {
     bytes: Vec<u8>,
 }
 
@@ -65,7 +65,7 @@ fn put_all(alloc: Global, page: &mut Vec<u8>, pieces: &[Piece<'_>]) -> Result<()
 
 impl Page {
     /// A page with nothing on it. It takes no memory.
-    pub(crate) fn new(alloc: Global) -> Page
+    pub fn new(alloc: Global) -> Page
         ensures { result ≡ [] }
     {
         Page {
@@ -74,7 +74,7 @@ impl Page {
     }
 
     /// Writes the pieces behind what is written. Where memory runs out, some of them may have been written.
-    pub(crate) fn write(&mut self, pieces: &[Piece<'_>]) -> Result<(), AllocError>
+    pub fn write(&mut self, pieces: &[Piece<'_>]) -> Result<(), AllocError>
         ensures { OnOk result (self.new ≡ self.old ++ flat_map written pieces.now) }
     {
         let alloc = *self.bytes.allocator();
@@ -82,14 +82,14 @@ impl Page {
     }
 
     /// Writes markup behind what is written.
-    pub(crate) fn markup(&mut self, markup: &'static str) -> Result<(), AllocError>
+    pub fn markup(&mut self, markup: &'static str) -> Result<(), AllocError>
         ensures { OnOk result (self.new ≡ self.old ++ markup.now) }
     {
         self.bytes.extend_from_slice(markup.as_bytes())
     }
 
     /// The page's bytes.
-    pub(crate) fn into_bytes(self) -> Vec<u8>
+    pub fn into_bytes(self) -> Vec<u8>
         ensures { result.items ≡ self }
     {
         self.bytes

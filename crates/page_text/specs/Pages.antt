@@ -1,9 +1,9 @@
 -- What a page is put together of: markup as it is, and text that is escaped.
 use Rattle.std.specs.Prelude.{ℕ, List, decimal}
 use Rattle.hex.specs.Hex.{encode_lower}
-use Rattle.explanation_pages.specs.declared.page.Piece.{Piece}
-use Rattle.explanation_pages.specs.declared.page.Piece.TheVariants.{Digits, Markup, Number, Text}
-use Rattle.explanation_pages.specs.Escaping.{escaped}
+use Rattle.page_text.specs.declared.page.Piece.{Piece}
+use Rattle.page_text.specs.declared.page.Piece.TheVariants.{Digits, Markup, Number, Text}
+use Rattle.page_text.specs.Escaping.{escaped}
 
 -- The bytes that a piece is written as.
 abbrev pub written : Piece → List ℕ

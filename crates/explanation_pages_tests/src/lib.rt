@@ -1,0 +1,9 @@
+//! Tests of pages: how text stands in them, and the page of a small account.
+#![tactic(auto)]
+
+#[cfg(test)]
+mod cutting;
+#[cfg(test)]
+mod escaping;
+#[cfg(test)]
+mod pages;
