@@ -1,4 +1,4 @@
--- What the relay holds, and how it stands in bytes: each struct as its parts, one behind the other.
+-- What a node holds, and how it stands in bytes: each struct as its parts, one behind the other.
 use Rattle.std.specs.Prelude.{ℕ, List}
 use Rattle.log_chain.specs.Fields.{IsBytesUpTo, IsListUpTo}
 use Rattle.state_codec.specs.Codings.{Coding, IsPair, IsStruct, IsU32, IsU64, list_coding, pair_coding, struct_coding, text_coding, u32_coding, u64_coding}
@@ -20,16 +20,16 @@ mail_coding = struct_coding mail_of mail_parts (pair_coding u32_coding (pair_cod
 abbrev pub IsMail : Mail → Type 0
 IsMail = IsStruct mail_parts (IsPair IsU32 (IsPair IsU32 (IsPair IsU64 (IsBytesUpTo LONGEST_TEXT))))
 
--- ---- the clock and the mails
+-- ---- the clock, the draft and the mails
 
-abbrev pub held_parts : Held → ℕ × List Mail
-held_parts h = (h.clock, h.mails)
+abbrev pub held_parts : Held → ℕ × (List ℕ × List Mail)
+held_parts h = (h.clock, (h.draft, h.mails))
 
-abbrev pub held_of : ℕ × List Mail → Held
-held_of p = record { clock = p.0; mails = p.1 }
+abbrev pub held_of : ℕ × (List ℕ × List Mail) → Held
+held_of p = record { clock = p.0; draft = p.1.0; mails = p.1.1 }
 
 abbrev pub held_coding : Coding Held
-held_coding = struct_coding held_of held_parts (pair_coding u64_coding (list_coding MOST_MAILS mail_coding))
+held_coding = struct_coding held_of held_parts (pair_coding u64_coding (pair_coding (text_coding LONGEST_TEXT) (list_coding MOST_MAILS mail_coding)))
 
 abbrev pub IsHeld : Held → Type 0
-IsHeld = IsStruct held_parts (IsPair IsU64 (IsListUpTo MOST_MAILS IsMail))
+IsHeld = IsStruct held_parts (IsPair IsU64 (IsPair (IsBytesUpTo LONGEST_TEXT) (IsListUpTo MOST_MAILS IsMail)))

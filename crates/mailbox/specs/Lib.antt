@@ -1,3 +1,4 @@
 pub mod HeldMails
 pub mod MailboxLaws
 pub mod MailboxMeaning
+pub mod UserWishes

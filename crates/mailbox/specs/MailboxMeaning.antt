@@ -1,6 +1,7 @@
 -- A mail relay: nodes leave texts for one another, and fetch what was left for them.
-use Rattle.std.specs.Prelude.{ℕ, ◌-◌, ◌==◌, ◌&&◌, max, nat_le, nat_lt, not, Bool, List, [], ◌∷◌, ◌++◌, length, take, drop, filter, map, slice_index, if◌then◌else◌}
-use Rattle.std.specs.Int.{w32, from_be_bytes, to_be_bytes}
+use Rattle.std.specs.Prelude.{ℕ, ◌-◌, ◌^◌, ◌==◌, ◌&&◌, max, nat_le, nat_lt, not, Bool, List, [], ◌∷◌, ◌++◌, length, take, drop, filter, map, slice_index, if◌then◌else◌}
+use Rattle.std.specs.Int.{w32, w64, from_be_bytes, to_be_bytes}
+use Rattle.std.specs.List.{list_any}
 use Rattle.replay_verifier.specs.declared.output.Output.{Output}
 use Rattle.replay_verifier.specs.declared.program.Step.{Step}
 use Rattle.replay_verifier.specs.Meaning.{Meaning, Happening, Received, Ticked}
@@ -10,6 +11,7 @@ use Rattle.mailbox.specs.declared.held.Mail.{Mail}
 use Rattle.mailbox.specs.declared.held.TheConstants.{LIFETIME, LONGEST_TEXT, MOST_MAILS}
 use Rattle.mailbox.specs.declared.letters.TheConstants.{DELIVER, FETCH, FULL, MAIL, STORED, TOO_LONG, UNCLEAR}
 use Rattle.mailbox.specs.HeldMails.{held_coding}
+use Rattle.mailbox.specs.UserWishes.{silent, wished}
 
 -- A step to this state that answers a node with a receipt of one letter.
 abbrev pub answered : Held → ℕ → ℕ → Step Held
@@ -53,27 +55,47 @@ fetched held from = record {
 
 -- ---- the steps
 
+-- What begins with the letter of an answer.
+abbrev pub is_answer : List ℕ → Bool
+is_answer payload = nat_le 1 (length payload) && list_any (λ letter. slice_index payload 0 == letter) (MAIL ∷ STORED ∷ TOO_LONG ∷ FULL ∷ UNCLEAR ∷ [])
+
+-- Requests are answered, and answers are not.
 abbrev pub heard : Held → ℕ → List ℕ → Step Held
 heard held from payload =
     if is_delivery payload then delivered held from (receiver payload) (drop 5 payload)
-    else (if is_fetch payload then fetched held from else answered held from UNCLEAR)
+    else (if is_fetch payload then fetched held from
+    else (if is_answer payload then silent held else answered held from UNCLEAR))
 
--- At a moment of the timer the clock is set, never back, and what is old is held no longer.
+-- At a time of the timer the clock is set, never back, and what is old is held no longer.
 abbrev pub is_fresh : ℕ → Mail → Bool
 is_fresh clock m = nat_le (clock - m.at) LIFETIME
 
+abbrev pub passed : Held → ℕ → Step Held
+passed held time =
+    let clock = max held.clock time in
+    silent (record held { clock = clock; mails = filter (is_fresh clock) held.mails })
+
+-- A moment of the timer is a time or a user's wish.
 abbrev pub ticked : Held → ℕ → Step Held
-ticked held moment =
-    let clock = max held.clock moment in
-    record { state = record { clock = clock; mails = filter (is_fresh clock) held.mails }; outputs = [] }
+ticked held moment = if nat_lt moment (2 ^ 63) then passed held moment else wished held (to_be_bytes w64 moment)
 
 abbrev pub mailbox_step : ℕ → Held → Happening → Step Held
 mailbox_step me held (Received from payload) = heard held from payload
 mailbox_step me held (Ticked moment) = ticked held moment
 
--- The relay starts with no mail.
+-- A node starts with no mail and no draft.
 abbrev pub mailbox_start : ℕ → Held
-mailbox_start me = record { clock = 0; mails = [] }
+mailbox_start me = record { clock = 0; draft = []; mails = [] }
 
 abbrev pub mailbox : Meaning Held
 mailbox = coded_program held_coding mailbox_start mailbox_step
+
+-- ---- moments one behind the other
+
+-- What a node holds after them, and all that it puts out at them.
+pub ticked_through : Held → List ℕ → Step Held
+ticked_through held [] = silent held
+ticked_through held (moment ∷ moments) =
+    let first = ticked held moment in
+    let others = ticked_through first.state moments in
+    record { state = others.state; outputs = first.outputs ++ others.outputs }

@@ -1,4 +1,4 @@
-//! What the relay holds.
+//! What a node holds.
 
 ghost use Rattle.std.specs.Prelude.{◌≡◌, IfOk};
 ghost use Rattle.mailbox.specs.HeldMails.{IsHeld, IsMail, held_coding, mail_coding};
@@ -13,11 +13,14 @@ use std::alloc::Global;
 /// The greatest length of a text, in bytes.
 pub const LONGEST_TEXT: u32 = 256;
 
-/// The greatest number of mails that are held. All of them can be sent in one step.
+/// The greatest number of mails that a node holds. All of them can be sent in one step.
 pub const MOST_MAILS: u32 = 16;
 
 /// How long a mail is held, in the unit of the timer's moments.
 pub const LIFETIME: u64 = 1000;
+
+/// The node that each node's user leaves texts at, and fetches from. It holds mails as any other node does.
+pub const RELAY: NodeId = NodeId(1);
 
 /// A text that one node left for another.
 #[derive(Drop)]
@@ -32,11 +35,13 @@ pub struct Mail {
     pub text: Text<LONGEST_TEXT>,
 }
 
-/// What the relay holds: its state.
+/// What a node holds: its state.
 #[derive(Drop)]
 pub struct Held {
-    /// The latest moment of the timer, and 0 before the first.
+    /// The latest time that the timer told, and 0 before the first.
     pub clock: u64,
+    /// What the node's user wrote and did not leave yet.
+    pub draft: Text<LONGEST_TEXT>,
     /// The mails, the oldest first.
     pub mails: Listed<Mail, MOST_MAILS>,
 }
@@ -81,6 +86,7 @@ impl Coded for Held {
 
     fn write(&self, writer: &mut FieldWriter) -> Result<(), Memory> {
         self.clock.write(writer)?;
+        self.draft.write(writer)?;
         self.mails.write(writer)?;
         Ok(())
     }
@@ -88,14 +94,20 @@ impl Coded for Held {
     fn try_clone(&self, alloc: Global) -> Result<Held, Memory> {
         Ok(Held {
             clock: self.clock,
+            draft: self.draft.try_clone(alloc)?,
             mails: self.mails.try_clone(alloc)?,
         })
     }
 
     fn read(alloc: Global, reader: &mut FieldReader) -> Result<Held, CodeFault> {
         let clock = u64::read(alloc, reader)?;
+        let draft = Text::read(alloc, reader)?;
         let mails = Listed::read(alloc, reader)?;
-        Ok(Held { clock, mails })
+        Ok(Held {
+            clock,
+            draft,
+            mails,
+        })
     }
 
     ghost lawful = { held_lawful };

@@ -4,10 +4,12 @@
 //! `state_codec`'s parts, and so are its bytes and their law (`specs/MailboxLaws.antt`).
 #![tactic(auto)]
 
-pub use held::{Held, LIFETIME, LONGEST_TEXT, MOST_MAILS, Mail};
+pub use held::{Held, LIFETIME, LONGEST_TEXT, MOST_MAILS, Mail, RELAY};
 pub use program::Mailbox;
 
+mod asking;
 mod held;
 pub mod letters;
 mod program;
 mod steps;
+pub mod wishes;

@@ -9,7 +9,7 @@ use crate::steps::{hear, tick};
 use authenticators::NodeId;
 use outcome::Memory;
 use replay_verifier::{Input, Program, Step};
-use state_codec::{Listed, decoded, encoded};
+use state_codec::{Listed, Text, decoded, encoded};
 use std::alloc::Global;
 
 /// Holds texts that nodes leave for one another.
@@ -30,6 +30,7 @@ impl Program for Mailbox {
     fn start(&self, alloc: Global, _me: NodeId) -> Result<Held, Memory> {
         Ok(Held {
             clock: 0,
+            draft: Text::from_slice(alloc, &[])?,
             mails: Listed::new(alloc),
         })
     }

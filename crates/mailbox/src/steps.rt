@@ -1,8 +1,9 @@
-//! The steps.
+//! The steps on messages and moments.
 
 ghost use Rattle.std.specs.Prelude.{◌≡◌, IfOk, filter, map, not};
-ghost use Rattle.mailbox.specs.MailboxMeaning.{answered, delivered, fetched, heard, is_for, is_fresh, sent, ticked};
+ghost use Rattle.mailbox.specs.MailboxMeaning.{answered, delivered, fetched, heard, is_for, is_fresh, passed, sent, ticked};
 
+use crate::asking::{stay, wish};
 use crate::held::{Held, LIFETIME, LONGEST_TEXT, Mail};
 use crate::letters::{DELIVER, FETCH, FULL, MAIL, STORED, TOO_LONG, UNCLEAR};
 use authenticators::NodeId;
@@ -51,6 +52,7 @@ fn deliver(
     };
     let state = Held {
         clock: held.clock,
+        draft: held.draft.try_clone(alloc)?,
         mails: held.mails.with(alloc, mail)?,
     };
     Ok(answer(alloc, state, from, STORED)?)
@@ -113,6 +115,7 @@ fn fetch(alloc: Global, held: &Held, from: NodeId) -> Result<Step<Held>, Memory>
     Ok(Step {
         state: Held {
             clock: held.clock,
+            draft: held.draft.try_clone(alloc)?,
             mails,
         },
         outputs: OutputList::from_vec(outputs),
@@ -134,6 +137,7 @@ pub(crate) fn hear(
             Ok(deliver(alloc, held, from, to, text)?)
         }
         [FETCH] => Ok(fetch(alloc, held, from)?),
+        [MAIL | STORED | TOO_LONG | FULL | UNCLEAR, ..] => Ok(stay(alloc, held)?),
         _ => Ok(answer(alloc, held.try_clone(alloc)?, from, UNCLEAR)?),
     }
 }
@@ -152,14 +156,29 @@ impl Keeps<Mail> for Fresh {
     }
 }
 
-/// The step at a moment of the timer.
-pub(crate) fn tick(alloc: Global, held: &Held, moment: u64) -> Result<Step<Held>, Memory>
-    ensures { IfOk result (λ x. x ≡ ticked held.now moment) }
+/// The step at a moment that is the time.
+fn pass(alloc: Global, held: &Held, moment: u64) -> Result<Step<Held>, Memory>
+    ensures { IfOk result (λ x. x ≡ passed held.now moment) }
 {
     let clock = held.clock.max(moment);
     let mails = held.mails.kept(alloc, &Fresh { clock })?;
     Ok(Step {
-        state: Held { clock, mails },
+        state: Held {
+            clock,
+            draft: held.draft.try_clone(alloc)?,
+            mails,
+        },
         outputs: OutputList::new(alloc),
     })
+}
+
+/// The step at a moment of the timer.
+pub(crate) fn tick(alloc: Global, held: &Held, moment: u64) -> Result<Step<Held>, Memory>
+    ensures { IfOk result (λ x. x ≡ ticked held.now moment) }
+{
+    if moment < 1 << 63 {
+        Ok(pass(alloc, held, moment)?)
+    } else {
+        Ok(wish(alloc, held, moment)?)
+    }
 }

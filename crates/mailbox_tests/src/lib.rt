@@ -1,5 +1,9 @@
-//! Steps of the relay and the bytes of its states, with values from outside.
+//! Steps of the mail relay's nodes and the bytes of their states, with values from outside.
 #![tactic(auto)]
 
 #[cfg(test)]
-mod tests;
+mod asking_tests;
+#[cfg(test)]
+mod relay_tests;
+#[cfg(test)]
+mod told;

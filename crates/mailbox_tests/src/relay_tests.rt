@@ -1,51 +1,21 @@
-//! A state is given and told in its bytes: the clock in eight, the count of mails in four, and each mail as its sender, its
-//! receiver, its moment, and its text behind the text's length in four.
+//! Messages and times.
 
+use crate::told::{EMPTY, heard, ticked};
 use authenticators::NodeId;
 use log_chain::FieldWriter;
 use mailbox::Mailbox;
-use replay_verifier::{Input, Output, Program};
+use replay_verifier::Program;
 use std::alloc::Global;
 use std::test::Fail;
 
-/// No mail, at moment 5.
-const EMPTY: &[u8] = b"\0\0\0\0\0\0\0\x05\0\0\0\0";
-
-/// At moment 6, a mail `hi` of node 1 for node 2 of moment 5, and an empty one of node 2 for node 3 of moment 6.
+/// At moment 6, a draft `ok`, a mail `hi` of node 1 for node 2 of moment 5, and an empty one of node 2 for node 3 of moment 6.
 const TWO: &[u8] =
-    b"\0\0\0\0\0\0\0\x06\0\0\0\x02\0\0\0\x01\0\0\0\x02\0\0\0\0\0\0\0\x05\0\0\0\x02hi\0\0\0\x02\0\0\0\x03\0\0\0\0\0\0\0\x06\0\0\0\0";
+    b"\0\0\0\0\0\0\0\x06\0\0\0\x02ok\0\0\0\x02\0\0\0\x01\0\0\0\x02\0\0\0\0\0\0\0\x05\0\0\0\x02hi\0\0\0\x02\0\0\0\x03\0\0\0\0\0\0\0\x06\0\0\0\0";
 
-/// Writes the outputs: each is its receiver, the length of its payload in eight bytes, and the payload.
-fn tell(writer: &mut FieldWriter, outputs: &[Output]) -> Result<(), Fail> {
-    for output in outputs {
-        writer.u32(output.to.0)?;
-        writer.u64(output.payload.len() as u64)?;
-        writer.rest(output.payload.as_slice())?;
-    }
-    Ok(())
-}
-
-/// The state after a step of node 9 from the state of these bytes, and then what is put out. Nothing where there is no such state.
-fn after(alloc: Global, state: &[u8], input: &Input) -> Result<Vec<u8>, Fail> {
-    let mut writer = FieldWriter::new(alloc);
-    if let Some(state) = Mailbox.decode(alloc, state)? {
-        let step = Mailbox.step(alloc, NodeId(9), &state, input)?;
-        writer.rest(&Mailbox.encode(alloc, &step.state)?)?;
-        tell(&mut writer, step.outputs.as_slice())?;
-    }
-    Ok(writer.finish())
-}
-
-/// The same, where a message of the node comes.
-fn heard(alloc: Global, state: &[u8], from: u32, payload: &[u8]) -> Result<Vec<u8>, Fail> {
-    let from = NodeId(from);
-    after(alloc, state, &Input::Recv { from, payload })
-}
-
-/// The state of so many empty mails of node 1 for node 2 at moment 0, and `end` behind it.
+/// The state of no draft and so many empty mails of node 1 for node 2 at moment 0, and `end` behind it.
 fn many(alloc: Global, count: u8, end: &[u8]) -> Result<Vec<u8>, Fail> {
     let mut writer = FieldWriter::new(alloc);
-    writer.rest(b"\0\0\0\0\0\0\0\0\0\0\0")?;
+    writer.rest(b"\0\0\0\0\0\0\0\0\0\0\0\0\0\0\0")?;
     writer.u8(count)?;
     for _ in 0..count {
         writer.rest(b"\0\0\0\x01\0\0\0\x02\0\0\0\0\0\0\0\0\0\0\0\0")?;
@@ -63,10 +33,10 @@ fn is_state(alloc: Global, bytes: &[u8]) -> Result<bool, Fail> {
 }
 
 #[test]
-fn the_relay_begins_with_no_mail(rt: HostRuntime) -> Result<(), Fail> {
+fn a_node_begins_with_no_draft_and_no_mail(rt: HostRuntime) -> Result<(), Fail> {
     let state = Mailbox.start(rt.alloc(), NodeId(9))?;
     let bytes = Mailbox.encode(rt.alloc(), &state)?;
-    assert!(rt; bytes.as_slice() == [0; 12].as_slice());
+    assert!(rt; bytes.as_slice() == [0; 16].as_slice());
     Ok(())
 }
 
@@ -74,7 +44,7 @@ fn the_relay_begins_with_no_mail(rt: HostRuntime) -> Result<(), Fail> {
 fn a_text_is_held_and_its_sender_told(rt: HostRuntime) -> Result<(), Fail> {
     let found = heard(rt.alloc(), EMPTY, 1, b"D\0\0\0\x02hi")?;
     let wanted =
-        b"\0\0\0\0\0\0\0\x05\0\0\0\x01\0\0\0\x01\0\0\0\x02\0\0\0\0\0\0\0\x05\0\0\0\x02hi\0\0\0\x01\0\0\0\0\0\0\0\x01S";
+        b"\0\0\0\0\0\0\0\x05\0\0\0\0\0\0\0\x01\0\0\0\x01\0\0\0\x02\0\0\0\0\0\0\0\x05\0\0\0\x02hi\0\0\0\x01\0\0\0\0\0\0\0\x01S";
     assert!(rt; found.as_slice() == wanted.as_slice());
     Ok(())
 }
@@ -83,7 +53,7 @@ fn a_text_is_held_and_its_sender_told(rt: HostRuntime) -> Result<(), Fail> {
 fn a_fetch_takes_the_mails_for_its_sender(rt: HostRuntime) -> Result<(), Fail> {
     let found = heard(rt.alloc(), TWO, 2, b"F")?;
     let wanted =
-        b"\0\0\0\0\0\0\0\x06\0\0\0\x01\0\0\0\x02\0\0\0\x03\0\0\0\0\0\0\0\x06\0\0\0\0\0\0\0\x02\0\0\0\0\0\0\0\x07M\0\0\0\x01hi";
+        b"\0\0\0\0\0\0\0\x06\0\0\0\x02ok\0\0\0\x01\0\0\0\x02\0\0\0\x03\0\0\0\0\0\0\0\x06\0\0\0\0\0\0\0\x02\0\0\0\0\0\0\0\x07M\0\0\0\x01hi";
     assert!(rt; found.as_slice() == wanted.as_slice());
     let found = heard(rt.alloc(), TWO, 1, b"F")?;
     assert!(rt; found.as_slice() == TWO);
@@ -91,12 +61,13 @@ fn a_fetch_takes_the_mails_for_its_sender(rt: HostRuntime) -> Result<(), Fail> {
 }
 
 #[test]
-fn the_timer_sets_the_clock_and_drops_what_is_old(rt: HostRuntime) -> Result<(), Fail> {
+fn a_time_sets_the_clock_and_drops_what_is_old(rt: HostRuntime) -> Result<(), Fail> {
     let alloc = rt.alloc();
-    let found = after(alloc, TWO, &Input::Timer { moment: 1006 })?;
-    let wanted = b"\0\0\0\0\0\0\x03\xee\0\0\0\x01\0\0\0\x02\0\0\0\x03\0\0\0\0\0\0\0\x06\0\0\0\0";
+    let found = ticked(alloc, TWO, 1006)?;
+    let wanted =
+        b"\0\0\0\0\0\0\x03\xee\0\0\0\x02ok\0\0\0\x01\0\0\0\x02\0\0\0\x03\0\0\0\0\0\0\0\x06\0\0\0\0";
     assert!(rt; found.as_slice() == wanted.as_slice());
-    let found = after(alloc, TWO, &Input::Timer { moment: 3 })?;
+    let found = ticked(alloc, TWO, 3)?;
     assert!(rt; found.as_slice() == TWO);
     Ok(())
 }
@@ -116,10 +87,34 @@ fn what_does_not_fit_is_answered_so(rt: HostRuntime) -> Result<(), Fail> {
 
 #[test]
 fn other_messages_are_not_understood(rt: HostRuntime) -> Result<(), Fail> {
-    let wanted = b"\0\0\0\0\0\0\0\x05\0\0\0\0\0\0\0\x01\0\0\0\0\0\0\0\x01?".as_slice();
-    for payload in [b"".as_slice(), b"D\0\0\0", b"F ", b"f", b"G\0\0\0\x02hi"] {
+    let wanted = b"\0\0\0\0\0\0\0\x05\0\0\0\0\0\0\0\0\0\0\0\x01\0\0\0\0\0\0\0\x01?".as_slice();
+    for payload in [
+        b"".as_slice(),
+        b"D\0\0\0",
+        b"F ",
+        b"f",
+        b"m",
+        b"G\0\0\0\x02hi",
+    ] {
         let found = heard(rt.alloc(), EMPTY, 1, payload)?;
         assert!(rt; found.as_slice() == wanted);
+    }
+    Ok(())
+}
+
+#[test]
+fn answers_are_taken_in_silence(rt: HostRuntime) -> Result<(), Fail> {
+    for payload in [
+        b"S".as_slice(),
+        b"L",
+        b"X",
+        b"?",
+        b"?hi",
+        b"M",
+        b"M\0\0\0\x02hi",
+    ] {
+        let found = heard(rt.alloc(), TWO, 1, payload)?;
+        assert!(rt; found.as_slice() == TWO);
     }
     Ok(())
 }
