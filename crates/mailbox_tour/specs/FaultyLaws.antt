@@ -7,10 +7,14 @@ use Rattle.mailbox.specs.MailboxLaws.{mailbox_lawful}
 use Rattle.mailbox_tour.specs.FaultyMeaning.{changing, forgetful}
 
 pub forgetful_lawful : Lawful IsHeld forgetful
-forgetful_lawful = record mailbox_lawful {
+forgetful_lawful = record {
+  starts = mailbox_lawful.starts;
   steps = λ me held h m fits happens.
       let after = mailbox_lawful.steps me held h m fits happens in
       (after.0, (after.1.0, empty_stays MOST_MAILS IsMail));
+  again = mailbox_lawful.again;
+  only = mailbox_lawful.only;
+  short = mailbox_lawful.short;
 }
 
 pub changing_lawful : Lawful IsHeld changing
