@@ -1,5 +1,5 @@
 -- A mail relay: nodes leave texts for one another, and fetch what was left for them.
-use Rattle.std.specs.Prelude.{ℕ, ◌-◌, ◌^◌, ◌==◌, ◌&&◌, max, nat_le, nat_lt, not, Bool, List, [], ◌∷◌, ◌++◌, length, take, drop, filter, map, slice_index, if◌then◌else◌}
+use Rattle.std.specs.Prelude.{◌≡◌, ◌<◌, ℕ, ◌+◌, ◌-◌, ◌*◌, ◌/◌, ◌^◌, ◌==◌, ◌&&◌, max, nat_le, nat_lt, not, Bool, List, [], ◌∷◌, ◌++◌, length, take, drop, filter, map, slice_index, if◌then◌else◌}
 use Rattle.std.specs.Int.{w32, w64, from_be_bytes, to_be_bytes}
 use Rattle.std.specs.List.{list_any}
 use Rattle.replay_verifier.specs.declared.output.Output.{Output}
@@ -11,7 +11,7 @@ use Rattle.mailbox.specs.declared.held.Mail.{Mail}
 use Rattle.mailbox.specs.declared.held.TheConstants.{LIFETIME, LONGEST_TEXT, MOST_MAILS}
 use Rattle.mailbox.specs.declared.letters.TheConstants.{DELIVER, FETCH, FULL, MAIL, STORED, TOO_LONG, UNCLEAR}
 use Rattle.mailbox.specs.HeldMails.{held_coding}
-use Rattle.mailbox.specs.UserWishes.{silent, wished}
+use Rattle.mailbox.specs.UserWishes.{silent, wished, writing}
 
 -- A step to this state that answers a node with a receipt of one letter.
 abbrev pub answered : Held → ℕ → ℕ → Step Held
@@ -93,9 +93,14 @@ mailbox = coded_program held_coding mailbox_start mailbox_step
 -- ---- moments one behind the other
 
 -- What a node holds after them, and all that it puts out at them.
-pub ticked_through : Held → List ℕ → Step Held
+unfoldable pub ticked_through : Held → List ℕ → Step Held
 ticked_through held [] = silent held
 ticked_through held (moment ∷ moments) =
     let first = ticked held moment in
     let others = ticked_through first.state moments in
     record { state = others.state; outputs = first.outputs ++ others.outputs }
+
+-- Each of the moments writes the next seven bytes of the text, and the last one those that are left.
+pub record IsWriting (text moments : List ℕ) : Type 0 where
+  pub count : length moments ≡ (length text + 6) / 7
+  pub each : (k : ℕ) → k < length moments → (held : Held) → ticked held (slice_index moments k) ≡ writing held (take 7 (drop (7 * k) text))

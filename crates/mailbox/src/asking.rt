@@ -60,6 +60,7 @@ fn fetch(alloc: Global, held: &Held) -> Result<Step<Held>, Memory>
 }
 
 /// The step that writes bytes behind the draft, where they fit.
+#[tactic(auto, unfolding(crate::specs::UserWishes::writing))]
 fn write(alloc: Global, held: &Held, bytes: &[u8]) -> Result<Step<Held>, Memory>
     ensures { IfOk result (λ x. x ≡ writing held.now bytes.now) }
 {
@@ -75,6 +76,7 @@ fn write(alloc: Global, held: &Held, bytes: &[u8]) -> Result<Step<Held>, Memory>
 }
 
 /// The step that leaves the draft for the node `to`.
+#[tactic(auto, unfolding(crate::specs::UserWishes::leaving))]
 fn leave(alloc: Global, held: &Held, to: NodeId) -> Result<Step<Held>, Memory>
     ensures { IfOk result (λ x. x ≡ leaving held.now to) }
 {

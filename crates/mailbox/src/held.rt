@@ -19,8 +19,11 @@ pub const MOST_MAILS: u32 = 16;
 /// How long a mail is held, in the unit of the timer's moments.
 pub const LIFETIME: u64 = 1000;
 
-/// The node that each node's user leaves texts at, and fetches from. It holds mails as any other node does.
-pub const RELAY: NodeId = NodeId(1);
+/// The number of the relay.
+const RELAY_NUMBER: u32 = 1;
+
+/// The relay: the node at which each node's user leaves texts, and from which it fetches.
+pub const RELAY: NodeId = NodeId(RELAY_NUMBER);
 
 /// A text that one node left for another.
 #[derive(Drop)]

@@ -3,11 +3,11 @@
 //! A moment below 2^63 is the time. In any other the first of its eight bytes is one of these letters, or it does nothing.
 //! A text is written behind the node's draft in pieces of at most seven bytes, and left as a whole.
 
-ghost use Rattle.std.specs.Prelude.{◌≡◌, ◌+◌, ◌≤◌, ◌++◌, IfOk, length};
-ghost use Rattle.mailbox.specs.MailboxMeaning.{ticked, ticked_through};
-ghost use Rattle.mailbox.specs.UserWishes.{fetching, leaving, silent, writing};
+ghost use Rattle.std.specs.Prelude.{◌≡◌, ◌≤◌, ◌^◌, IfOk, false, length, nat_lt, slice_index};
+ghost use Rattle.std.specs.Int.{w64, to_be_bytes};
+ghost use Rattle.mailbox.specs.MailboxMeaning.{IsWriting, ticked};
+ghost use Rattle.mailbox.specs.UserWishes.{fetching, leaving, wished, writing};
 ghost use Rattle.mailbox.specs.declared.held.Held.{Held};
-ghost use Rattle.mailbox.specs.declared.held.TheConstants.{LONGEST_TEXT};
 
 use authenticators::NodeId;
 use outcome::Memory;
@@ -38,26 +38,31 @@ pub fn leave(to: NodeId) -> u64
     u64::from_be_bytes([LEAVE, 0, 0, 0, a, b, c, d])
 }
 
-/// The moment at which a node writes these bytes behind its draft.
+/// The moment at which a node writes these bytes behind its draft, where they are at least one and at most seven.
 fn piece(bytes: &[u8]) -> u64
-    requires some { 1 ≤ length bytes.now }
-    requires few { length bytes.now ≤ 7 }
-    ensures { (held : Held) → ticked held result ≡ writing held bytes.now }
+    ensures wish { nat_lt result (2 ^ 63) ≡ false }
+    ensures writes { (held : Held) → 1 ≤ length bytes.now → length bytes.now ≤ 7 → wished held (to_be_bytes w64 result) ≡ writing held bytes.now }
 {
-    let mut wish = [0; 8];
-    wish[0] = FETCH + bytes.len() as u8;
-    wish[8 - bytes.len()..].copy_from_slice(bytes);
-    u64::from_be_bytes(wish)
+    match *bytes {
+        [a] => u64::from_be_bytes([FETCH + 1, 0, 0, 0, 0, 0, 0, a]),
+        [a, b] => u64::from_be_bytes([FETCH + 2, 0, 0, 0, 0, 0, a, b]),
+        [a, b, c] => u64::from_be_bytes([FETCH + 3, 0, 0, 0, 0, a, b, c]),
+        [a, b, c, d] => u64::from_be_bytes([FETCH + 4, 0, 0, 0, a, b, c, d]),
+        [a, b, c, d, e] => u64::from_be_bytes([FETCH + 5, 0, 0, a, b, c, d, e]),
+        [a, b, c, d, e, f] => u64::from_be_bytes([FETCH + 6, 0, a, b, c, d, e, f]),
+        [a, b, c, d, e, f, g] => u64::from_be_bytes([FETCH + 7, a, b, c, d, e, f, g]),
+        _ => u64::MAX,
+    }
 }
 
-/// The moments at which a node writes the text behind its draft, one behind the other. Where the text does not fit there, only the
-/// pieces that do are written.
+/// The moments at which a node writes the text behind its draft, one behind the other. Where the text does not fit there, only those
+/// of its pieces are written that do.
 pub fn write(alloc: Global, text: &[u8]) -> Result<Vec<u64>, Memory>
-    ensures { IfOk result (λ v. (held : Held) → length held.draft + length text.now ≤ LONGEST_TEXT → ticked_through held v.items ≡ silent (record held { draft = held.draft ++ text.now })) }
+    ensures { IfOk result (λ v. IsWriting text.now v.items) }
 {
-    let mut moments = Vec::new(alloc);
-    for bytes in text.chunks(MOST_WRITTEN) {
-        moments.push(piece(bytes))?;
-    }
-    Ok(moments)
+    Ok(
+        text.chunks(MOST_WRITTEN)
+            .map(|bytes| piece(bytes))
+            .collect(alloc)?,
+    )
 }
