@@ -90,15 +90,7 @@ mailbox_start me = record { clock = 0; draft = []; mails = [] }
 abbrev pub mailbox : Meaning Held
 mailbox = coded_program held_coding mailbox_start mailbox_step
 
--- ---- moments one behind the other
-
--- What a node holds after them, and all that it puts out at them.
-unfoldable pub ticked_through : Held → List ℕ → Step Held
-ticked_through held [] = silent held
-ticked_through held (moment ∷ moments) =
-    let first = ticked held moment in
-    let others = ticked_through first.state moments in
-    record { state = others.state; outputs = first.outputs ++ others.outputs }
+-- ---- a text in pieces
 
 -- Each of the moments writes the next seven bytes of the text, and the last one those that are left.
 pub record IsWriting (text moments : List ℕ) : Type 0 where

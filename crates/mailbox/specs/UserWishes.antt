@@ -1,11 +1,11 @@
 -- What a node does at its user's wishes: the moments of the timer from 2 ^ 63 on.
-use Rattle.std.specs.Prelude.{ℕ, ◌-◌, ◌==◌, ◌||◌, nat_lt, Bool, List, [], ◌∷◌, ◌++◌, length, drop, slice_index, if◌then◌else◌}
+use Rattle.std.specs.Prelude.{ℕ, ◌-◌, ◌==◌, ◌&&◌, nat_lt, Bool, List, [], ◌∷◌, ◌++◌, length, drop, slice_index, if◌then◌else◌}
 use Rattle.std.specs.Int.{w32, from_be_bytes, to_be_bytes}
 use Rattle.replay_verifier.specs.declared.program.Step.{Step}
 use Rattle.mailbox.specs.declared.held.Held.{Held}
 use Rattle.mailbox.specs.declared.held.TheConstants.{LONGEST_TEXT, RELAY_NUMBER}
 use Rattle.mailbox.specs.declared.letters.TheConstants.{DELIVER, FETCH}
-use Rattle.mailbox.specs.declared.wishes.TheConstants as the
+use Rattle.mailbox.specs.declared.wishes.TheConstants.{FETCH_WISH, LEAVE_WISH}
 
 -- A step that does nothing but to hold this.
 abbrev pub silent : Held → Step Held
@@ -33,22 +33,28 @@ delivery to text = DELIVER ∷ (to_be_bytes w32 to ++ text)
 unfoldable pub leaving : Held → ℕ → Step Held
 leaving held to = asking (record held { draft = [] }) (delivery to held.draft)
 
--- A wish is eight bytes, of which the first says what is wished. The last ones are the number of a receiver, or a piece of a text.
-abbrev pub letter : List ℕ → ℕ
-letter wish = slice_index wish 0
+-- A wish is eight bytes. The first says what is wished; the last are a receiver's number, or a piece of a text.
+abbrev pub kind : List ℕ → ℕ
+kind wish = slice_index wish 0
+
+abbrev pub is_fetching : List ℕ → Bool
+is_fetching wish = kind wish == FETCH_WISH
+
+abbrev pub is_leaving : List ℕ → Bool
+is_leaving wish = kind wish == LEAVE_WISH
 
 abbrev pub receiver : List ℕ → ℕ
 receiver wish = from_be_bytes w32 (drop 4 wish)
 
-abbrev pub piece : List ℕ → List ℕ
-piece wish = drop (8 - (letter wish - the.FETCH)) wish
+-- Between the kinds of fetching and leaving stand those of writing one byte to seven.
+abbrev pub is_writing : List ℕ → Bool
+is_writing wish = nat_lt FETCH_WISH (kind wish) && nat_lt (kind wish) LEAVE_WISH
 
--- Between the letters of fetching and leaving stand those of writing one byte to seven.
-abbrev pub is_unknown : List ℕ → Bool
-is_unknown wish = nat_lt (letter wish) the.FETCH || nat_lt the.LEAVE (letter wish)
+abbrev pub piece : List ℕ → List ℕ
+piece wish = drop (8 - (kind wish - FETCH_WISH)) wish
 
 abbrev pub wished : Held → List ℕ → Step Held
 wished held wish =
-    if letter wish == the.FETCH then fetching held
-    else (if letter wish == the.LEAVE then leaving held (receiver wish)
-    else (if is_unknown wish then silent held else writing held (piece wish)))
+    if is_fetching wish then fetching held
+    else (if is_leaving wish then leaving held (receiver wish)
+    else (if is_writing wish then writing held (piece wish) else silent held))

@@ -2,16 +2,16 @@
 
 ghost use Rattle.std.specs.Prelude.{◌≡◌, ◌≤◌, IfOk, length};
 ghost use Rattle.std.specs.Int.{w64, to_be_bytes};
-ghost use Rattle.mailbox.specs.UserWishes.{asking, delivery, fetching, leaving, silent, wished, writing};
+ghost use Rattle.mailbox.specs.UserWishes.{asking, fetching, leaving, silent, wished, writing};
 
 use crate::held::{Held, LONGEST_TEXT, RELAY};
 use crate::letters::{DELIVER, FETCH};
-use crate::wishes;
+use crate::wishes::{FETCH_WISH, LEAVE_WISH};
 use authenticators::NodeId;
 use log_chain::{ByteString, FieldWriter};
 use outcome::Memory;
 use replay_verifier::{Output, OutputList, Step};
-use state_codec::{Coded, Listed, Text};
+use state_codec::{Coded, Text};
 use std::alloc::Global;
 
 /// A step that does nothing.
@@ -94,13 +94,13 @@ pub(crate) fn wish(alloc: Global, held: &Held, moment: u64) -> Result<Step<Held>
 {
     let wish = moment.to_be_bytes();
     match wish {
-        [wishes::FETCH, ..] => Ok(fetch(alloc, held)?),
-        [wishes::LEAVE, _, _, _, a, b, c, d] => {
+        [FETCH_WISH, ..] => Ok(fetch(alloc, held)?),
+        [LEAVE_WISH, _, _, _, a, b, c, d] => {
             let to = NodeId(u32::from_be_bytes([a, b, c, d]));
             Ok(leave(alloc, held, to)?)
         }
-        [letter, ..] if letter > wishes::FETCH && letter < wishes::LEAVE => {
-            let count = letter - wishes::FETCH;
+        [kind, ..] if kind > FETCH_WISH && kind < LEAVE_WISH => {
+            let count = kind - FETCH_WISH;
             Ok(write(alloc, held, &wish[8 - count as usize..])?)
         }
         _ => Ok(stay(alloc, held)?),

@@ -1,4 +1,4 @@
-//! What a message begins with.
+//! What a message begins with: a request is answered, and an answer is not.
 
 /// A request to hold a text: then come the receiver's number in four bytes, and the text to the end.
 pub const DELIVER: u8 = b'D';
@@ -18,5 +18,5 @@ pub const TOO_LONG: u8 = b'L';
 /// A receipt: as many mails are held as there may be, and the text is not held.
 pub const FULL: u8 = b'X';
 
-/// A receipt: the message is no request.
+/// A receipt: the message is neither a request nor an answer.
 pub const UNCLEAR: u8 = b'?';

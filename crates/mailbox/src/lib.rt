@@ -1,6 +1,7 @@
 //! A mail relay, as an example of a program: nodes leave texts for one another, and fetch what was left for them.
 //!
-//! [`Mailbox`] is the program, and `specs/MailboxMeaning.antt` says what its steps do. Its state, [`Held`], is put together of
+//! [`Mailbox`] is the program, which all nodes run, the relay too. `specs/MailboxMeaning.antt` says what its steps do, and
+//! `specs/UserWishes.antt` what those do that a node's user wishes ([`wishes`]). Its state, [`Held`], is put together of
 //! `state_codec`'s parts, and so are its bytes and their law (`specs/MailboxLaws.antt`).
 #![tactic(auto)]
 

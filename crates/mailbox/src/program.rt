@@ -12,11 +12,12 @@ use replay_verifier::{Input, Program, Step};
 use state_codec::{Listed, Text, decoded, encoded};
 use std::alloc::Global;
 
-/// Holds texts that nodes leave for one another.
+/// Holds texts that nodes leave for one another, and lets each node's user leave and fetch them at [`RELAY`](crate::RELAY).
 ///
 /// A message of `D`, a node's number in four bytes and a text of at most [`LONGEST_TEXT`](crate::LONGEST_TEXT) bytes leaves the text for that node;
 /// the sender is told in one letter whether it is held ([`letters`](crate::letters)). A message of `F` alone fetches: each mail for the sender is sent
-/// to it and held no longer. The timer sets the clock, and what came more than [`LIFETIME`](crate::LIFETIME) before is held no longer.
+/// to it and held no longer. Answers are taken in silence. The timer sets the clock, and what came more than [`LIFETIME`](crate::LIFETIME) before is
+/// held no longer; or it tells a wish of the node's user ([`wishes`](crate::wishes)).
 #[derive(Clone, Copy, Debug)]
 pub struct Mailbox;
 

@@ -1,7 +1,7 @@
 -- The laws of mails.
-use Rattle.std.proofs.Common.{◌≡◌, ◌≤◌, ℕ, Bool, true, false, cond, eqb, leb, ltb, List, [], ◌∷◌, ◌++◌, length, filter, map, max, refl, ap, arith, inr}
-use Rattle.std.specs.List.{AllByRecursion, Contains}
-use Rattle.std.proofs.lemmas.Bool.{eqb-true, eq-eqb, le-leb, le-ltb, leb-true, lt-leb, ne_eqb}
+use Rattle.std.proofs.Common.{◌≡◌, ◌≤◌, ◌+◌, ℕ, Bool, true, false, cond, eqb, leb, ltb, List, [], ◌∷◌, ◌++◌, length, filter, map, max, refl, ap, arith, inr}
+use Rattle.std.specs.List.{All, AllByRecursion, Contains}
+use Rattle.std.proofs.lemmas.Bool.{eqb-true, eq-eqb, le-leb, le-ltb, leb-true, lt-leb, lt-ltb, ne_eqb}
 use Rattle.std.proofs.lemmas.List.{length-map, map-append, take_all}
 use Rattle.std.proofs.lemmas.List.Elements.{Contains-append_right, filter-append, filter_passes, recursion_from_All}
 use Rattle.std.proofs.lemmas.List.Sums.{count_by-le-length, length-filter}
@@ -9,10 +9,11 @@ use Rattle.authenticators.specs.Directory.{Listing, is_listed}
 use Rattle.authenticators.proofs.AscendingLists.{cons_has}
 use Rattle.replay_verifier.specs.declared.output.Output.{Output}
 use Rattle.replay_verifier.specs.Sending.{is_sent}
+use Rattle.mailbox.specs.declared.held.Held.{Held}
 use Rattle.mailbox.specs.declared.held.Mail.{Mail}
-use Rattle.mailbox.specs.declared.held.TheConstants.{LONGEST_TEXT, MOST_MAILS}
+use Rattle.mailbox.specs.declared.held.TheConstants.{LIFETIME, LONGEST_TEXT, MOST_MAILS}
 use Rattle.mailbox.specs.HeldMails.{IsMail}
-use Rattle.mailbox.specs.MailboxMeaning.{is_for, is_fresh, sent}
+use Rattle.mailbox.specs.MailboxMeaning.{is_for, is_fresh, passed, sent}
 use Rattle.mailbox_laws.specs.MailLaws.{FetchesAreSent, OldMailsAreDropped, TextsArrive}
 
 -- ---- a text arrives
@@ -50,13 +51,14 @@ all_sent ds me from (m ∷ mails) fits listed other =
 pub fetches_are_sent : FetchesAreSent
 fetches_are_sent ds me from held fits listed other =
     let kept = filter (is_for from) held.mails in
-    let all = all_sent ds me from held.mails (recursion_from_All IsMail held.mails fits.1.each) listed (ne_eqb _ _ other) in
-    let few : length (map sent kept) ≤ 16 = omega (arith, length-map kept sent, length-filter (is_for from) held.mails, count_by-le-length (is_for from) held.mails, fits.1.count) in
+    let all = all_sent ds me from held.mails (recursion_from_All IsMail held.mails fits.1.1.each) listed (ne_eqb _ _ other) in
+    let few : length (map sent kept) ≤ 16 = omega (arith, length-map kept sent, length-filter (is_for from) held.mails, count_by-le-length (is_for from) held.mails, fits.1.1.count) in
     rw all (take_all 16 (map sent kept) few)
 
 -- ---- what is old is dropped
 
+fresh_are_kept : (held : Held) (time : ℕ) → All (λ (m : Mail). time ≤ m.at + LIFETIME) (passed held time).state.mails
+fresh_are_kept held time k d lt = omega (arith, leb-true _ _ (filter_passes (is_fresh (max held.clock time)) held.mails k d lt))
+
 pub old_mails_are_dropped : OldMailsAreDropped
-old_mails_are_dropped held moment k d lt =
-    let clock = max held.clock moment in
-    omega (arith, leb-true _ _ (filter_passes (is_fresh clock) held.mails k d lt))
+old_mails_are_dropped held time small = rw (lt-ltb _ _ small) (fresh_are_kept held time)

@@ -10,11 +10,11 @@ use std::test::Fail;
 /// At moment 5, a draft `hi`, and no mail.
 const HI: &[u8] = b"\0\0\0\0\0\0\0\x05\0\0\0\x02hi\0\0\0\0";
 
-/// The state at moment 5 of no mail and a draft of so many sevens, and `end` behind them in the draft.
-fn drafted(alloc: Global, sevens: u8, end: &[u8]) -> Result<Vec<u8>, Fail> {
+/// The state at moment 5 of no mail and a draft of so many bytes: so many sevens, and `end` behind them.
+fn drafted(alloc: Global, len: u32, sevens: u8, end: &[u8]) -> Result<Vec<u8>, Fail> {
     let mut writer = FieldWriter::new(alloc);
     writer.rest(b"\0\0\0\0\0\0\0\x05")?;
-    writer.u32(u32::from(sevens) + end.len() as u32)?;
+    writer.u32(len)?;
     for _ in 0..sevens {
         writer.u8(7)?;
     }
@@ -42,18 +42,19 @@ fn a_fetch_is_sent_to_the_relay(rt: HostRuntime) -> Result<(), Fail> {
 #[test]
 fn bytes_are_written_behind_the_draft(rt: HostRuntime) -> Result<(), Fail> {
     let alloc = rt.alloc();
-    for (moment, end) in [
-        (0x8100_0000_0000_0021, b"!".as_slice()),
-        (0x8161_6263_6465_6667, b"g"),
-        (0x8261_6263_6465_6667, b"fg"),
-        (0x8361_6263_6465_6667, b"efg"),
-        (0x8461_6263_6465_6667, b"defg"),
-        (0x8561_6263_6465_6667, b"cdefg"),
-        (0x8661_6263_6465_6667, b"bcdefg"),
-        (0x8761_6263_6465_6667, b"abcdefg"),
+    let before = drafted(alloc, 3, 3, b"")?;
+    for (moment, len, end) in [
+        (0x8100_0000_0000_0021, 4, b"!".as_slice()),
+        (0x8161_6263_6465_6667, 4, b"g"),
+        (0x8261_6263_6465_6667, 5, b"fg"),
+        (0x8361_6263_6465_6667, 6, b"efg"),
+        (0x8461_6263_6465_6667, 7, b"defg"),
+        (0x8561_6263_6465_6667, 8, b"cdefg"),
+        (0x8661_6263_6465_6667, 9, b"bcdefg"),
+        (0x8761_6263_6465_6667, 10, b"abcdefg"),
     ] {
-        let found = ticked(alloc, &drafted(alloc, 3, b"")?, moment)?;
-        assert!(rt; found.as_slice() == drafted(alloc, 3, end)?.as_slice());
+        let found = ticked(alloc, &before, moment)?;
+        assert!(rt; found.as_slice() == drafted(alloc, len, 3, end)?.as_slice());
     }
     Ok(())
 }
@@ -61,12 +62,16 @@ fn bytes_are_written_behind_the_draft(rt: HostRuntime) -> Result<(), Fail> {
 #[test]
 fn a_draft_that_is_full_stays(rt: HostRuntime) -> Result<(), Fail> {
     let alloc = rt.alloc();
-    let found = ticked(alloc, &drafted(alloc, 249, b"")?, 0x8761_6263_6465_6667)?;
-    assert!(rt; found.as_slice() == drafted(alloc, 249, b"abcdefg")?.as_slice());
-    let nearly = drafted(alloc, 250, b"")?;
+    let found = ticked(
+        alloc,
+        &drafted(alloc, 249, 249, b"")?,
+        0x8761_6263_6465_6667,
+    )?;
+    assert!(rt; found.as_slice() == drafted(alloc, 256, 249, b"abcdefg")?.as_slice());
+    let nearly = drafted(alloc, 250, 250, b"")?;
     let found = ticked(alloc, &nearly, 0x8761_6263_6465_6667)?;
     assert!(rt; found.as_slice() == nearly.as_slice());
-    let full = drafted(alloc, 250, b"abcdef")?;
+    let full = drafted(alloc, 256, 250, b"abcdef")?;
     let found = ticked(alloc, &full, 0x8100_0000_0000_0021)?;
     assert!(rt; found.as_slice() == full.as_slice());
     Ok(())
