@@ -1,6 +1,6 @@
 -- A mail relay: nodes leave texts for one another, and fetch what was left for them.
 use Rattle.std.specs.Prelude.{◌≡◌, ◌<◌, ℕ, ◌+◌, ◌-◌, ◌*◌, ◌/◌, ◌^◌, ◌==◌, ◌&&◌, max, nat_le, nat_lt, not, Bool, List, [], ◌∷◌, ◌++◌, length, take, drop, filter, map, slice_index, if◌then◌else◌}
-use Rattle.std.specs.Int.{w32, w64, from_be_bytes, to_be_bytes}
+use Rattle.std.specs.Int.{w32, from_be_bytes, to_be_bytes}
 use Rattle.std.specs.List.{list_any}
 use Rattle.replay_verifier.specs.declared.output.Output.{Output}
 use Rattle.replay_verifier.specs.declared.program.Step.{Step}
@@ -77,7 +77,7 @@ passed held time =
 
 -- A moment of the timer is a time or a user's wish.
 abbrev pub ticked : Held → ℕ → Step Held
-ticked held moment = if nat_lt moment (2 ^ 63) then passed held moment else wished held (to_be_bytes w64 moment)
+ticked held moment = if nat_lt moment (2 ^ 63) then passed held moment else wished held moment
 
 abbrev pub mailbox_step : ℕ → Held → Happening → Step Held
 mailbox_step me held (Received from payload) = heard held from payload

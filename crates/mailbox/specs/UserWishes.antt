@@ -1,6 +1,6 @@
 -- What a node does at its user's wishes: the moments of the timer from 2 ^ 63 on.
 use Rattle.std.specs.Prelude.{ℕ, ◌-◌, ◌==◌, ◌&&◌, nat_lt, Bool, List, [], ◌∷◌, ◌++◌, length, drop, slice_index, if◌then◌else◌}
-use Rattle.std.specs.Int.{w32, from_be_bytes, to_be_bytes}
+use Rattle.std.specs.Int.{w32, w64, from_be_bytes, to_be_bytes}
 use Rattle.replay_verifier.specs.declared.program.Step.{Step}
 use Rattle.mailbox.specs.declared.held.Held.{Held}
 use Rattle.mailbox.specs.declared.held.TheConstants.{LONGEST_TEXT, RELAY_NUMBER}
@@ -33,28 +33,34 @@ delivery to text = DELIVER ∷ (to_be_bytes w32 to ++ text)
 unfoldable pub leaving : Held → ℕ → Step Held
 leaving held to = asking (record held { draft = [] }) (delivery to held.draft)
 
--- A wish is eight bytes. The first says what is wished; the last are a receiver's number, or a piece of a text.
-abbrev pub kind : List ℕ → ℕ
-kind wish = slice_index wish 0
+-- Of the eight bytes of a wish the first says what is wished; the last are a receiver's number, or a piece of a text.
+abbrev pub wish_bytes : ℕ → List ℕ
+wish_bytes moment = to_be_bytes w64 moment
 
-abbrev pub is_fetching : List ℕ → Bool
-is_fetching wish = kind wish == FETCH_WISH
+abbrev pub kind : ℕ → ℕ
+kind moment = slice_index (wish_bytes moment) 0
 
-abbrev pub is_leaving : List ℕ → Bool
-is_leaving wish = kind wish == LEAVE_WISH
+abbrev pub is_fetching : ℕ → Bool
+is_fetching moment = kind moment == FETCH_WISH
 
-abbrev pub receiver : List ℕ → ℕ
-receiver wish = from_be_bytes w32 (drop 4 wish)
+abbrev pub is_leaving : ℕ → Bool
+is_leaving moment = kind moment == LEAVE_WISH
+
+abbrev pub receiver : ℕ → ℕ
+receiver moment = from_be_bytes w32 (drop 4 (wish_bytes moment))
 
 -- Between the kinds of fetching and leaving stand those of writing one byte to seven.
-abbrev pub is_writing : List ℕ → Bool
-is_writing wish = nat_lt FETCH_WISH (kind wish) && nat_lt (kind wish) LEAVE_WISH
+abbrev pub is_writing : ℕ → Bool
+is_writing moment = nat_lt FETCH_WISH (kind moment) && nat_lt (kind moment) LEAVE_WISH
 
-abbrev pub piece : List ℕ → List ℕ
-piece wish = drop (8 - (kind wish - FETCH_WISH)) wish
+abbrev pub piece_len : ℕ → ℕ
+piece_len moment = kind moment - FETCH_WISH
 
-abbrev pub wished : Held → List ℕ → Step Held
-wished held wish =
-    if is_fetching wish then fetching held
-    else (if is_leaving wish then leaving held (receiver wish)
-    else (if is_writing wish then writing held (piece wish) else silent held))
+abbrev pub piece : ℕ → List ℕ
+piece moment = drop (8 - piece_len moment) (wish_bytes moment)
+
+abbrev pub wished : Held → ℕ → Step Held
+wished held moment =
+    if is_fetching moment then fetching held
+    else (if is_leaving moment then leaving held (receiver moment)
+    else (if is_writing moment then writing held (piece moment) else silent held))

@@ -1,7 +1,6 @@
 //! The steps at which a node asks the relay, and those that do nothing.
 
 ghost use Rattle.std.specs.Prelude.{◌≡◌, ◌≤◌, IfOk, length};
-ghost use Rattle.std.specs.Int.{w64, to_be_bytes};
 ghost use Rattle.mailbox.specs.UserWishes.{asking, fetching, leaving, silent, wished, writing};
 
 use crate::held::{Held, LONGEST_TEXT, RELAY};
@@ -90,7 +89,7 @@ fn leave(alloc: Global, held: &Held, to: NodeId) -> Result<Step<Held>, Memory>
 
 /// The step at a moment that is a wish.
 pub(crate) fn wish(alloc: Global, held: &Held, moment: u64) -> Result<Step<Held>, Memory>
-    ensures { IfOk result (λ x. x ≡ wished held.now (to_be_bytes w64 moment)) }
+    ensures { IfOk result (λ x. x ≡ wished held.now moment) }
 {
     let wish = moment.to_be_bytes();
     match wish {

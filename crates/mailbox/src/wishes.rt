@@ -9,7 +9,6 @@
 //! All other bytes say nothing, and a moment that begins otherwise does nothing. A text is written in pieces, and left as a whole.
 
 ghost use Rattle.std.specs.Prelude.{◌≡◌, ◌≤◌, ◌^◌, IfOk, false, length, nat_lt};
-ghost use Rattle.std.specs.Int.{w64, to_be_bytes};
 ghost use Rattle.mailbox.specs.MailboxMeaning.{IsWriting, ticked};
 ghost use Rattle.mailbox.specs.UserWishes.{fetching, leaving, wished, writing};
 ghost use Rattle.mailbox.specs.declared.held.Held.{Held};
@@ -45,7 +44,7 @@ pub fn leave(to: NodeId) -> u64
 /// The moment at which a node writes these bytes behind its draft, where they are at least one and at most seven.
 fn piece(bytes: &[u8]) -> u64
     ensures wish { nat_lt result (2 ^ 63) ≡ false }
-    ensures writes { (held : Held) → 1 ≤ length bytes.now → length bytes.now ≤ 7 → wished held (to_be_bytes w64 result) ≡ writing held bytes.now }
+    ensures writes { (held : Held) → 1 ≤ length bytes.now → length bytes.now ≤ 7 → wished held result ≡ writing held bytes.now }
 {
     match *bytes {
         [a] => u64::from_be_bytes([FETCH_WISH + 1, 0, 0, 0, 0, 0, 0, a]),
