@@ -5,9 +5,7 @@ ghost use Rattle.std.specs.List.{All};
 ghost use Rattle.evidence.specs.Contents.{Contents};
 ghost use Rattle.witness_core.specs.Answering.{IsCheckedFor};
 
-use crate::network::{last_statement, log_of};
 use crate::scenes::Pair;
-use crate::witness::Store;
 use accuracy::exposes;
 use anyhow::{Result, bail};
 use authenticators::{Directory, NodeId};
@@ -18,7 +16,11 @@ use evidence_set::Indication;
 use ref_programs::Tally;
 use replay_verifier::Program;
 use std::alloc::Global;
+use tours::network::{last_statement, log_of};
 use witness_core::{Event, Reply, World, run};
+
+/// The store that each witness fills.
+type Store = tours::witness::Store<Tally>;
 
 /// How many witnesses there are.
 pub const WITNESSES: u64 = 3;
@@ -100,7 +102,7 @@ fn take_other_history(
     world: &mut World<Tally, Store>,
 ) -> Result<()> {
     let mut nodes = Pair::begin(alloc, directory, 2, 3)?;
-    nodes.send(7)?;
+    nodes.send(alloc, 7)?;
     let told = Box::new(alloc, last_statement(alloc, &nodes.one)?)?;
     take(alloc, &Tally, world, 0, &told)
 }
@@ -169,7 +171,7 @@ impl Spreading {
         let mut world = new_world(alloc, directory)?;
         take_other_history(alloc, directory, &mut world)?;
         let mut nodes = Pair::begin(alloc, directory, 1, 2)?;
-        nodes.exchange(5)?;
+        nodes.exchange(alloc, 5)?;
         take_logs(alloc, &mut nodes, &mut world)?;
         Ok(Spreading { world, nodes })
     }
