@@ -3,7 +3,7 @@
 
 What the engine writes for an input is proved over any reader and writer. That `main` hands the real ones to it, prints a refusal and
 ends with the right status is shown here: each run names its input, its words, and what must come out. Both builds are run, that of LLVM
-and that of Rattle's own compiler, where they are there. Wants crates/node_sim/out/node_sim, which `rt ci` and `rt run` leave.
+and that of Rattle's own compiler, where they are there. Wants crates/node_sim/out/node_sim, and beside it mailbox_sim and explain, which `rt ci` and `rt run` leave.
 """
 
 import itertools
@@ -122,16 +122,35 @@ def sessions():
         yield commands, "".join(f"{line}\n" for line in lines if not line.startswith("$ "))
 
 
+def beside(build, program):
+    """The build of another program by the same compiler."""
+    return f"{TOP}/crates/{program}/out/{program}{os.path.basename(build).removeprefix('node_sim')}"
+
+
 def page(build):
     """The page of examples, command by command, in a copy of their folder."""
     with tempfile.TemporaryDirectory() as folder:
         shutil.copytree(f"{TOP}/examples", f"{folder}/examples")
         os.symlink(build, f"{folder}/node_sim")
+        os.symlink(beside(build, "explain"), f"{folder}/explain")
         words = {**os.environ, "PATH": f"{folder}:{os.environ['PATH']}"}
         for commands, want in sessions():
             done = subprocess.run(["bash", "-c", "\n".join(commands)], cwd=f"{folder}/examples", env=words, capture_output=True)
             got = (done.returncode, done.stdout.decode(), done.stderr.decode())
             yield f"the page of examples: {commands[-1]}", got, lambda got, want=want: got == (0, want, "")
+
+
+def other_program(build):
+    """mailbox_sim, which has the same words but for the flag: nodes that sign two hashes are exposed whatever they run."""
+    sim = beside(build, "mailbox_sim")
+    with open(f"{TOP}/examples/equivocation.txt", "rb") as file:
+        example = file.read()
+    told = run(build, ["status"], at_once(example))
+    yield "mailbox_sim: status", run(sim, ["status"], at_once(example)), lambda got: got == told
+    for words in [[], ["status", "--relay"], ["run", "--relay"], ["prove"], ["--help"]]:
+        yield f"mailbox_sim: the words {' '.join(words)}", run(sim, words, at_once(example)), lambda got: got[0] == 2 and got[1] == ""
+    yield "mailbox_sim: its name", run(sim, ["--help"]), lambda got: "Usage: mailbox_sim" in got[2]
+    yield "mailbox_sim: a refusal", run(sim, ["check"], at_once(b"")), lambda got: got == (1, "", "refused 104 LineCount\n")
 
 
 def scenes():
@@ -260,7 +279,7 @@ def main():
         if loops := probing_loops(build):
             failed += 1
             print(f"{os.path.basename(build)}: {loops} loops probe the stack with r11")
-        for name, got, is_right in itertools.chain(cases(build), plays(build), spread(build), page(build), scenes()):
+        for name, got, is_right in itertools.chain(cases(build), plays(build), spread(build), page(build), other_program(build), scenes()):
             done += 1
             if not is_right(got):
                 failed += 1
