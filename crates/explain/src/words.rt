@@ -74,7 +74,7 @@ fn flag<'a>(alloc: Global, name: &'a str, help: &'a str) -> Arg<'a> {
 }
 
 /// A command with both flags.
-fn subject<'a>(alloc: Global, name: &'a str, about: &'a str) -> Result<Command<'a>, AllocError> {
+fn explaining<'a>(alloc: Global, name: &'a str, about: &'a str) -> Result<Command<'a>, AllocError> {
     Command::new(alloc, name)
         .about(about)
         .arg(flag(
@@ -91,12 +91,12 @@ fn subject<'a>(alloc: Global, name: &'a str, about: &'a str) -> Result<Command<'
 
 /// The program's command.
 fn command<'a>(alloc: Global) -> Result<Command<'a>, AllocError> {
-    let store = subject(
+    let store = explaining(
         alloc,
         "store",
         "Writes what a store says of each node, and why. Two lines: a directory, a store",
     )?;
-    let proof = subject(
+    let proof = explaining(
         alloc,
         "proof",
         "Writes whom a proof convicts, and why. Two lines: a directory, a proof",
