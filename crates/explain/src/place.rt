@@ -23,21 +23,31 @@ pub enum Place {
     Behind(u64),
 }
 
+/// The form of an item, by its first byte.
+#[derive(Clone, Copy, Debug)]
+pub enum Form {
+    Statement,
+    Segment,
+    AuditChallenge,
+    SendChallenge,
+    Acknowledgement,
+}
+
 /// What was read of an item: which form its first byte says, and the nodes and the number behind that.
 #[derive(Clone, Copy, Debug)]
 pub enum Told {
     /// Nothing: there is no such item, or its first byte is none that begins one.
     Nothing,
     /// A form alone.
-    Form(&'static str),
+    Form(Form),
     /// A form and its node.
-    Of(&'static str, NodeId),
+    Of(Form, NodeId),
     /// A form, its node, and the number of an entry: a statement's, a segment's first, or one that an audit challenge asks for.
-    At(&'static str, NodeId, u64),
+    At(Form, NodeId, u64),
     /// A form of a message, its sender and its receiver.
-    Between(&'static str, NodeId, NodeId),
+    Between(Form, NodeId, NodeId),
     /// A form of a message, its sender, its receiver, and the number of the entry that sent it.
-    Sent(&'static str, NodeId, NodeId, u64),
+    Sent(Form, NodeId, NodeId, u64),
 }
 
 /// The bytes of an item of a store's text, behind so many others, or as many as there are of it.
@@ -54,7 +64,7 @@ fn item_at(text: &[u8], count: u64) -> Result<&[u8], FieldFault> {
 }
 
 /// What is read of an item of one node, whose number stands behind so many bytes more.
-fn read_one(form: &'static str, fields: &[u8], between: usize) -> Told {
+fn read_one(form: Form, fields: &[u8], between: usize) -> Told {
     let mut reader = FieldReader::new(fields);
     let Ok(node) = reader.u32() else {
         return Told::Form(form);
@@ -70,7 +80,7 @@ fn read_one(form: &'static str, fields: &[u8], between: usize) -> Told {
 }
 
 /// What is read of an item of a message.
-fn read_message(form: &'static str, fields: &[u8]) -> Told {
+fn read_message(form: Form, fields: &[u8]) -> Told {
     let mut reader = FieldReader::new(fields);
     let (Ok(from), Ok(to)) = (reader.u32(), reader.u32()) else {
         return Told::Form(form);
@@ -85,11 +95,11 @@ fn read_message(form: &'static str, fields: &[u8]) -> Told {
 /// behind a flag.
 fn told_of(item: &[u8]) -> Told {
     match item {
-        [1, fields @ ..] => read_one("a statement", fields, 0),
-        [2, fields @ ..] => read_one("a segment", fields, 36),
-        [3, fields @ ..] => read_one("an audit challenge", fields, 1),
-        [4, fields @ ..] => read_message("a send challenge", fields),
-        [5, fields @ ..] => read_message("an acknowledgement", fields),
+        [1, fields @ ..] => read_one(Form::Statement, fields, 0),
+        [2, fields @ ..] => read_one(Form::Segment, fields, 36),
+        [3, fields @ ..] => read_one(Form::AuditChallenge, fields, 1),
+        [4, fields @ ..] => read_message(Form::SendChallenge, fields),
+        [5, fields @ ..] => read_message(Form::Acknowledgement, fields),
         _ => Told::Nothing,
     }
 }
@@ -121,6 +131,18 @@ impl Place {
                 Err(_) => Place::Item(fault.item, Told::Nothing),
             },
         }
+    }
+}
+
+impl fmt::Display for Form {
+    fn fmt<W: fmt::Write>(&self, f: &mut fmt::Formatter<W>) -> fmt::Result {
+        f.write_str(match self {
+            Form::Statement => "a statement",
+            Form::Segment => "a segment",
+            Form::AuditChallenge => "an audit challenge",
+            Form::SendChallenge => "a send challenge",
+            Form::Acknowledgement => "an acknowledgement",
+        })
     }
 }
 
