@@ -4,7 +4,7 @@ use Rattle.std.specs.Prelude.{option_and_then}
 use Rattle.clap.specs.Matches.{subcommand_name_of}
 use Rattle.clap.specs.Words.{App, HasMatchesOf, Row, Text, is_simple, is_simple_and_free, subcommand_of, subcommand_rows_of}
 use Rattle.clap.specs.declared.parser.matches.ArgMatches.{ArgMatches}
-use Rattle.command_words.specs.CommandLine.{AsksFor, Names, flag_in, flag_of, found_in, plain, program_of, prove, run, with_flag}
+use Rattle.command_words.specs.CommandLine.{AsksFor, Names, flag_in, flag_of, found_in, plain, program_of, prove, run}
 use Rattle.commands.specs.declared.task.Task.{Task}
 
 both_first : (a b : Bool) → (a && b) ≡ true → a ≡ true

@@ -1,9 +1,9 @@
 -- Plain lines: what clap finds in them.
-use Rattle.std.proofs.Common.{◌≡◌, ◌∙◌, ℕ, Bool, false, true, ap, arith, codes, inl, inr, refl, subst, sym, List, [], ◌∷◌, Option, Some, None, option_map, ◌⊎◌}
+use Rattle.std.proofs.Common.{◌≡◌, ◌∙◌, ℕ, Bool, false, true, ap, arith, codes, inl, inr, refl, subst, sym, List, [], ◌∷◌, Option, Some, None, option_map}
 use Rattle.std.specs.Prelude.{option_and_then}
 use Rattle.clap.proofs.OnLiterals.{clap_on_literals}
 use Rattle.clap.specs.Words.{Row, Text, one_of}
-use Rattle.command_words.specs.CommandLine.{AsksFor, IsNumber, Names, flag_in, found_in, word_faults}
+use Rattle.command_words.specs.CommandLine.{IsNumber, Names, flag_in, found_in, word_faults}
 use Rattle.command_words.specs.PlainLines.{IsPlainLine, IsPlainName, IsTaken, flag_text}
 use Rattle.commands.specs.declared.task.Task.{Task}
 use Rattle.commands.specs.declared.task.Task.TheVariants.{Check, Merge, Prove, Run, Status}

@@ -1,6 +1,6 @@
 -- The words of the command line of a program with the five commands: its command, in clap's terms, what clap refuses of the words, and
 -- what they ask for. A program may have a flag of its own, by which its nodes run another program.
-use Rattle.std.specs.Prelude.{◌≡◌, ℕ, false, true, codes, pos, List, [], ◌∷◌, Option, Some, None, Ok, fold, option_and_then, option_map}
+use Rattle.std.specs.Prelude.{◌≡◌, ℕ, true, codes, pos, List, [], ◌∷◌, Option, Some, None, Ok, fold, option_and_then, option_map}
 use Rattle.std.specs.Str.Parse.{ParsesUnsigned}
 use Rattle.clap.specs.Simple.{on_top}
 use Rattle.clap.specs.Words.{App, Kinds, Row, Rule, Text, fault_of, new_app, new_rule, one_of, subcommand_of, with_rule, with_subcommand}

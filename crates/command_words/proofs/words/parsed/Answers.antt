@@ -1,7 +1,7 @@
 use Rattle.std.proofs.Common.{◌≡◌, ◌∙◌, ap, rules, subst, sym, List, Option}
-use Rattle.clap.specs.Words.{App, HasKind, Kinds, Text, fault_of, is_simple_and_free, kind_of}
+use Rattle.clap.specs.Words.{App, HasKind, Kinds, Text, fault_of, is_simple_and_free}
 use Rattle.clap.specs.declared.error.Error.{Error}
-use Rattle.command_words.specs.CommandLine.{flag_name, program_of, word_faults}
+use Rattle.command_words.specs.CommandLine.{program_of, word_faults}
 use Rattle.command_words.proofs.FoundWords.{asked, flag_here, named_here}
 use Rattle.command_words.proofs.words.parsed.Goals as goal
 
