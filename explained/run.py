@@ -1,7 +1,7 @@
 #!/usr/bin/env python3
 """Holds what `explain` writes of each file of examples/ to what is stored in examples/explained/, text and page, by both builds.
 
-A file of one store is explained as it is; one of several is refused so, and explained once `node_sim merge` has made one store of
+A scenario is refused. A file of one store is explained as it is; one of several is refused so, and explained once `node_sim merge` has made one store of
 them. Of each node that the store exposes, what `node_sim prove` writes is explained as well. Then inputs that are refused: each is
 made of an example by a change of one place, and the line that tells it must name that place, by this script's own reading of the formats.
 
@@ -52,6 +52,7 @@ def inputs():
             text = it.read()
         lines = text.splitlines(keepends=True)
         if name == "scenario":
+            yield name, "store", text
             continue
         if len(lines) > 2:
             yield f"{name}.stores", "store", text
