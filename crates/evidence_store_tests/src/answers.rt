@@ -1,8 +1,9 @@
 //! A demand to acknowledge a message, and items beside it, which answer it or do not.
 
-use crate::samples::{Nodes, Said, Signer, Start, make_nodes, new_store, said_by, take, turned};
+use crate::samples::{Said, new_store, said_by, take, turned};
 use commitment::Message;
 use evidence_item::Item;
+use evidence_samples::{Nodes, Signer, Start, make_nodes};
 use evidence_set::Indication;
 use evidence_store::{Evidence, IndexedStore, PlainStore};
 use ref_programs::Tally;

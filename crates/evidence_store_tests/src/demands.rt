@@ -1,8 +1,9 @@
 //! The demands to node 2 that are open, item by item, while their answers come.
 
-use crate::samples::{Nodes, Signer, make_nodes, new_store, take_copy};
+use crate::samples::{new_store, take_copy};
 use authenticators::NodeId;
 use evidence_item::Item;
+use evidence_samples::{Nodes, Signer, make_nodes};
 use evidence_store::{Evidence, IndexedStore, PlainStore};
 use ref_programs::Tally;
 use std::alloc::Global;

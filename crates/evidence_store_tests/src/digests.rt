@@ -1,7 +1,8 @@
 //! The digests of a store's items, and which items it has.
 
-use crate::samples::{Nodes, ZEROS, make_nodes, new_store, take};
+use crate::samples::{new_store, take};
 use evidence_item::Item;
+use evidence_samples::{Nodes, ZEROS, make_nodes};
 use evidence_store::{Evidence, IndexedStore, PlainStore};
 use log_chain::Hash;
 use ref_programs::Tally;

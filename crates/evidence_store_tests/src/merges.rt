@@ -1,7 +1,8 @@
 //! Three witnesses of the same items, which came in three orders, or to one of them each and crosswise to the others.
 
-use crate::samples::{Nodes, ZEROS, make_nodes, new_store, take_copy};
+use crate::samples::{new_store, take_copy};
 use evidence_item::Item;
+use evidence_samples::{Nodes, ZEROS, make_nodes};
 use evidence_store::{Evidence, IndexedStore, PlainStore};
 use log_chain::Hash;
 use ref_programs::Tally;

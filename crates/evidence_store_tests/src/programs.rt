@@ -1,8 +1,8 @@
 //! One log, before stores whose nodes are to follow one program and another.
 
-use crate::samples::{Nodes, Start, entry, make_nodes, receipt};
 use authenticators::NodeId;
 use evidence_item::{Item, check_item};
+use evidence_samples::{Nodes, Start, entry, make_nodes, receipt};
 use evidence_set::Indication;
 use evidence_store::{Evidence, IndexedStore, PlainStore};
 use log_chain::Entry;

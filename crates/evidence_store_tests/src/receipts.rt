@@ -1,11 +1,10 @@
 //! What node 1 sends as a node does, in node 2's log: as it was sent, and otherwise.
 
-use crate::samples::{
-    Nodes, Start, entry, key_of, make_nodes, new_store, receipt, said_by, take_copy, turned,
-};
+use crate::samples::{new_store, said_by, take_copy, turned};
 use authenticators::NodeId;
 use commitment::{Message, Node};
 use evidence_item::{Item, Reason, Verdict, check_item};
+use evidence_samples::{Nodes, Start, entry, key_of, make_nodes, receipt};
 use evidence_set::Indication;
 use evidence_store::{Evidence, IndexedStore, PlainStore};
 use log_chain::kind::{SEND, TIMER};

@@ -1,8 +1,9 @@
 //! Two statements of node 1 on one entry, and the first of them once more.
 
-use crate::samples::{Nodes, Said, ZEROS, make_nodes, new_store, said_by, take_copy};
+use crate::samples::{Said, new_store, said_by, take_copy};
 use authenticators::NodeId;
 use evidence_item::Item;
+use evidence_samples::{Nodes, ZEROS, make_nodes};
 use evidence_set::Indication;
 use evidence_store::{Evidence, IndexedStore, PlainStore};
 use log_chain::Hash;

@@ -1,7 +1,8 @@
 //! The text of two items, which is read under the magic of today and under the one of before.
 
-use crate::samples::{Nodes, make_nodes, new_store, take};
+use crate::samples::{new_store, take};
 use authenticators::Directory;
+use evidence_samples::{Nodes, make_nodes};
 use evidence_store::{Evidence, IndexedStore, PlainStore};
 use log_chain::Hash;
 use ref_programs::Tally;

@@ -1,7 +1,8 @@
 //! What is told of challenges that are open, and of trust.
 
-use crate::samples::{Nodes, make_nodes, told_of_items};
+use crate::samples::told_of_items;
 use evidence_item::Item;
+use evidence_samples::{Nodes, make_nodes};
 use std::alloc::Global;
 use std::test::Fail;
 

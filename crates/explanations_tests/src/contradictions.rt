@@ -1,8 +1,9 @@
 //! What is told of statements that contradict each other, or a segment.
 
-use crate::samples::{Nodes, Start, entry, make_nodes, told_of_items, told_of_proof};
+use crate::samples::{told_of_items, told_of_proof};
 use authenticators::NodeId;
 use evidence_item::Item;
+use evidence_samples::{Nodes, Start, entry, make_nodes};
 use log_chain::Hash;
 use log_chain::kind::TIMER;
 use std::alloc::Global;

@@ -1,8 +1,9 @@
 //! What is told of a segment that deviates.
 
-use crate::samples::{Nodes, entry, make_nodes, told_of_items, told_of_proof};
+use crate::samples::{told_of_items, told_of_proof};
 use authenticators::NodeId;
 use evidence_item::Item;
+use evidence_samples::{Nodes, entry, make_nodes};
 use log_chain::base_hash;
 use log_chain::kind::{INIT, SEND, TIMER};
 use std::alloc::Global;

@@ -1,0 +1,152 @@
+//! Items and messages that a node signs.
+
+use crate::entries::{ZEROS, entries_of_log, entry, hash_in_log, receipt};
+use crate::nodes::Signer;
+use authenticators::{Authenticator, NodeId};
+use commitment::Message;
+use evidence_item::Item;
+use item_forms::Statement;
+use log_chain::kind::{CHECKPOINT, INIT};
+use log_chain::{ByteString, Entry, Hash, base_hash, chain_end};
+use std::alloc::Global;
+use std::test::Fail;
+
+/// Where a segment of node 2 begins.
+#[derive(Clone, Copy)]
+pub enum Start {
+    /// With INIT under the number 1.
+    Init,
+    /// With a CHECKPOINT of the total 0 under the number 1, after a hash of 32 zero bytes.
+    Checkpoint,
+}
+
+/// The hash before a segment of node 2 that begins so, and its first entry.
+fn beginning(alloc: Global, start: Start) -> Result<(Hash, Entry), Fail> {
+    match start {
+        Start::Init => Ok((base_hash(), entry(alloc, 1, INIT, &[0, 0, 0, 2])?)),
+        Start::Checkpoint => Ok((ZEROS, entry(alloc, 1, CHECKPOINT, &[0; 8])?)),
+    }
+}
+
+impl Signer {
+    /// The statement that the entry with this number has this hash. Its signature has a C of one byte 32 times over.
+    pub fn statement(
+        &mut self,
+        alloc: Global,
+        seq: u64,
+        hash: Hash,
+        c: u8,
+    ) -> Result<Box<Item>, Fail> {
+        let item = Item::auth(Authenticator {
+            node: self.node,
+            seq,
+            hash,
+            sig: self.sign(alloc, seq, hash, c)?,
+        })?;
+        Ok(Box::new(alloc, item)?)
+    }
+
+    /// The statement on an entry of node 2's log, which this node signs.
+    fn logged(&mut self, alloc: Global, seq: u64) -> Result<Statement, Fail> {
+        let hash = hash_in_log(alloc, seq)?;
+        Ok(Statement {
+            seq,
+            hash,
+            sig: self.sign(alloc, seq, hash, 9)?,
+        })
+    }
+
+    /// The demand to show the log up to its sixth entry, from the one with this number on, or from its beginning.
+    pub fn audit(&mut self, alloc: Global, from: Option<u64>) -> Result<Box<Item>, Fail> {
+        let first = match from {
+            Some(seq) => Some(self.logged(alloc, seq)?),
+            None => None,
+        };
+        let last = self.logged(alloc, 6)?;
+        let item = Item::audit(self.node, first, last)?;
+        Ok(Box::new(alloc, item)?)
+    }
+
+    /// The message to node 2 with this number, after 32 zero bytes. Its signature has a C of one byte 32 times over.
+    pub fn message(
+        &mut self,
+        alloc: Global,
+        seq: u64,
+        payload: &[u8],
+        c: u8,
+    ) -> Result<Box<Message>, Fail> {
+        let payload = ByteString::from_slice(alloc, payload)?;
+        let message = Message {
+            from: self.node,
+            to: NodeId(2),
+            seq,
+            prev: ZEROS,
+            sig: ByteString::from_vec(Vec::new(alloc)),
+            payload,
+        };
+        let mut message = Box::new(alloc, message)?;
+        let hash = message.signed_hash();
+        message.sig = self.sign(alloc, seq, hash, c)?;
+        Ok(message)
+    }
+
+    /// The message with this node's acknowledgement, whose RECV entry has the number 11.
+    pub fn acknowledged(
+        &mut self,
+        alloc: Global,
+        message: Box<Message>,
+    ) -> Result<Box<Item>, Fail> {
+        let hash = message.received_hash(11, ZEROS);
+        let sig = self.sign(alloc, 11, hash, 9)?;
+        let item = Item::ack(Box::into_inner(message), 11, ZEROS, sig)?;
+        Ok(Box::new(alloc, item)?)
+    }
+
+    /// The segment of these entries, which begins so.
+    pub fn segment(
+        &mut self,
+        alloc: Global,
+        start: Start,
+        more: Vec<Entry>,
+    ) -> Result<Box<Item>, Fail> {
+        let (prev, first) = beginning(alloc, start)?;
+        let mut entries = Vec::new(alloc);
+        entries.push(first)?;
+        for entry in more {
+            entries.push(entry)?;
+        }
+        self.part(alloc, prev, entries)
+    }
+
+    /// The segment of these entries, behind this hash.
+    pub fn part(
+        &mut self,
+        alloc: Global,
+        prev: Hash,
+        entries: Vec<Entry>,
+    ) -> Result<Box<Item>, Fail> {
+        let seq = entries.last().map_or(0, |entry| entry.seq);
+        let sig = self.sign(alloc, seq, chain_end(prev, &entries), 9)?;
+        let item = Item::segment(self.node, prev, entries, sig)?;
+        Ok(Box::new(alloc, item)?)
+    }
+
+    /// Node 2's log, from the entry with this number on.
+    pub fn log_from(&mut self, alloc: Global, seq: u64) -> Result<Box<Item>, Fail> {
+        let prev = hash_in_log(alloc, seq.saturating_sub(1))?;
+        let entries = entries_of_log(alloc, seq, 6)?;
+        self.part(alloc, prev, entries)
+    }
+
+    /// The segment that begins so and receives the message.
+    pub fn receiving(
+        &mut self,
+        alloc: Global,
+        start: Start,
+        message: &Message,
+    ) -> Result<Box<Item>, Fail> {
+        let mut entries = Vec::new(alloc);
+        entries.push(receipt(alloc, 2, message)?)?;
+        self.segment(alloc, start, entries)
+    }
+}

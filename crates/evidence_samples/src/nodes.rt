@@ -1,0 +1,70 @@
+//! The nodes 1 and 2, their keys and their directory.
+
+use authenticators::{Directory, NodeId, statement_text};
+use lms_sign::{LmsType, OtsType, SecretKey};
+use log_chain::{ByteString, Hash};
+use std::alloc::Global;
+use std::test::Fail;
+
+/// A node's number, and a key that is equal to the node's.
+#[derive(Drop)]
+pub struct Signer {
+    pub(crate) node: NodeId,
+    key: Box<SecretKey>,
+}
+
+/// The nodes that sign, under their directory.
+#[derive(Drop)]
+pub struct Nodes {
+    /// It lists both nodes, each with its key.
+    pub directory: Box<Directory>,
+    /// Node 1.
+    pub one: Signer,
+    /// Node 2.
+    pub two: Signer,
+}
+
+/// The key (H5, W1) whose identifier and seed end in the number.
+pub fn key_of(alloc: Global, node: u8) -> Result<Box<SecretKey>, Fail> {
+    let mut id = [0; 16];
+    id[15] = node;
+    let mut seed = [0; 32];
+    seed[31] = node;
+    let key = SecretKey::make(alloc, LmsType::H5, OtsType::W1, id, seed)?;
+    Ok(Box::new(alloc, key)?)
+}
+
+fn make_signer(alloc: Global, node: u8) -> Result<Signer, Fail> {
+    Ok(Signer {
+        node: NodeId(u32::from(node)),
+        key: key_of(alloc, node)?,
+    })
+}
+
+/// Both nodes, before they sign anything.
+pub fn make_nodes(alloc: Global) -> Result<Nodes, Fail> {
+    let one = make_signer(alloc, 1)?;
+    let two = make_signer(alloc, 2)?;
+    let mut directory = Box::new(alloc, Directory::new(alloc))?;
+    directory.add(one.node, one.key.public_key())?;
+    directory.add(two.node, two.key.public_key())?;
+    Ok(Nodes {
+        directory,
+        one,
+        two,
+    })
+}
+
+impl Signer {
+    /// The signature of the statement that the entry with this number has this hash. Its C is one byte 32 times over.
+    pub(crate) fn sign(
+        &mut self,
+        alloc: Global,
+        seq: u64,
+        hash: Hash,
+        c: u8,
+    ) -> Result<ByteString, Fail> {
+        let sig = self.key.sign(alloc, &statement_text(seq, hash), [c; 32])?;
+        Ok(ByteString::from_vec(sig))
+    }
+}
