@@ -5,7 +5,7 @@ set -eu
 cd "$(dirname "$0")"
 work=$(mktemp -d)
 trap 'rm -rf "$work"' EXIT
-../build.sh "$work" workers outcome sha256_lanes lms_sign log_chain authenticators replay_verifier ref_programs commitment item_forms evidence_item claims parallel_checking
+../build.sh "$work" workers outcome sha256_lanes lms_sign log_chain authenticators replay_verifier ref_programs commitment item_forms evidence_item parallel_map parallel_checking
 grep -m1 'model name' /proc/cpuinfo
 echo "$(nproc) processors"
 uptime

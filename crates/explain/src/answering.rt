@@ -18,12 +18,12 @@ fn store_text<P: Program>(
     input: Vec<u8>,
 ) -> Result<Vec<u8>, Refusal> {
     let store: IndexedStore<P> = read_store(alloc, program, input)?;
-    let account = explain_store::<P, IndexedStore<P>>(alloc, program, &store)?;
+    let explanation = explain_store::<P, IndexedStore<P>>(alloc, program, &store)?;
     if html {
         let rows = rows_of::<P, IndexedStore<P>>(alloc, &store)?;
-        return Ok(page_of(alloc, &account, &rows)?);
+        return Ok(page_of(alloc, &explanation, &rows)?);
     }
-    Ok(text_of(alloc, &account)?.into_bytes())
+    Ok(text_of(alloc, &explanation)?.into_bytes())
 }
 
 /// What a proof says: a text, or a page.
@@ -40,9 +40,9 @@ fn proof_text<P: Program>(
     };
     if html {
         let rows = rows_of_proof(alloc, &directory, &proof)?;
-        return Ok(page_of(alloc, &conviction.account, &rows)?);
+        return Ok(page_of(alloc, &conviction.explanation, &rows)?);
     }
-    Ok(text_of(alloc, &conviction.account)?.into_bytes())
+    Ok(text_of(alloc, &conviction.explanation)?.into_bytes())
 }
 
 /// What the input says, of nodes that follow the program.

@@ -2,7 +2,7 @@
 
 use crate::marks::{Marks, SentenceId};
 use authenticators::NodeId;
-use explanations::Account;
+use explanations::Explanation;
 use known_logs::{Cell, Detail, Place, Rows};
 use std::alloc::{AllocError, Global};
 use std::collections::{BTreeMap, BTreeSet};
@@ -264,9 +264,13 @@ impl Choice {
 }
 
 /// The nodes that are told of, or of whose logs something is known, in ascending order.
-fn nodes_of(alloc: Global, account: &Account, rows: &Rows) -> Result<BTreeSet<u32>, AllocError> {
+fn nodes_of(
+    alloc: Global,
+    explanation: &Explanation,
+    rows: &Rows,
+) -> Result<BTreeSet<u32>, AllocError> {
     let mut nodes = BTreeSet::new(alloc);
-    for told in &account.nodes {
+    for told in &explanation.nodes {
         nodes.insert(told.node.0)?;
     }
     for node in rows.nodes(alloc)? {
@@ -291,7 +295,7 @@ fn has_row(rows: &Rows, node: NodeId, marks: &Marks, nodes: usize) -> bool {
 /// ends; of more than 200 nodes those have rows of which the sentences speak.
 pub(crate) fn choice_of(
     alloc: Global,
-    account: &Account,
+    explanation: &Explanation,
     rows: &Rows,
     marks: &Marks,
 ) -> Result<Choice, AllocError> {
@@ -300,7 +304,7 @@ pub(crate) fn choice_of(
         rows: Vec::new(alloc),
         cells: Vec::new(alloc),
     };
-    let nodes = nodes_of(alloc, account, rows)?;
+    let nodes = nodes_of(alloc, explanation, rows)?;
     for node in nodes.iter() {
         let node = NodeId(*node);
         if has_row(rows, node, marks, nodes.len()) {

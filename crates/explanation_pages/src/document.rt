@@ -8,7 +8,7 @@ use crate::style::{LEGEND, STYLE};
 use crate::tables::write_table;
 use authenticators::NodeId;
 use evidence_set::Indication;
-use explanations::{Account, Mark, NodeAccount, Sentence};
+use explanations::{Explanation, Mark, NodeExplanation, Sentence};
 use known_logs::Rows;
 use page_text::Page;
 use page_text::Piece::{Markup, Number, Text};
@@ -51,7 +51,7 @@ fn write_head(page: &mut Page, heading: &[u8]) -> Result<(), AllocError> {
 }
 
 /// Writes a node's link at the top.
-fn write_chip(page: &mut Page, told: &NodeAccount) -> Result<(), AllocError> {
+fn write_chip(page: &mut Page, told: &NodeExplanation) -> Result<(), AllocError> {
     page.write(&[
         Markup("<li class=\""),
         Markup(word(told.indication)),
@@ -68,7 +68,7 @@ fn write_chip(page: &mut Page, told: &NodeAccount) -> Result<(), AllocError> {
 }
 
 /// Writes the links to the nodes.
-fn write_chips(page: &mut Page, nodes: &[NodeAccount]) -> Result<(), AllocError> {
+fn write_chips(page: &mut Page, nodes: &[NodeExplanation]) -> Result<(), AllocError> {
     page.markup("<nav aria-label=\"Nodes\"><ul class=\"nodes\">\n")?;
     for told in nodes {
         write_chip(page, told)?;
@@ -159,7 +159,7 @@ fn write_sentence(page: &mut Page, id: SentenceId, sentence: &Sentence) -> Resul
 }
 
 /// Writes a node's sentences.
-fn write_sentences(page: &mut Page, told: &NodeAccount) -> Result<(), AllocError> {
+fn write_sentences(page: &mut Page, told: &NodeExplanation) -> Result<(), AllocError> {
     page.markup("<ul class=\"sentences\">\n")?;
     let NodeId(node) = told.node;
     let mut number: u64 = 1;
@@ -217,12 +217,12 @@ fn write_row(
 fn write_told(
     alloc: Global,
     page: &mut Page,
-    account: &Account,
+    explanation: &Explanation,
     rows: &Rows,
     choice: &Choice,
 ) -> Result<BTreeSet<u32>, AllocError> {
     let mut written = BTreeSet::new(alloc);
-    for told in &account.nodes {
+    for told in &explanation.nodes {
         write_heading(page, told.node, Some(told.indication))?;
         write_sentences(page, told)?;
         write_row(page, rows, choice, told.node)?;
@@ -247,16 +247,20 @@ fn write_others(
     Ok(())
 }
 
-/// The page of an account, in UTF-8: HTML with its style and its picture in it. It runs nothing and loads nothing, and whatever is of
+/// The page of an explanation, in UTF-8: HTML with its style and its picture in it. It runs nothing and loads nothing, and whatever is of
 /// evidence is escaped.
-pub fn page_of(alloc: Global, account: &Account, rows: &Rows) -> Result<Vec<u8>, AllocError> {
-    let marks = Marks::of_account(alloc, account)?;
-    let choice = choice_of(alloc, account, rows, &marks)?;
+pub fn page_of(
+    alloc: Global,
+    explanation: &Explanation,
+    rows: &Rows,
+) -> Result<Vec<u8>, AllocError> {
+    let marks = Marks::of_explanation(alloc, explanation)?;
+    let choice = choice_of(alloc, explanation, rows, &marks)?;
     let mut page = Page::new(alloc);
-    write_head(&mut page, account.heading.as_bytes())?;
-    write_chips(&mut page, &account.nodes)?;
+    write_head(&mut page, explanation.heading.as_bytes())?;
+    write_chips(&mut page, &explanation.nodes)?;
     write_picture(alloc, &mut page, rows, &choice)?;
-    let written = write_told(alloc, &mut page, account, rows, &choice)?;
+    let written = write_told(alloc, &mut page, explanation, rows, &choice)?;
     write_others(&mut page, &written, rows, &choice)?;
     page.markup("</main>\n</body>\n</html>\n")?;
     Ok(page.into_bytes())

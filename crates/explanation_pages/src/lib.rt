@@ -1,4 +1,4 @@
-//! What a store of evidence, or a proof, says, as one page for a browser: the sentences of an `Account`, and a picture of the entries
+//! What a store of evidence, or a proof, says, as one page for a browser: the sentences of an `Explanation`, and a picture of the entries
 //! of which they speak.
 //!
 //! - [`Rows`] has what is known of each node's log, of a store ([`rows_of`]) or of a proof ([`rows_of_proof`]).
@@ -7,7 +7,7 @@
 #![tactic(auto)]
 
 pub use document::page_of;
-pub use explanations::Account;
+pub use explanations::Explanation;
 pub use known_logs::{Rows, rows_of, rows_of_proof};
 
 mod choosing;

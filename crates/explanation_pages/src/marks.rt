@@ -1,7 +1,7 @@
 //! Which entries the sentences speak of.
 
 use authenticators::NodeId;
-use explanations::{Account, NodeAccount, Sentence};
+use explanations::{Explanation, NodeExplanation, Sentence};
 use std::alloc::{AllocError, Global};
 use std::collections::BTreeMap;
 
@@ -36,7 +36,7 @@ fn note_sentence(
 fn note_node(
     alloc: Global,
     by_node: &mut BTreeMap<u32, BTreeMap<u64, SentenceId>>,
-    told: &NodeAccount,
+    told: &NodeExplanation,
 ) -> Result<(), AllocError> {
     let NodeId(node) = told.node;
     let mut number: u64 = 1;
@@ -48,10 +48,13 @@ fn note_node(
 }
 
 impl Marks {
-    /// The marks of an account.
-    pub(crate) fn of_account(alloc: Global, account: &Account) -> Result<Marks, AllocError> {
+    /// The marks of an explanation.
+    pub(crate) fn of_explanation(
+        alloc: Global,
+        explanation: &Explanation,
+    ) -> Result<Marks, AllocError> {
         let mut by_node = BTreeMap::new(alloc);
-        for told in &account.nodes {
+        for told in &explanation.nodes {
             note_node(alloc, &mut by_node, told)?;
         }
         Ok(Marks { by_node })

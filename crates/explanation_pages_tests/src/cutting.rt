@@ -3,7 +3,7 @@
 use authenticators::{Directory, NodeId};
 use evidence_set::Indication;
 use explanation_pages::{page_of, rows_of_proof};
-use explanations::{Account, Mark, NodeAccount, Sentence};
+use explanations::{Explanation, Mark, NodeExplanation, Sentence};
 use log_chain::{ByteString, Entry, Hash, kind};
 use proofs::{Item, Proof};
 use std::alloc::Global;
@@ -30,24 +30,24 @@ fn proof(alloc: Global, count: u64) -> Result<Box<Proof>, Fail> {
     Ok(Box::new(alloc, proof)?)
 }
 
-/// An account whose sentence marks entry 150 and entry 400.
-fn account(alloc: Global) -> Result<Box<Account>, Fail> {
+/// An explanation whose sentence marks entry 150 and entry 400.
+fn explanation(alloc: Global) -> Result<Box<Explanation>, Fail> {
     let node = NodeId(1);
     let marks = [Mark { node, seq: 150 }, Mark { node, seq: 400 }];
     let sentence = Sentence {
         text: String::from_str(alloc, "Marks two.")?,
         marks: Vec::from_slice(alloc, &marks)?,
     };
-    let told = NodeAccount {
+    let told = NodeExplanation {
         node,
         indication: Indication::Exposed,
         sentences: vec![in alloc; sentence]?,
     };
-    let account = Account {
+    let explanation = Explanation {
         heading: String::from_str(alloc, "1 node")?,
         nodes: vec![in alloc; told]?,
     };
-    Ok(Box::new(alloc, account)?)
+    Ok(Box::new(alloc, explanation)?)
 }
 
 /// The page of so many entries.
@@ -55,13 +55,13 @@ fn page(alloc: Global, count: u64) -> Result<Vec<u8>, Fail> {
     let directory = Box::new(alloc, Directory::new(alloc))?;
     let proof = proof(alloc, count)?;
     let rows = Box::new(alloc, rows_of_proof(alloc, &directory, &proof)?)?;
-    let account = account(alloc)?;
-    Ok(page_of(alloc, &account, &rows)?)
+    let explanation = explanation(alloc)?;
+    Ok(page_of(alloc, &explanation, &rows)?)
 }
 
-/// An account of this node, of which no sentence speaks.
-fn quiet(alloc: Global, node: u32) -> NodeAccount {
-    NodeAccount {
+/// An explanation of this node, of which no sentence speaks.
+fn quiet(alloc: Global, node: u32) -> NodeExplanation {
+    NodeExplanation {
         node: NodeId(node),
         indication: Indication::Trusted,
         sentences: Vec::new(alloc),
@@ -77,14 +77,14 @@ fn page_of_many(alloc: Global) -> Result<Vec<u8>, Fail> {
     for node in 0..25 {
         nodes.push(quiet(alloc, node))?;
     }
-    let account = Box::new(
+    let explanation = Box::new(
         alloc,
-        Account {
+        Explanation {
             heading: String::from_str(alloc, "25 nodes")?,
             nodes,
         },
     )?;
-    Ok(page_of(alloc, &account, &rows)?)
+    Ok(page_of(alloc, &explanation, &rows)?)
 }
 
 /// Whether the text stands in the page.

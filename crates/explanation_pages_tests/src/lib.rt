@@ -1,4 +1,4 @@
-//! Tests of pages: how text stands in them, and the page of a small account.
+//! Tests of pages: how text stands in them, and the page of a small explanation.
 #![tactic(auto)]
 
 #[cfg(test)]

@@ -3,7 +3,7 @@
 use authenticators::{Authenticator, Directory, NodeId};
 use evidence_set::Indication;
 use explanation_pages::{page_of, rows_of_proof};
-use explanations::{Account, Mark, NodeAccount, Sentence};
+use explanations::{Explanation, Mark, NodeExplanation, Sentence};
 use log_chain::{ByteString, Hash};
 use proofs::{Item, Proof};
 use std::alloc::Global;
@@ -41,18 +41,18 @@ fn sentences(alloc: Global) -> Result<Vec<Sentence>, Fail> {
     Ok(vec![in alloc; sentence]?)
 }
 
-/// An account that tells it.
-fn account(alloc: Global) -> Result<Box<Account>, Fail> {
-    let told = NodeAccount {
+/// An explanation that tells it.
+fn explanation(alloc: Global) -> Result<Box<Explanation>, Fail> {
+    let told = NodeExplanation {
         node: NodeId(1),
         indication: Indication::Exposed,
         sentences: sentences(alloc)?,
     };
-    let account = Account {
+    let explanation = Explanation {
         heading: String::from_str(alloc, "1 node")?,
         nodes: vec![in alloc; told]?,
     };
-    Ok(Box::new(alloc, account)?)
+    Ok(Box::new(alloc, explanation)?)
 }
 
 /// Its page.
@@ -60,8 +60,8 @@ fn page(alloc: Global) -> Result<Vec<u8>, Fail> {
     let directory = Box::new(alloc, Directory::new(alloc))?;
     let proof = proof(alloc)?;
     let rows = Box::new(alloc, rows_of_proof(alloc, &directory, &proof)?)?;
-    let account = account(alloc)?;
-    Ok(page_of(alloc, &account, &rows)?)
+    let explanation = explanation(alloc)?;
+    Ok(page_of(alloc, &explanation, &rows)?)
 }
 
 /// The page's beginning.

@@ -5,7 +5,7 @@ use Rattle.std.specs.List.{All, AllByRecursion, Contains}
 use Rattle.std.specs.List.Sorted.{IsStrictlyIncreasing}
 use Rattle.std.proofs.lemmas.List.{take_more}
 use Rattle.authenticators.specs.Directory.{Listing, is_listed}
-use Rattle.accounts.specs.declared.account.NodeAccount.{NodeAccount}
+use Rattle.sentences.specs.declared.explanation.NodeExplanation.{NodeExplanation}
 use Rattle.evidence_set.specs.declared.indication.Indication.{Indication}
 use Rattle.evidence_set.specs.Indications.{IsIndication}
 use Rattle.evidence.specs.Contents.{Contents}
@@ -67,7 +67,7 @@ rows_are program s given rows nodes e rising complete kept right = record {
 }
 
 -- what is told of the rows is what they say
-pub told_are : {S : Type 0} (program : Meaning S) (s : Contents) (rows : List NodeWhy) (told : List NodeAccount) → AreWhys program s rows → map told_of told ≡ map row_of rows → AreIndications program s told
+pub told_are : {S : Type 0} (program : Meaning S) (s : Contents) (rows : List NodeWhy) (told : List NodeExplanation) → AreWhys program s rows → map told_of told ≡ map row_of rows → AreIndications program s told
 told_are program s rows told w e =
     let nodes : map (λ n. n.node) told ≡ map (λ row. row.node) rows =
     sym (map_map told_of (λ (p : ℕ × Indication). p.0) told) ∙ ap (map (λ (p : ℕ × Indication). p.0)) e ∙ map_map row_of (λ (p : ℕ × Indication). p.0) rows in

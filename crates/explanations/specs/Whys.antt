@@ -12,7 +12,7 @@ use Rattle.evidence_set.specs.Indications.{IsIndication, IsUnanswered}
 use Rattle.evidence_set.specs.ItemSets.{Has, Items}
 use Rattle.evidence.specs.Contents.{Contents}
 use Rattle.proofs.specs.declared.fault.ProofFault.{ProofFault}
-use Rattle.accounts.specs.declared.account.NodeAccount.{NodeAccount}
+use Rattle.sentences.specs.declared.explanation.NodeExplanation.{NodeExplanation}
 use Rattle.explanations.specs.declared.convicting.Conviction.{Conviction}
 use Rattle.explanations.specs.declared.why.Why.{Why}
 use Rattle.explanations.specs.declared.why.Why.TheVariants as why
@@ -50,11 +50,11 @@ pub record AreWhys {S : Type 0} (program : Meaning S) (s : Contents) (rows : Lis
 abbrev pub row_of : NodeWhy → ℕ × Indication
 row_of row = (row.node, indication_of row.why)
 
-abbrev pub told_of : NodeAccount → ℕ × Indication
+abbrev pub told_of : NodeExplanation → ℕ × Indication
 told_of n = (n.node, n.indication)
 
 -- Each listed node and no other is told of, in ascending order of the numbers, and with what the set says of it.
-pub record AreIndications {S : Type 0} (program : Meaning S) (s : Contents) (nodes : List NodeAccount) : Type 0 where
+pub record AreIndications {S : Type 0} (program : Meaning S) (s : Contents) (nodes : List NodeExplanation) : Type 0 where
   pub ascending : IsStrictlyIncreasing (map (λ n. n.node) nodes)
   pub complete : (node : ℕ) → Contains (map (λ n. n.node) nodes) node ↔ IsTrue (is_listed s.directory node)
   pub right : All (λ n. IsIndication s.directory program s.items n.node n.indication) nodes

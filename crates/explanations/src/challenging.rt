@@ -1,8 +1,8 @@
 //! Challenges that nobody answered, in sentences.
 
-use accounts::{Bytes, Lines};
 use item_forms::{AuditChallenge, Form, Item, Message, Statement};
 use outcome::Memory;
+use sentences::{Bytes, Lines};
 
 /// Says what an audit challenge asks for, and what would answer it.
 fn say_audit(lines: &mut Lines, place: u64, challenge: &AuditChallenge) -> Result<(), Memory> {

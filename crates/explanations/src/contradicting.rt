@@ -2,11 +2,11 @@
 
 use crate::deviating::say_segment;
 use crate::grounds::{Found, Grounds};
-use accounts::{Lines, Logged, Sites};
 use authenticators::{Authenticator, NodeId};
 use item_forms::{Entry, Segment};
 use log_chain::base_hash;
 use outcome::Memory;
+use sentences::{Lines, Logged, Sites};
 
 /// Says a hash, and where it is signed.
 fn say_hash(lines: &mut Lines, found: &Found) -> Result<(), Memory> {

@@ -10,7 +10,6 @@ ghost use Rattle.explanations.specs.Whys.{convicted_of, told_of};
 
 use crate::grounds::{Found, Grounds};
 use crate::telling::say_proof;
-use accounts::{Account, Lines, NodeAccount, Role, Site};
 use authenticators::{Directory, NodeId};
 use evidence_set::Indication;
 use item_forms::{Entry, Hash, Segment};
@@ -18,6 +17,7 @@ use log_chain::chain_end;
 use outcome::Memory;
 use proofs::{Parts, Proof, ProofFault, check_proof};
 use replay_verifier::{Program, replay};
+use sentences::{Explanation, Lines, NodeExplanation, Role, Site};
 use std::alloc::{AllocError, Global};
 
 /// Whom a proof convicts, and what is told of it.
@@ -26,7 +26,7 @@ pub struct Conviction {
     /// The node that it convicts.
     pub node: NodeId,
     /// What is told: of that node alone, which is exposed.
-    pub account: Account,
+    pub explanation: Explanation,
 }
 
 /// The entries up to the one with the number, where there is one.
@@ -95,26 +95,26 @@ fn heading_of(alloc: Global, node: NodeId, proof: &Proof) -> Result<String, Allo
 }
 
 /// What is told of a proof that convicts the node.
-fn account_of<P: Program>(
+fn explanation_of<P: Program>(
     alloc: Global,
     program: &P,
     directory: &Directory,
     proof: &Proof,
     node: NodeId,
-) -> Result<Account, Memory>
-    ensures { IfOk result (λ account. map told_of account.nodes.items ≡ (node, Exposed) ∷ []) }
+) -> Result<Explanation, Memory>
+    ensures { IfOk result (λ explanation. map told_of explanation.nodes.items ≡ (node, Exposed) ∷ []) }
 {
     let heading = heading_of(alloc, node, proof)?;
     let grounds = grounds_of(alloc, program, directory, proof)?;
     let mut lines = Lines::new(alloc);
     say_proof(&mut lines, program, directory, proof, &grounds)?;
     let mut nodes = Vec::with_capacity(alloc, 1)?;
-    nodes.push(NodeAccount {
+    nodes.push(NodeExplanation {
         node,
         indication: Indication::Exposed,
         sentences: lines.into_sentences(),
     })?;
-    Ok(Account { heading, nodes })
+    Ok(Explanation { heading, nodes })
 }
 
 /// Whom a proof convicts, as [`check_proof`] tells, and what is told of it; or why it is refused, as there.
@@ -130,10 +130,10 @@ pub fn explain_proof<P: Program>(
     ensures only { (node : ℕ) → Convicts directory.now P.means node proof.now.parts → Gives fault.Memory (λ c. c.node) result (Ok node) }
     // What is told of the parts before a segment's signature is told, whether there is memory or not.
     ensures early { (e : TheFault) → early_fault_of directory.now proof.now.parts ≡ Some e → result ≡ Err e }
-    // The account is of that node, which is exposed.
-    ensures account { IfOk result (λ c. map told_of c.account.nodes.items ≡ (c.node, Exposed) ∷ []) }
+    // The explanation is of that node, which is exposed.
+    ensures explanation { IfOk result (λ c. map told_of c.explanation.nodes.items ≡ (c.node, Exposed) ∷ []) }
 {
     let node = check_proof(alloc, program, directory, proof)?;
-    let account = account_of(alloc, program, directory, proof, node)?;
-    Ok(Conviction { node, account })
+    let explanation = explanation_of(alloc, program, directory, proof, node)?;
+    Ok(Conviction { node, explanation })
 }

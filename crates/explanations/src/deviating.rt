@@ -2,11 +2,11 @@
 
 use crate::grounds::FoundSegment;
 use crate::stepping::{Before, standing_before};
-use accounts::{Bytes, Kind, Lines, Logged, Sending, Sites};
 use authenticators::{Directory, NodeId};
 use item_forms::{Entry, Segment};
 use outcome::Memory;
 use replay_verifier::{Program, Reason, Receipt, Verdict};
+use sentences::{Bytes, Kind, Lines, Logged, Sending, Sites};
 
 /// A reason in words.
 fn words_of(reason: Reason) -> &'static str {

@@ -1,11 +1,11 @@
 //! What a proof's parts are in an input: where they stand, and what was found of them.
 
-use accounts::{Role, Site};
 use authenticators::Authenticator;
 use item_forms::Hash;
 use outcome::Memory;
 use proofs::{Parts, Proof};
 use replay_verifier::Verdict;
+use sentences::{Role, Site};
 use std::alloc::Global;
 
 /// A convicting statement, and where it stands.

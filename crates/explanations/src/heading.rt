@@ -2,8 +2,8 @@
 
 use crate::places::FormCounts;
 use crate::why::NodeWhy;
-use accounts::Count;
 use evidence_set::Indication;
+use sentences::Count;
 use std::alloc::{AllocError, Global};
 use std::fmt;
 

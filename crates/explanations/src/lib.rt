@@ -1,4 +1,4 @@
-//! What a store of evidence, or a proof, says of nodes and why (PeerReview, SOSP 2007: failure indications), as an [`Account`].
+//! What a store of evidence, or a proof, says of nodes and why (PeerReview, SOSP 2007: failure indications), as an [`Explanation`].
 //!
 //! - [`why_of`] tells of a node why the store says of it what it says: the proof that convicts it, or the challenges that are open;
 //!   [`whys_of`] the same of each node. `specs/Whys.antt` says what that is.
@@ -7,7 +7,6 @@
 //! - [`explain_proof`] tells whom a proof convicts, and the same of its parts.
 #![tactic(auto)]
 
-pub use accounts::{Account, Mark, NodeAccount, Sentence, text_of};
 pub use authenticators::{Directory, NodeId};
 pub use convicting::{Conviction, explain_proof};
 pub use evidence::{AskFault, Evidence};
@@ -16,6 +15,7 @@ pub use evidence_set::Indication;
 pub use outcome::Memory;
 pub use proofs::{Proof, ProofFault};
 pub use replay_verifier::Program;
+pub use sentences::{Explanation, Mark, NodeExplanation, Sentence, text_of};
 pub use telling::explain_store;
 pub use why::{NodeWhy, Why, why_of, whys_of};
 

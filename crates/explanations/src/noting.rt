@@ -2,13 +2,13 @@
 
 use crate::places::{FormCounts, NodePlaces, Places, SegmentVerdict};
 use crate::why::NodeWhy;
-use accounts::Role;
 use authenticators::{Authenticator, NodeId};
 use evidence::Evidence;
 use evidence_item::{Checked, Findings, SegmentFindings};
 use item_forms::{AckItem, AuditChallenge, Form, Hash, Item, Message, Segment};
 use outcome::Memory;
 use replay_verifier::{Program, Receipt, Verdict};
+use sentences::Role;
 use std::alloc::Global;
 
 /// The place of the node among the reasons.

@@ -2,11 +2,11 @@
 
 use crate::grounds::Grounds;
 use crate::why::Why;
-use accounts::{Role, Site};
 use item_forms::{Hash, Item, Segment};
 use outcome::Memory;
 use proofs::Parts;
 use replay_verifier::Verdict;
+use sentences::{Role, Site};
 use std::alloc::Global;
 
 /// A segment of a node: its item, and its first and last number.

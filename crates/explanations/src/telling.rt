@@ -12,12 +12,12 @@ use crate::noting::places_of;
 use crate::places::NodePlaces;
 use crate::trusting::say_trust;
 use crate::why::{NodeWhy, Why, whys_of};
-use accounts::{Account, Lines, NodeAccount, Sentence};
 use authenticators::{Directory, NodeId};
 use evidence::Evidence;
 use outcome::Memory;
 use proofs::{Parts, Proof};
 use replay_verifier::Program;
+use sentences::{Explanation, Lines, NodeExplanation, Sentence};
 use std::alloc::Global;
 
 /// Says what a proof shows of the node.
@@ -60,20 +60,20 @@ fn sentences_of<P: Program>(
 }
 
 /// What is told of all nodes, in their order.
-fn accounts_of<P: Program>(
+fn explanations_of<P: Program>(
     alloc: Global,
     program: &P,
     directory: &Directory,
     whys: &[NodeWhy<'_>],
     found: &[NodePlaces],
-) -> Result<Vec<NodeAccount>, Memory>
+) -> Result<Vec<NodeExplanation>, Memory>
     ensures { IfOk result (λ told. map told_of told.items ≡ map row_of whys.now) }
 {
     let mut nodes = Vec::with_capacity(alloc, whys.len())?;
     for row in whys {
         let found = found.get(nodes.len());
         let sentences = sentences_of(alloc, program, directory, row, found)?;
-        nodes.push(NodeAccount {
+        nodes.push(NodeExplanation {
             node: row.node,
             indication: row.why.indication(),
             sentences,
@@ -88,12 +88,12 @@ pub fn explain_store<P: Program, S: Evidence<P>>(
     alloc: Global,
     program: &P,
     store: &S,
-) -> Result<Account, Memory>
-    ensures { IfOk result (λ account. AreIndications P.means (S.contents store.now) account.nodes.items) }
+) -> Result<Explanation, Memory>
+    ensures { IfOk result (λ explanation. AreIndications P.means (S.contents store.now) explanation.nodes.items) }
 {
     let whys = whys_of::<P, S>(alloc, store)?;
     let places = places_of::<P, S>(alloc, store, &whys)?;
     let heading = heading_of(alloc, &whys, store.count(), places.counts)?;
-    let nodes = accounts_of(alloc, program, store.directory(), &whys, &places.nodes)?;
-    Ok(Account { heading, nodes })
+    let nodes = explanations_of(alloc, program, store.directory(), &whys, &places.nodes)?;
+    Ok(Explanation { heading, nodes })
 }

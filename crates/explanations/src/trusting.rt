@@ -1,9 +1,9 @@
 //! What a store has of a node against which nothing speaks, in sentences.
 
 use crate::places::{NodePlaces, Span};
-use accounts::{Count, Lines};
 use authenticators::NodeId;
 use outcome::Memory;
+use sentences::{Count, Lines};
 use std::fmt;
 
 /// So many segments are told at most.

@@ -30,8 +30,8 @@ pub(crate) fn told_of_items(
     items: Vec<Item>,
 ) -> Result<String, Fail> {
     let store = store_of(alloc, directory, items)?;
-    let account = explain_store::<Tally, IndexedStore<Tally>>(alloc, &Tally, &store)?;
-    Ok(text_of(alloc, &account)?)
+    let explanation = explain_store::<Tally, IndexedStore<Tally>>(alloc, &Tally, &store)?;
+    Ok(text_of(alloc, &explanation)?)
 }
 
 /// What is told of a proof against the node, which the items expose.
@@ -46,5 +46,5 @@ pub(crate) fn told_of_proof(
         return Ok(String::new(alloc));
     };
     let told = explain_proof(alloc, &Tally, directory, &proof)?;
-    Ok(text_of(alloc, &told.account)?)
+    Ok(text_of(alloc, &told.explanation)?)
 }

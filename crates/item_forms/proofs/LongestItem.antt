@@ -6,7 +6,7 @@ use Rattle.std.proofs.lemmas.List.Concat.{flat_map-cons}
 use Rattle.std.proofs.lemmas.List.Elements.{All-replicate}
 use Rattle.log_chain.specs.declared.entry.Entry.{Entry}
 use Rattle.log_chain.specs.declared.limits.TheConstants.{LONGEST_CONTENT, MOST_ENTRIES}
-use Rattle.authenticators.specs.declared.signature.TheConstants.{LONGEST_SIGNATURE}
+use Rattle.authenticators.specs.declared.signature.TheConstants.{LONGEST_SIGNATURE_TEXT}
 use Rattle.outcome.specs.Bytes.{IsBytes}
 use Rattle.outcome.proofs.ByteLists.{IsBytes-cons, IsBytes-none}
 use Rattle.item_forms.specs.declared.forms.Fields.TheVariants as form
@@ -51,7 +51,7 @@ entries_long (suc k) m =
 segment : ℕ → ℕ → ℕ → Segment
 segment k m n = record { node = 0; prev = zeros 32; entries = replicate k (entry m); sig = zeros n }
 
-segment_fits : (k m n : ℕ) → k ≤ MOST_ENTRIES → m ≤ LONGEST_CONTENT → n ≤ LONGEST_SIGNATURE → FitsSegment (segment k m n)
+segment_fits : (k m n : ℕ) → k ≤ MOST_ENTRIES → m ≤ LONGEST_CONTENT → n ≤ LONGEST_SIGNATURE_TEXT → FitsSegment (segment k m n)
 unfolding segment
 segment_fits k m n a b c = record {
   node = omega arith;
@@ -67,5 +67,5 @@ segment_long k m n fits =
 
 pub longest_item : (a : Piece) × (length (spelling a.fields) ≡ LONGEST_ITEM)
 longest_item =
-    let fits = segment_fits MOST_ENTRIES LONGEST_CONTENT LONGEST_SIGNATURE (omega arith) (omega arith) (omega arith) in
-    (record { fields = form.Segment (segment MOST_ENTRIES LONGEST_CONTENT LONGEST_SIGNATURE); fits = fits }, segment_long MOST_ENTRIES LONGEST_CONTENT LONGEST_SIGNATURE fits)
+    let fits = segment_fits MOST_ENTRIES LONGEST_CONTENT LONGEST_SIGNATURE_TEXT (omega arith) (omega arith) (omega arith) in
+    (record { fields = form.Segment (segment MOST_ENTRIES LONGEST_CONTENT LONGEST_SIGNATURE_TEXT); fits = fits }, segment_long MOST_ENTRIES LONGEST_CONTENT LONGEST_SIGNATURE_TEXT fits)

@@ -10,7 +10,7 @@ ghost use Rattle.item_forms.specs.Skipping.{Skips, TakesNoMemory, without_value}
 
 use crate::fault::DecodeFault;
 use crate::item::Item;
-use authenticators::LONGEST_SIGNATURE;
+use authenticators::LONGEST_SIGNATURE_TEXT;
 use log_chain::{FieldReader, LONGEST_CONTENT, MOST_ENTRIES};
 use replay_verifier::LONGEST_PAYLOAD;
 
@@ -21,7 +21,7 @@ fn skip_statement(reader: &mut FieldReader) -> Result<(), DecodeFault>
 {
     let _seq = reader.u64()?;
     let _hash = reader.hash()?;
-    let _sig = reader.bytes(LONGEST_SIGNATURE)?;
+    let _sig = reader.bytes(LONGEST_SIGNATURE_TEXT)?;
     Ok(())
 }
 
@@ -87,7 +87,7 @@ fn skip_auth(reader: &mut FieldReader) -> Result<(), DecodeFault>
     let _node = reader.u32()?;
     let _seq = reader.u64()?;
     let _hash = reader.hash()?;
-    let _sig = reader.bytes(LONGEST_SIGNATURE)?;
+    let _sig = reader.bytes(LONGEST_SIGNATURE_TEXT)?;
     Ok(())
 }
 
@@ -99,7 +99,7 @@ fn skip_segment(reader: &mut FieldReader) -> Result<(), DecodeFault>
     let _node = reader.u32()?;
     let _prev = reader.hash()?;
     skip_entries(reader)?;
-    let _sig = reader.bytes(LONGEST_SIGNATURE)?;
+    let _sig = reader.bytes(LONGEST_SIGNATURE_TEXT)?;
     Ok(())
 }
 
@@ -122,7 +122,7 @@ fn skip_message(reader: &mut FieldReader) -> Result<(), DecodeFault>
     let _to = reader.u32()?;
     let _seq = reader.u64()?;
     let _prev = reader.hash()?;
-    let _sig = reader.bytes(LONGEST_SIGNATURE)?;
+    let _sig = reader.bytes(LONGEST_SIGNATURE_TEXT)?;
     let _payload = reader.bytes(LONGEST_PAYLOAD)?;
     Ok(())
 }
@@ -135,7 +135,7 @@ fn skip_ack(reader: &mut FieldReader) -> Result<(), DecodeFault>
     skip_message(reader)?;
     let _seq = reader.u64()?;
     let _prev = reader.hash()?;
-    let _sig = reader.bytes(LONGEST_SIGNATURE)?;
+    let _sig = reader.bytes(LONGEST_SIGNATURE_TEXT)?;
     Ok(())
 }
 

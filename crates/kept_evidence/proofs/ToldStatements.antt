@@ -13,7 +13,7 @@ use Rattle.item_forms.specs.declared.forms.Fields.{Fields}
 use Rattle.item_forms.specs.declared.forms.Fields.TheVariants as form
 use Rattle.evidence_item.specs.Checking.{findings_of}
 use Rattle.evidence_item.specs.Statements.{says}
-use Rattle.evidence_set.specs.Held.{authenticators_of, quote_in, quote_of}
+use Rattle.evidence_set.specs.Held.{authenticators_of, quote_in, statement_quoted_by}
 use Rattle.item_forms.specs.Segments.{last_seq}
 use Rattle.kept_evidence.specs.Telling.{last_or, quote_with, told_quote, told_quotes, told_statements}
 
@@ -48,12 +48,12 @@ module _ (ds : Listing) (me : ℕ) where
   one_quote_by true e = by_receipt (receipt_of e.content) e.content refl e refl
   one_quote_by false e = refl
 
-  one_quote : (e : Entry) → told_quote e (quoted_hash ds me e) ≡ quote_of ds me e
+  one_quote : (e : Entry) → told_quote e (quoted_hash ds me e) ≡ statement_quoted_by ds me e
   one_quote e = one_quote_by (is_genuine_entry ds me e) e
 
-  all_quotes : (es : List Entry) → told_quotes es (quoted_hashes ds me es) ≡ filter_map (quote_of ds me) es
+  all_quotes : (es : List Entry) → told_quotes es (quoted_hashes ds me es) ≡ filter_map (statement_quoted_by ds me) es
   all_quotes [] = refl
-  all_quotes (e ∷ es) = ap (λ (o : Option Authenticator). cons_option o (told_quotes es (quoted_hashes ds me es))) (one_quote e) ∙ ap (cons_option (quote_of ds me e)) (all_quotes es)
+  all_quotes (e ∷ es) = ap (λ (o : Option Authenticator). cons_option o (told_quotes es (quoted_hashes ds me es))) (one_quote e) ∙ ap (cons_option (statement_quoted_by ds me e)) (all_quotes es)
 
 -- ---- items
 

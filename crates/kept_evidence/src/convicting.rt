@@ -1,7 +1,7 @@
 //! Proofs of a fault, made of copies of statements and segments.
 
 ghost use Rattle.std.specs.Prelude.{◌≡◌, ◌∷◌, ◌≤◌, [], IfOk, IsTrue, length};
-ghost use Rattle.authenticators.specs.declared.signature.TheConstants.{LONGEST_SIGNATURE};
+ghost use Rattle.authenticators.specs.declared.signature.TheConstants.{LONGEST_SIGNATURE_TEXT};
 ghost use Rattle.item_forms.specs.declared.forms.Fields.TheVariants as form;
 ghost use Rattle.proofs.specs.ProofTexts.{items_of};
 ghost use Rattle.evidence_item.specs.Checking.{is_segment};
@@ -17,7 +17,7 @@ use std::alloc::Global;
 
 /// The item that is a statement whose signature is within its limit.
 fn item_of(auth: Authenticator) -> Item
-    requires { length auth.sig ≤ LONGEST_SIGNATURE }
+    requires { length auth.sig ≤ LONGEST_SIGNATURE_TEXT }
     ensures { result.fields ≡ form.Auth auth }
 {
     let _node = auth.node.0;

@@ -4,7 +4,7 @@
 //! carries its theorem.
 #![tactic(auto)]
 
-ghost use Rattle.commands.specs.Answers.{Answers};
+ghost use Rattle.commands.specs.Answers.{IsAnswer};
 ghost use Rattle.commands.specs.Engines.{HasRoom, Ran};
 ghost use Rattle.mailbox.specs.MailboxMeaning.{mailbox};
 
@@ -42,7 +42,7 @@ fn run<H: Threads + Wait + Sync, R: Source, W: Sink>(
     writer: &mut W,
 ) -> Result<(), Fault>
     requires { HasRoom (R.seen reader.old) (W.seen writer.old) }
-    ensures { Ran (Answers mailbox task) result (R.seen reader.old) (R.seen reader.new) W.seen writer.old writer.new }
+    ensures { Ran (IsAnswer mailbox task) result (R.seen reader.old) (R.seen reader.new) W.seen writer.old writer.new }
 {
     task.run(rt, alloc, &Mailbox, reader, writer)
 }

@@ -13,7 +13,7 @@
 #![tactic(auto)]
 
 ghost use Rattle.std.specs.Prelude.{◌≡◌, false, true};
-ghost use Rattle.commands.specs.Answers.{Answers};
+ghost use Rattle.commands.specs.Answers.{IsAnswer};
 ghost use Rattle.commands.specs.Engines.{HasRoom, Ran};
 ghost use Rattle.ref_programs.specs.RelayMeaning.{relay};
 ghost use Rattle.ref_programs.specs.TallyMeaning.{tally};
@@ -52,8 +52,8 @@ fn run<H: Threads + Wait + Sync, R: Source, W: Sink>(
     writer: &mut W,
 ) -> Result<(), Fault>
     requires { HasRoom (R.seen reader.old) (W.seen writer.old) }
-    ensures relay { request.flagged ≡ true → Ran (Answers relay request.task) result (R.seen reader.old) (R.seen reader.new) W.seen writer.old writer.new }
-    ensures tally { request.flagged ≡ false → Ran (Answers tally request.task) result (R.seen reader.old) (R.seen reader.new) W.seen writer.old writer.new }
+    ensures relay { request.flagged ≡ true → Ran (IsAnswer relay request.task) result (R.seen reader.old) (R.seen reader.new) W.seen writer.old writer.new }
+    ensures tally { request.flagged ≡ false → Ran (IsAnswer tally request.task) result (R.seen reader.old) (R.seen reader.new) W.seen writer.old writer.new }
 {
     if request.flagged {
         request.task.run(rt, alloc, &Relay, reader, writer)

@@ -5,8 +5,8 @@ use Rattle.std.specs.List.{Contains, list_any}
 use Rattle.std.proofs.lemmas.Option.{same_Some}
 use Rattle.authenticators.specs.declared.authenticator.Authenticator.{Authenticator}
 use Rattle.evidence_item.specs.Checking.{Checked}
-use Rattle.node_tables.specs.declared.exposure.Exposure.{Exposure}
-use Rattle.node_tables.specs.declared.exposure.Exposure.TheVariants as exposure
+use Rattle.node_tables.specs.declared.exposure.ExposingPlaces.{ExposingPlaces}
+use Rattle.node_tables.specs.declared.exposure.ExposingPlaces.TheVariants as exposure
 use Rattle.node_tables.specs.declared.row.Row.{Row}
 use Rattle.node_tables.specs.declared.span.Span.{Span}
 use Rattle.node_tables.specs.declared.table.Table.{Table}
@@ -89,7 +89,7 @@ module _ (items : List Checked) (x : Checked) where
     names_more : (r : Row) (a : Authenticator) → Names items held r a → Names more held r a
     names_more r a h = (stated_more r a h.0, h.1)
 
-    told_more : (e : Option Exposure) → IsUpToDate items held spans e → IsUpToDate more held spans e
+    told_more : (e : Option ExposingPlaces) → IsUpToDate items held spans e → IsUpToDate more held spans e
     told_more None quiet = record {
       one_hash = quiet.one_hash;
       undenied = λ a p in_a in_p. denies_more j p (all p in_p) a ∙ quiet.undenied a p in_a in_p;

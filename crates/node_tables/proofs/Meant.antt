@@ -36,8 +36,8 @@ use Rattle.kept_evidence.proofs.Bridge.{set_has}
 use Rattle.kept_evidence.proofs.Exposures.{denial_exposes, deviation_exposes, two_expose, unexposed}
 use Rattle.kept_evidence.proofs.Indicated.{AreFound, are_found, suspected_decides, unanswered_decides}
 use Rattle.kept_evidence.proofs.Members.{none_here, of_some, some_of}
-use Rattle.node_tables.specs.declared.exposure.Exposure.{Exposure}
-use Rattle.node_tables.specs.declared.exposure.Exposure.TheVariants as exposure
+use Rattle.node_tables.specs.declared.exposure.ExposingPlaces.{ExposingPlaces}
+use Rattle.node_tables.specs.declared.exposure.ExposingPlaces.TheVariants as exposure
 use Rattle.node_tables.specs.declared.table.Table.{Table}
 use Rattle.node_tables.specs.Indexed.{IsSaid, IsTable, Tells}
 use Rattle.node_tables.specs.Places.{IsOrder}
@@ -139,7 +139,7 @@ module _ {S : Type 0} (ds : Listing) (program : Meaning S) (differ : DeviatingLi
         unexposed ds program differ is.kept all t.node store (quiet_means quiet) (subst (λ (E : Items). IsExposed ds program E t.node) (sym same_set) exposed)
 
     -- What is kept exposes it.
-    pub shows : (e : Exposure) → ShowsAt items table.told.held t.spans.items e → IsExposed ds program (set_of is.kept) t.node
+    pub shows : (e : ExposingPlaces) → ShowsAt items table.told.held t.spans.items e → IsExposed ds program (set_of is.kept) t.node
     shows (exposure.TwoHashes r q) (a, b, one, other, clash) =
         two_expose ds program differ is.kept all t.node store a b (record { one = (held_all a one.1).0; other = (held_all b other.1).0; of = (held_all a one.1).1; conflict = clash })
     shows (exposure.Denied r i) (a, one, stands_i, h) =
@@ -149,7 +149,7 @@ module _ {S : Type 0} (ds : Listing) (program : Meaning S) (differ : DeviatingLi
         let (c, at, k) = kept_segment i stands_i in
         deviation_exposes ds program differ is.kept all t.node store c (record { segment = k; verdict = sym (ap deviating at) ∙ h })
 
-    pub exposed_by : (e : Exposure) → t.exposure ≡ Some e → IsExposed ds program (set_of items) t.node
+    pub exposed_by : (e : ExposingPlaces) → t.exposure ≡ Some e → IsExposed ds program (set_of items) t.node
     exposed_by e some = subst (λ (E : Items). IsExposed ds program E t.node) same_set (shows e (subst (IsUpToDate items table.told.held t.spans.items) some table.told.told))
 
     -- A proof of it convicts the node.
@@ -160,7 +160,7 @@ module _ {S : Type 0} (ds : Listing) (program : Meaning S) (differ : DeviatingLi
     segment_is j (form.Send m) h = absurd h
     segment_is j (form.Ack a) h = absurd h
 
-    made_by : (signed : ValidItemsAreSigned) (e : Exposure) → ShowsAt items table.told.held t.spans.items e → (o : Option Case) → IsMade items e o → (p : Case) × (o ≡ Some p) × Convicts ds program t.node p.parts
+    made_by : (signed : ValidItemsAreSigned) (e : ExposingPlaces) → ShowsAt items table.told.held t.spans.items e → (o : Option Case) → IsMade items e o → (p : Case) × (o ≡ Some p) × Convicts ds program t.node p.parts
     made_by signed (exposure.TwoHashes r q) (a, b, one, other, clash) o made =
         let (p, some, parts) = made a b one.0 other.0 in
         (p, some, two_convict ds program t.node differ signed is.kept all store p.parts a b parts (record { one = (held_all a one.1).0; other = (held_all b other.1).0; of = (held_all a one.1).1; conflict = clash }))
@@ -173,7 +173,7 @@ module _ {S : Type 0} (ds : Listing) (program : Meaning S) (differ : DeviatingLi
         let (p, some, parts) = made c at (segment_is t.node c.item.fields k.segment) in
         (p, some, deviation_convicts ds program t.node differ signed is.kept all store p.parts c parts (record { segment = k; verdict = sym (ap deviating at) ∙ h }))
 
-    pub made_convicts : (signed : ValidItemsAreSigned) (e : Exposure) → t.exposure ≡ Some e → (o : Option Case) → IsMade items e o → (p : Case) × (o ≡ Some p) × Convicts ds program t.node p.parts
+    pub made_convicts : (signed : ValidItemsAreSigned) (e : ExposingPlaces) → t.exposure ≡ Some e → (o : Option Case) → IsMade items e o → (p : Case) × (o ≡ Some p) × Convicts ds program t.node p.parts
     made_convicts signed e some o made = made_by signed e (subst (IsUpToDate items table.told.held t.spans.items) some table.told.told) o made
 
     -- ---- challenges

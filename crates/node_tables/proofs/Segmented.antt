@@ -7,8 +7,8 @@ use Rattle.evidence_item.specs.Checking.{Checked}
 use Rattle.kept_evidence.specs.Telling.{denies}
 use Rattle.kept_items.specs.declared.reach.Reach.{Reach}
 use Rattle.kept_items.specs.Keeping.{DenialsAreWithinReach, reach}
-use Rattle.node_tables.specs.declared.exposure.Exposure.{Exposure}
-use Rattle.node_tables.specs.declared.exposure.Exposure.TheVariants as exposure
+use Rattle.node_tables.specs.declared.exposure.ExposingPlaces.{ExposingPlaces}
+use Rattle.node_tables.specs.declared.exposure.ExposingPlaces.TheVariants as exposure
 use Rattle.node_tables.specs.declared.row.Row.{Row}
 use Rattle.node_tables.specs.declared.span.Span.{Span}
 use Rattle.node_tables.specs.declared.table.Table.{Table}
@@ -58,17 +58,17 @@ module _ (items : List Checked) (spans more : List Span) (p : Span) (members : (
           ((members q).0 in_q);
     }
 
-    still_shows : (e : Exposure) → ShowsAt items held spans e → ShowsAt items held more e
+    still_shows : (e : ExposingPlaces) → ShowsAt items held spans e → ShowsAt items held more e
     still_shows (exposure.TwoHashes r q) h = h
     still_shows (exposure.Denied r i) (a, names_a, stands, denies) = (a, names_a, stands_more i stands, denies)
     still_shows (exposure.Deviates i) (stands, deviates) = (stands_more i stands, deviates)
 
-    now_shows : (e : Exposure) → IsBroughtBySegment items rows p.item e → ShowsAt items held more e
+    now_shows : (e : ExposingPlaces) → IsBroughtBySegment items rows p.item e → ShowsAt items held more e
     now_shows (exposure.TwoHashes r q) h = absurd h
     now_shows (exposure.Denied r i) (at, has, (a, is, denies)) = (a, (is, says_held items rows held names a (r, has, is)), subst (Stands more) (sym at) here, subst (λ n. denies_at items a n ≡ true) (sym at) denies)
     now_shows (exposure.Deviates i) (at, deviates) = (subst (Stands more) (sym at) here, subst (λ n. deviates_at items n ≡ true) (sym at) deviates)
 
-    next_told : (old new : Option Exposure) → IsUpToDate items held spans old → IsNextBySegment items rows p.item old new → IsUpToDate items held more new
+    next_told : (old new : Option ExposingPlaces) → IsUpToDate items held spans old → IsNextBySegment items rows p.item old new → IsUpToDate items held more new
     next_told (Some e) new told next = subst (IsUpToDate items held more) (sym next) (still_shows e told)
     next_told None None told next = still_quiet next told
     next_told None (Some e) told next = now_shows e next

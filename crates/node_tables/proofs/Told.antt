@@ -13,8 +13,8 @@ use Rattle.authenticators.specs.StatementSet.{by_fields, IsAscending}
 use Rattle.authenticators.proofs.AscendingLists.{members-insert, sorted-insert}
 use Rattle.authenticators.proofs.StatementSets.{by_fields_total, equal_same}
 use Rattle.evidence_item.specs.Checking.{Checked}
-use Rattle.node_tables.specs.declared.exposure.Exposure.{Exposure}
-use Rattle.node_tables.specs.declared.exposure.Exposure.TheVariants as exposure
+use Rattle.node_tables.specs.declared.exposure.ExposingPlaces.{ExposingPlaces}
+use Rattle.node_tables.specs.declared.exposure.ExposingPlaces.TheVariants as exposure
 use Rattle.node_tables.specs.declared.row.Row.{Row}
 use Rattle.node_tables.specs.declared.span.Span.{Span}
 use Rattle.node_tables.specs.declared.table.Table.{Table}
@@ -115,12 +115,12 @@ module _ (items : List Checked) (rows : List Row) (held : List Authenticator) (n
               conforming = quiet.conforming;
             }
 
-        still_shows : (spans : List Span) (e : Exposure) → ShowsAt items held spans e → ShowsAt items (insert held i a) spans e
+        still_shows : (spans : List Span) (e : ExposingPlaces) → ShowsAt items held spans e → ShowsAt items (insert held i a) spans e
         still_shows spans (exposure.TwoHashes r q) (x, y, one, other, clash) = (x, y, (one.0, has_all x one.1), (other.0, has_all y other.1), clash)
         still_shows spans (exposure.Denied r s) (x, one, stands, denies) = (x, (one.0, has_all x one.1), stands, denies)
         still_shows spans (exposure.Deviates s) h = h
 
-        now_shows : (spans : List Span) (e : Exposure) → IsBrought items rows spans row a e → ShowsAt items (insert held i a) spans e
+        now_shows : (spans : List Span) (e : ExposingPlaces) → IsBrought items rows spans row a e → ShowsAt items (insert held i a) spans e
         now_shows spans (exposure.TwoHashes r q) (at, has, two) =
             let b = two_shows (stated_at items q) a two in
             let in_held = says_held b.0 (q, has, b.1) in
@@ -128,7 +128,7 @@ module _ (items : List Checked) (rows : List Row) (held : List Authenticator) (n
         now_shows spans (exposure.Denied r s) (at, stands, denies) = (a, (ap (stated_at items) at ∙ is, has_new), stands, denies)
         now_shows spans (exposure.Deviates s) h = absurd h
 
-        pub next_told : (spans : List Span) (old new : Option Exposure) → IsUpToDate items held spans old → IsNext items rows spans i row a old new → IsUpToDate items (insert held i a) spans new
+        pub next_told : (spans : List Span) (old new : Option ExposingPlaces) → IsUpToDate items held spans old → IsNext items rows spans i row a old new → IsUpToDate items (insert held i a) spans new
         next_told spans (Some e) new told next = subst (IsUpToDate items (insert held i a) spans) (sym next) (still_shows spans e told)
         next_told spans None None told next = still_quiet spans next told
         next_told spans None (Some e) told next = now_shows spans e next

@@ -12,7 +12,7 @@ use Rattle.node_tables.specs.Places.{AscendBySpelling, IsOpenAt, IsOrder}
 use Rattle.node_tables.specs.Rooms.{HasRoomFor}
 use Rattle.node_tables.specs.Steps.{AllTables, AscendByNode, position_of}
 use Rattle.node_tables.specs.Tables.{IsSegmentAt, Stands, Says, IsTold}
-use Rattle.node_tables.specs.declared.exposure.Exposure.{Exposure}
+use Rattle.node_tables.specs.declared.exposure.ExposingPlaces.{ExposingPlaces}
 use Rattle.node_tables.specs.declared.table.Table.{Table}
 
 -- The statement stands in some item.
@@ -51,6 +51,6 @@ pub record AreOfOthers (items : List Checked) (tables : List Table) : Type 0 whe
 
 -- What the table of a node tells.
 abbrev pub Tells : Table → Indication → Type 0
-Tells t Exposed = (e : Exposure) × (t.exposure ≡ Some e)
+Tells t Exposed = (e : ExposingPlaces) × (t.exposure ≡ Some e)
 Tells t Suspected = (t.exposure ≡ None) × (t.unanswered.items ≢ [])
 Tells t Trusted = (t.exposure ≡ None) × (t.unanswered.items ≡ [])

@@ -7,8 +7,8 @@ use Rattle.proofs.specs.Cases.{Case}
 use Rattle.proofs.specs.ProofTexts.{items_of}
 use Rattle.evidence_item.specs.Checking.{Checked, is_segment}
 use Rattle.evidence_item.specs.Statements.{IsSigned}
-use Rattle.node_tables.specs.declared.exposure.Exposure.{Exposure}
-use Rattle.node_tables.specs.declared.exposure.Exposure.TheVariants as exposure
+use Rattle.node_tables.specs.declared.exposure.ExposingPlaces.{ExposingPlaces}
+use Rattle.node_tables.specs.declared.exposure.ExposingPlaces.TheVariants as exposure
 use Rattle.node_tables.specs.declared.row.Row.{Row}
 use Rattle.node_tables.specs.Rows.{stated_at}
 
@@ -27,7 +27,7 @@ abbrev pub IsDenialMade : List Checked → Row → ℕ → Option Case → Type 
 IsDenialMade items r i o =
     (a : Authenticator) (c : Checked) → stated_at items r ≡ Some a → slice_get items i ≡ Some c → IsTrue (is_segment c.item.fields) → (p : Case) × (o ≡ Some p) × (items_of p.parts ≡ form.Auth a ∷ c.item.fields ∷ [])
 
-abbrev pub IsMade : List Checked → Exposure → Option Case → Type 0
+abbrev pub IsMade : List Checked → ExposingPlaces → Option Case → Type 0
 IsMade items (exposure.TwoHashes r q) o = IsTwoMade items r q o
 IsMade items (exposure.Denied r i) o = IsDenialMade items r i o
 IsMade items (exposure.Deviates i) o = IsSegmentMade items i o

@@ -7,8 +7,8 @@ use Rattle.authenticators.specs.declared.authenticator.Authenticator.{Authentica
 use Rattle.evidence_item.specs.Checking.{Checked}
 use Rattle.kept_evidence.specs.Telling.{IsSegmentOf, denies, deviates}
 use Rattle.node_tables.specs.Rows.{AreRowsOf, stated_at}
-use Rattle.node_tables.specs.declared.exposure.Exposure.TheVariants as exposure
-use Rattle.node_tables.specs.declared.exposure.Exposure.{Exposure}
+use Rattle.node_tables.specs.declared.exposure.ExposingPlaces.TheVariants as exposure
+use Rattle.node_tables.specs.declared.exposure.ExposingPlaces.{ExposingPlaces}
 use Rattle.node_tables.specs.declared.row.Row.{Row}
 use Rattle.node_tables.specs.declared.span.Span.{Span}
 use Rattle.node_tables.specs.declared.table.Table.{Table}
@@ -64,12 +64,12 @@ abbrev pub Names : List Checked → List Authenticator → Row → Authenticator
 Names items held r a = (stated_at items r ≡ Some a) × Contains held a
 
 -- What is kept exposes it.
-abbrev pub ShowsAt : List Checked → List Authenticator → List Span → Exposure → Type 0
+abbrev pub ShowsAt : List Checked → List Authenticator → List Span → ExposingPlaces → Type 0
 ShowsAt items held spans (exposure.TwoHashes r q) = (a b : Authenticator) × Names items held r a × Names items held q b × Conflict a b
 ShowsAt items held spans (exposure.Denied r i) = (a : Authenticator) × Names items held r a × Stands spans i × (denies_at items a i ≡ true)
 ShowsAt items held spans (exposure.Deviates i) = Stands spans i × (deviates_at items i ≡ true)
 
-abbrev pub IsUpToDate : List Checked → List Authenticator → List Span → Option Exposure → Type 0
+abbrev pub IsUpToDate : List Checked → List Authenticator → List Span → Option ExposingPlaces → Type 0
 IsUpToDate items held spans None = IsQuiet items held spans
 IsUpToDate items held spans (Some e) = ShowsAt items held spans e
 

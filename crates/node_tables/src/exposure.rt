@@ -4,7 +4,7 @@ use crate::row::Row;
 
 /// What exposes a node: by where it stands, which stays.
 #[derive(Clone, Copy, Debug)]
-pub enum Exposure {
+pub enum ExposingPlaces {
     /// Two statements of one number and two hashes.
     TwoHashes(Row, Row),
     /// A statement, and the place of a segment that it contradicts.

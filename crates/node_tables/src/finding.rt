@@ -8,7 +8,7 @@ ghost use Rattle.node_tables.specs.declared.span.Span.{Span as TheSpan};
 ghost use Rattle.node_tables.specs.Tables.{AreSpans, DoNotFall, denies_at};
 ghost use Rattle.node_tables.specs.within.Bringing.{BringsNothing, IsBrought, NoneBeside, two_at};
 
-use crate::exposure::Exposure;
+use crate::exposure::ExposingPlaces;
 use crate::row::{Row, said_at};
 use crate::span::Span;
 use authenticators::NodeId;
@@ -127,7 +127,7 @@ pub(crate) fn brought_by<P>(
     place: usize,
     row: Row,
     said: &Said<'_>,
-) -> Option<Exposure>
+) -> Option<ExposingPlaces>
     requires spans { AreSpans items.now said.now.node spans.now }
     requires by_low { DoNotFall spans.now }
     requires place { place ≤ length rows.now.items }
@@ -135,10 +135,10 @@ pub(crate) fn brought_by<P>(
     ensures some { IfSome result (IsBrought items.now rows.now.items spans.now row (shown said.now)) }
 {
     if let Some(other) = other_beside(items, rows, place, said) {
-        return Some(Exposure::TwoHashes(row, other));
+        return Some(ExposingPlaces::TwoHashes(row, other));
     }
     match denied_by(items, spans, said.node, said) {
         None => None,
-        Some(segment) => Some(Exposure::Denied(row, segment)),
+        Some(segment) => Some(ExposingPlaces::Denied(row, segment)),
     }
 }

@@ -4,7 +4,7 @@
 //! Items stand in a list that only grows at its end, and are named by their places in it.
 //!
 //! - A [`Table`] is what is kept of one node; [`place_of`] finds it. [`Row`] names a statement, which [`said_at`] lends, [`Span`] a
-//!   segment, and [`Exposure`] what exposes the node.
+//!   segment, and [`ExposingPlaces`] what exposes the node.
 //! - [`empty_tables`] makes the tables of no items. [`index`] puts the last of the items into them, for which [`promise_item`] made room:
 //!   promises add up, and each comes back by [`index`] or by [`release_item`].
 //! - [`gap_of`] and [`gap_of_kept`] look up where an item stands in the order of spellings, or would stand.
@@ -13,7 +13,7 @@
 //! `specs/Places.antt` the order of spellings, and `specs/Rooms.antt` what is promised.
 #![tactic(auto)]
 
-pub use exposure::Exposure;
+pub use exposure::ExposingPlaces;
 pub use indexing::index;
 pub use opening::empty_tables;
 pub use order::{gap_of, gap_of_kept};

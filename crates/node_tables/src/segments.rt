@@ -14,7 +14,7 @@ ghost use Rattle.node_tables.specs.Tables.{DoNotFall, IsSegmentAt, IsTold, denie
 ghost use Rattle.node_tables.specs.within.Bringing.{AreBetween, IsBroughtBySegment, IsNextBySegment, SegmentBringsNothing, SegmentStep, below_by, denied_by_row, side, up_to_by};
 
 use crate::edge::{edge_at, side};
-use crate::exposure::Exposure;
+use crate::exposure::ExposingPlaces;
 use crate::row::{Row, said_at};
 use crate::span::Span;
 use crate::table::Table;
@@ -168,7 +168,7 @@ fn brought_by_segment<P>(
     table: &Table,
     span: &Span,
     kept: &KeptItem<P>,
-) -> Option<Exposure>
+) -> Option<ExposingPlaces>
     requires told { IsTold items.now table.now }
     requires here { slice_get items.now span.now.item ≡ Some kept.now }
     requires reach { (a : Statement) → denies_at items.now a span.now.item ≡ true → (span.now.low ≤ a.seq) × (a.seq ≤ span.now.last) }
@@ -176,12 +176,12 @@ fn brought_by_segment<P>(
     ensures some { IfSome result (IsBroughtBySegment items.now table.now.rows.items span.now.item) }
 {
     if deviates(kept.verdict()) {
-        return Some(Exposure::Deviates(span.item));
+        return Some(ExposingPlaces::Deviates(span.item));
     }
     let near = rows_between(items, table, span.low, span.last);
     match denier(items, &table.rows, &near, kept) {
         None => None,
-        Some(row) => Some(Exposure::Denied(row, span.item)),
+        Some(row) => Some(ExposingPlaces::Denied(row, span.item)),
     }
 }
 
@@ -191,7 +191,7 @@ fn exposure_with<P>(
     table: &Table,
     span: &Span,
     kept: &KeptItem<P>,
-) -> Option<Exposure>
+) -> Option<ExposingPlaces>
     requires told { IsTold items.now table.now }
     requires here { slice_get items.now span.now.item ≡ Some kept.now }
     requires reach { (a : Statement) → denies_at items.now a span.now.item ≡ true → (span.now.low ≤ a.seq) × (a.seq ≤ span.now.last) }

@@ -1,6 +1,6 @@
 //! What is kept of one node.
 
-use crate::exposure::Exposure;
+use crate::exposure::ExposingPlaces;
 use crate::row::Row;
 use crate::span::Span;
 use authenticators::NodeId;
@@ -18,7 +18,7 @@ pub struct Table {
     /// The challenges against it that nothing answers, ascending by their spellings.
     pub unanswered: Vec<u32>,
     /// What exposes it, if something does.
-    pub exposure: Option<Exposure>,
+    pub exposure: Option<ExposingPlaces>,
     /// How many statements were promised room and did not come yet.
     pub promised: usize,
     /// How many segments or challenges were promised room and did not come yet.

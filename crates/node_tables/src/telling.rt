@@ -8,7 +8,7 @@ ghost use Rattle.node_tables.specs.Rows.{stated_at};
 ghost use Rattle.node_tables.specs.Tables.{AreSpans, DoNotFall, IsTold};
 ghost use Rattle.node_tables.specs.within.Bringing.{IsNext, StatementStep, order_at};
 
-use crate::exposure::Exposure;
+use crate::exposure::ExposingPlaces;
 use crate::finding::brought_by;
 use crate::row::{Row, compare_row, said_at};
 use crate::table::Table;
@@ -50,7 +50,7 @@ fn exposure_with<P>(
     place: usize,
     row: Row,
     said: &Said<'_>,
-) -> Option<Exposure>
+) -> Option<ExposingPlaces>
     requires spans { AreSpans items.now said.now.node table.now.spans.items }
     requires by_low { DoNotFall table.now.spans.items }
     requires place { place ≤ length table.now.rows.items }

@@ -8,8 +8,8 @@ ghost use Rattle.parallel_checking.specs.declared.limits.TheConstants.{MOST_WORK
 use crate::fault::CheckAllFault;
 use crate::limits::MOST_WORKERS;
 use authenticators::Directory;
-use claims::map_claimed;
 use evidence_item::{Checked, Item, ItemFault, check_item};
+use parallel_map::map_claimed;
 use replay_verifier::Program;
 use std::alloc::{AllocError, Global};
 use std::thread::Threads;

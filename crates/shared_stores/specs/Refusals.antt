@@ -1,7 +1,7 @@
 -- The number and the name of each refusal.
 use Rattle.std.specs.Prelude.{ℕ, List, codes}
-use Rattle.shared_stores.specs.declared.fault.AskFault.{AskFault}
-use Rattle.shared_stores.specs.declared.fault.AskFault.TheVariants as ask
+use Rattle.shared_stores.specs.declared.fault.QuestionFault.{QuestionFault}
+use Rattle.shared_stores.specs.declared.fault.QuestionFault.TheVariants as ask
 use Rattle.shared_stores.specs.declared.fault.CallFault.{CallFault}
 use Rattle.shared_stores.specs.declared.fault.CallFault.TheVariants as calling
 use Rattle.shared_stores.specs.declared.fault.CloseFault.{CloseFault}
@@ -15,12 +15,12 @@ abbrev pub call_name : CallFault → List ℕ
 call_name calling.DirectoryChanged = codes "DirectoryChanged"
 call_name calling.Memory = codes "Memory"
 
-abbrev pub ask_number : AskFault → ℕ
+abbrev pub ask_number : QuestionFault → ℕ
 ask_number ask.UnknownNode = 44
 ask_number ask.DirectoryChanged = 96
 ask_number ask.Memory = 99
 
-abbrev pub ask_name : AskFault → List ℕ
+abbrev pub ask_name : QuestionFault → List ℕ
 ask_name ask.UnknownNode = codes "UnknownNode"
 ask_name ask.DirectoryChanged = codes "DirectoryChanged"
 ask_name ask.Memory = codes "Memory"

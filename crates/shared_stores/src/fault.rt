@@ -19,7 +19,7 @@ pub enum CallFault {
 
 /// Why a question at a shared store is refused.
 #[derive(Clone, Copy, Debug, PartialEq, Eq, Error)]
-pub enum AskFault {
+pub enum QuestionFault {
     /// 44: the node is not listed in the store's directory.
     #[error("the node is not listed in the directory")]
     UnknownNode,
@@ -65,15 +65,15 @@ impl CallFault {
     }
 }
 
-impl AskFault {
+impl QuestionFault {
     /// The number of the refusal.
     pub fn number(&self) -> u8
         ensures { result ≡ ask_number self.now }
     {
         match self {
-            AskFault::UnknownNode => 44,
-            AskFault::DirectoryChanged => 96,
-            AskFault::Memory => 99,
+            QuestionFault::UnknownNode => 44,
+            QuestionFault::DirectoryChanged => 96,
+            QuestionFault::Memory => 99,
         }
     }
 
@@ -82,9 +82,9 @@ impl AskFault {
         ensures { result.now ≡ ask_name self.now }
     {
         match self {
-            AskFault::UnknownNode => "UnknownNode",
-            AskFault::DirectoryChanged => "DirectoryChanged",
-            AskFault::Memory => "Memory",
+            QuestionFault::UnknownNode => "UnknownNode",
+            QuestionFault::DirectoryChanged => "DirectoryChanged",
+            QuestionFault::Memory => "Memory",
         }
     }
 }
@@ -121,12 +121,12 @@ impl From<AllocError> for CallFault {
     }
 }
 
-impl From<AllocError> for AskFault {
-    ghost use Rattle.shared_stores.specs.declared.fault.AskFault.TheVariants.{Memory};
+impl From<AllocError> for QuestionFault {
+    ghost use Rattle.shared_stores.specs.declared.fault.QuestionFault.TheVariants.{Memory};
 
     ghost from_gives = { λ _ e. e ≡ Memory };
 
-    fn from(_: AllocError) -> AskFault {
-        AskFault::Memory
+    fn from(_: AllocError) -> QuestionFault {
+        QuestionFault::Memory
     }
 }

@@ -11,11 +11,11 @@
 #![tactic(auto)]
 
 pub use closing::{CloseRefused, Closed};
-pub use fault::{AskFault, CallFault, CloseFault};
+pub use fault::{CallFault, CloseFault, QuestionFault};
 pub use history::{Call, Given, Recorded};
 pub use item_set::ItemSet;
 pub use pass::Pass;
-pub use shared::{OpenRefused, SharedStore, TakeRefused};
+pub use shared::{NotTaken, OpenRefused, SharedStore};
 
 mod closing;
 mod comparing;

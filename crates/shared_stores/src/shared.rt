@@ -3,7 +3,7 @@
 ghost use Rattle.std.specs.Prelude.{◌≡◌, ◌↔◌, ◌≤◌, false, Err, IfErr, IfOk, OnErr};
 ghost use Rattle.authenticators.specs.Directory.{is_listed};
 ghost use Rattle.evidence_item.specs.Checking.{IsChecked};
-ghost use Rattle.shared_stores.specs.declared.fault.AskFault.TheVariants as ask;
+ghost use Rattle.shared_stores.specs.declared.fault.QuestionFault.TheVariants as ask;
 ghost use Rattle.shared_stores.specs.declared.history.Call.TheVariants.{Ask, Export, Merge, Take};
 ghost use Rattle.shared_stores.specs.declared.history.Given.TheVariants.{Bytes, Merged, Says, Took};
 ghost use Rattle.parallel_checking.specs.declared.limits.TheConstants.{MOST_WORKERS};
@@ -11,7 +11,7 @@ ghost use Rattle.shared_stores.specs.Closing.{fresh};
 ghost use Rattle.shared_stores.specs.Histories.{noted};
 
 use crate::copying::{copies_of, item_and_copies};
-use crate::fault::{AskFault, CallFault};
+use crate::fault::{CallFault, QuestionFault};
 use crate::history::{Call, Given, Recorded};
 use crate::item_set::ItemSet;
 use crate::kept::Kept;
@@ -72,7 +72,7 @@ impl<S> fmt::Debug for OpenRefused<S> {
 /// A checked item that could not be taken. It is given back.
 #[derive(Debug, Drop, Error)]
 #[error("the item is not taken: {fault}")]
-pub struct TakeRefused<P> {
+pub struct NotTaken<P> {
     /// The item.
     pub checked: Checked<P>,
     /// Why it was not taken.
@@ -143,7 +143,7 @@ impl<P: Program, S: Evidence<P>> SharedStore<P, S> {
         rt: &R,
         pass: &mut Pass,
         checked: Checked<P>,
-    ) -> Result<bool, TakeRefused<P>>
+    ) -> Result<bool, NotTaken<P>>
         requires { IsChecked self.now.directory P.means checked }
         ensures noted { IfOk result (λ new. pass.new ≡ noted pass.old (Take checked.item) (Took new)) }
         ensures given_back { IfErr result (λ refused. (refused.checked.item ≡ checked.item) × (refused.checked.verdict ≡ checked.verdict) × IsChecked self.now.directory P.means refused.checked) }
@@ -156,7 +156,7 @@ impl<P: Program, S: Evidence<P>> SharedStore<P, S> {
         };
         let mut kept = self.locked.lock(rt);
         if !kept.is_under(&self.directory) {
-            return Err(TakeRefused {
+            return Err(NotTaken {
                 checked,
                 fault: CallFault::DirectoryChanged,
             });
@@ -167,7 +167,7 @@ impl<P: Program, S: Evidence<P>> SharedStore<P, S> {
                 pass.calls.push_reserved(call);
                 Ok(new)
             }
-            Err(evidence::TakeRefused(checked)) => Err(out_of_memory(checked)),
+            Err(evidence::NotTaken(checked)) => Err(out_of_memory(checked)),
         }
     }
 
@@ -196,18 +196,18 @@ impl<P: Program, S: Evidence<P>> SharedStore<P, S> {
         rt: &R,
         pass: &mut Pass,
         node: NodeId,
-    ) -> Result<Indication, AskFault>
+    ) -> Result<Indication, QuestionFault>
         ensures noted { IfOk result (λ says. pass.new ≡ noted pass.old (Ask node) (Says says)) }
         ensures unknown { (result ≡ Err ask.UnknownNode) ↔ (is_listed self.now.directory node ≡ false) }
         ensures refused { OnErr result (pass.new ≡ pass.old) }
     {
         if !self.directory.contains(node) {
-            return Err(AskFault::UnknownNode);
+            return Err(QuestionFault::UnknownNode);
         }
         pass.calls.reserve(1)?;
         let mut kept = self.locked.lock(rt);
         if !kept.is_under(&self.directory) {
-            return Err(AskFault::DirectoryChanged);
+            return Err(QuestionFault::DirectoryChanged);
         }
         let says = kept.ask(pass.number, node)?;
         let call = Recorded::new(pass.number, Call::Ask(node), Given::Says(says));
@@ -233,10 +233,10 @@ impl<P: Program, S: Evidence<P>> SharedStore<P, S> {
 }
 
 /// The item comes back, since a growth was refused.
-fn out_of_memory<P>(checked: Checked<P>) -> TakeRefused<P>
+fn out_of_memory<P>(checked: Checked<P>) -> NotTaken<P>
     ensures { result.checked ≡ checked }
 {
-    TakeRefused {
+    NotTaken {
         checked,
         fault: CallFault::Memory,
     }

@@ -8,8 +8,8 @@ use Rattle.evidence_set.specs.Indications.{IndicationsAreOne}
 use Rattle.evidence_set.specs.ItemSets.{JoinsAreLeastUpperBounds}
 use Rattle.witness_core.specs.declared.event.Event.{Event}
 use Rattle.witness_core.specs.declared.event.Reply.{Reply}
-use Rattle.witness_core.specs.declared.fault.Cause.{Cause}
-use Rattle.witness_core.specs.declared.fault.Cause.TheVariants as cause
+use Rattle.witness_core.specs.declared.fault.EventFault.{EventFault}
+use Rattle.witness_core.specs.declared.fault.EventFault.TheVariants as cause
 use Rattle.witness_core.specs.Answering.{AreReplies, refusal_of}
 use Rattle.witness_core.specs.Running.{Ran, Stopped, StopsAreOne}
 use Rattle.witness_core.specs.Worlds.{World}
@@ -38,14 +38,14 @@ module _ {E : Type 0} where
 
 -- ---- events that are done
 
-refused_for : (c : Cause) (refusal : Option Cause) → (c ≡ cause.Memory) ⊎ (refusal ≡ Some c) → c ≢ cause.Memory → refusal ≡ Some c
+refused_for : (c : EventFault) (refusal : Option EventFault) → (c ≡ cause.Memory) ⊎ (refusal ≡ Some c) → c ≢ cause.Memory → refusal ≡ Some c
 refused_for c refusal (inl is) other = absurd (other is)
 refused_for c refusal (inr is) other = is
 
-one_cause : (c d : Cause) (refusal : Option Cause) → refusal ≡ Some c → refusal ≡ Some d → c ≡ d
+one_cause : (c d : EventFault) (refusal : Option EventFault) → refusal ≡ Some c → refusal ≡ Some d → c ≡ d
 one_cause c d refusal h k = let is : Some c ≡ Some d = sym h ∙ k in cc
 
-not_both : (c : Cause) (refusal : Option Cause) → refusal ≡ None → refusal ≡ Some c → ⊥
+not_both : (c : EventFault) (refusal : Option EventFault) → refusal ≡ None → refusal ≡ Some c → ⊥
 not_both c refusal h k = let clash : None ≡ Some c = sym h ∙ k in absurd cc
 
 module _ {P S : Type 0} (program : Meaning S) (W : World) where
@@ -63,14 +63,14 @@ module _ {P S : Type 0} (program : Meaning S) (W : World) where
   done xs ys e rs h = subst (λ (l : List (Event P)). refusal_of W l e ≡ None) (append-nil (reverse xs)) (done_from [] xs ys e rs h)
 
   -- the events that are done do not go on behind the one that is refused
-  no_further : (xs ys zs : List (Event P)) (e : Event P) (rs : List Reply) (c : Cause) → AreReplies program W [] ys rs → ys ≡ xs ++ e ∷ zs → refusal_of W (reverse xs) e ≡ Some c → ⊥
+  no_further : (xs ys zs : List (Event P)) (e : Event P) (rs : List Reply) (c : EventFault) → AreReplies program W [] ys rs → ys ≡ xs ++ e ∷ zs → refusal_of W (reverse xs) e ≡ Some c → ⊥
   no_further xs ys zs e rs c answered more refused = not_both c (refusal_of W (reverse xs) e) (done xs zs e rs (subst (λ (l : List (Event P)). AreReplies program W [] l rs) more answered)) refused
 
-  whole : (events : List (Event P)) (n : ℕ) (a b : List Reply) (d : Cause) (V X : World) → Ran program W events a V → Stopped program W events n b d X → d ≡ cause.Memory
+  whole : (events : List (Event P)) (n : ℕ) (a b : List Reply) (d : EventFault) (V X : World) → Ran program W events a V → Stopped program W events n b d X → d ≡ cause.Memory
   whole events n a b d V X ran t = elim t.told [ inl is ↦ is | inr refused ↦ absurd (no_further t.first events t.others t.next a d ran.answered t.split refused) ]
 
   module _ (bounds : JoinsAreLeastUpperBounds) (indications : IndicationsAreOne S) where
-    same : (events : List (Event P)) (m n : ℕ) (a b : List Reply) (c d : Cause) (V X : World) → Stopped program W events m a c V → Stopped program W events n b d X → c ≢ cause.Memory → d ≢ cause.Memory → (m ≡ n) × (a ≡ b) × (c ≡ d)
+    same : (events : List (Event P)) (m n : ℕ) (a b : List Reply) (c d : EventFault) (V X : World) → Stopped program W events m a c V → Stopped program W events n b d X → c ≢ cause.Memory → d ≢ cause.Memory → (m ≡ n) × (a ≡ b) × (c ≡ d)
     same events m n a b c d V X s t other more =
         let first = refused_for c (refusal_of W (reverse s.first) s.next) s.told other in
         let second = refused_for d (refusal_of W (reverse t.first) t.next) t.told more in

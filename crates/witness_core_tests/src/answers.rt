@@ -6,30 +6,30 @@ use evidence_store::{Evidence, IndexedStore, PlainStore};
 use ref_programs::Tally;
 use std::alloc::Global;
 use std::test::Fail;
-use witness_core::{Cause, Event, World, run};
+use witness_core::{Event, EventFault, World, run};
 
 #[test]
 fn refusals_have_numbers_names_and_lines(rt: HostRuntime) -> Result<(), Fail> {
     for (cause, number, name, line) in [
         (
-            Cause::NoWitness,
+            EventFault::NoWitness,
             80,
             "NoWitness",
             "there is no witness of this number",
         ),
         (
-            Cause::NoPacket,
+            EventFault::NoPacket,
             81,
             "NoPacket",
             "no outline, summary or pack of this number was made",
         ),
         (
-            Cause::UnknownNode,
+            EventFault::UnknownNode,
             82,
             "UnknownNode",
             "the node is not listed in the directory",
         ),
-        (Cause::Memory, 99, "Memory", "memory ran out"),
+        (EventFault::Memory, 99, "Memory", "memory ran out"),
     ] {
         assert_eq!(rt; cause.number(), number);
         assert_eq!(rt; cause.name(), name);

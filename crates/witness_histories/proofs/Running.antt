@@ -13,8 +13,8 @@ use Rattle.evidence_set.specs.ItemSets.{Items, Has, Join, contains, insert, Join
 use Rattle.evidence.specs.Contents.{Contents}
 use Rattle.witness_core.specs.declared.event.Event.{Event}
 use Rattle.witness_core.specs.declared.event.Event.TheVariants as event
-use Rattle.witness_core.specs.declared.fault.Cause.{Cause}
-use Rattle.witness_core.specs.declared.fault.Cause.TheVariants as cause
+use Rattle.witness_core.specs.declared.fault.EventFault.{EventFault}
+use Rattle.witness_core.specs.declared.fault.EventFault.TheVariants as cause
 use Rattle.witness_core.specs.Answering.{AreReplies, IsOfPack, IsReply, refusal_of, unless}
 use Rattle.witness_core.specs.Worlds.{World, IsPacked, IsTaken, Took, directory_of, nothing, pack_of, packs_made}
 use Rattle.shared_stores.specs.declared.history.Call.{Call}
@@ -30,7 +30,7 @@ is_true_not : (b : Bool) → (IsTrue (not b) → IsTrue b → ⊥) × ((IsTrue b
 is_true_not b = grind arith
 
 -- A test that holds is passed.
-passed : (b : Bool) (why : Cause) (others : Option Cause) → b ≡ true → others ≡ None → unless b why others ≡ None
+passed : (b : Bool) (why : EventFault) (others : Option EventFault) → b ≡ true → others ≡ None → unless b why others ≡ None
 passed true why others holds none = none
 passed false why others holds none = absurd (grind (arith, nat_tests))
 

@@ -14,7 +14,7 @@ use std::alloc::Global;
 use std::sync::Wait;
 use std::test::Fail;
 use witness_workers::{
-    AskFault, Call, CallFault, CheckAllFault, CloseFault, Pass, Recorded, SharedStore,
+    Call, CallFault, CheckAllFault, CloseFault, Pass, QuestionFault, Recorded, SharedStore,
 };
 
 #[test]
@@ -25,7 +25,7 @@ fn refusals_have_numbers_and_names(rt: HostRuntime) {
         CloseFault::PassMissing.number(),
         CloseFault::HistoryMismatch.number(),
         CallFault::DirectoryChanged.number(),
-        AskFault::UnknownNode.number(),
+        QuestionFault::UnknownNode.number(),
     ];
     assert!(rt; numbers == [90, 93, 91, 92, 96, 44]);
     let names = [
@@ -34,7 +34,7 @@ fn refusals_have_numbers_and_names(rt: HostRuntime) {
         CloseFault::PassMissing.name(),
         CloseFault::HistoryMismatch.name(),
         CallFault::DirectoryChanged.name(),
-        AskFault::UnknownNode.name(),
+        QuestionFault::UnknownNode.name(),
     ];
     let expected = [
         "BadWorkers",
@@ -338,7 +338,10 @@ fn a_merge_is_noted_with_its_items(rt: HostRuntime) -> Result<(), Fail> {
 }
 
 /// What is asked of a node that is not listed.
-fn unlisted<S: Evidence<Tally>, R: Wait>(rt: &R, alloc: Global) -> Result<Option<AskFault>, Fail> {
+fn unlisted<S: Evidence<Tally>, R: Wait>(
+    rt: &R,
+    alloc: Global,
+) -> Result<Option<QuestionFault>, Fail> {
     let mut on: Sharing<S> = share(alloc)?;
     Ok(on.shared.ask(rt, &mut on.first, NodeId(3)).err())
 }
@@ -346,8 +349,8 @@ fn unlisted<S: Evidence<Tally>, R: Wait>(rt: &R, alloc: Global) -> Result<Option
 #[test]
 fn a_node_that_is_not_listed(rt: HostRuntime) -> Result<(), Fail> {
     let plain = unlisted::<PlainStore<Tally>, HostRuntime>(&rt, rt.alloc())?;
-    assert!(rt; plain == Some(AskFault::UnknownNode));
+    assert!(rt; plain == Some(QuestionFault::UnknownNode));
     let indexed = unlisted::<IndexedStore<Tally>, HostRuntime>(&rt, rt.alloc())?;
-    assert!(rt; indexed == Some(AskFault::UnknownNode));
+    assert!(rt; indexed == Some(QuestionFault::UnknownNode));
     Ok(())
 }

@@ -12,8 +12,8 @@ use Rattle.kept_evidence.specs.Telling.{denies}
 use Rattle.node_tables.specs.Rows.{stated_at}
 use Rattle.node_tables.specs.Steps.{room, wanted, position_of, is_of}
 use Rattle.node_tables.specs.Tables.{Stands, Says, denies_at, deviates_at}
-use Rattle.node_tables.specs.declared.exposure.Exposure.TheVariants as exposure
-use Rattle.node_tables.specs.declared.exposure.Exposure.{Exposure}
+use Rattle.node_tables.specs.declared.exposure.ExposingPlaces.TheVariants as exposure
+use Rattle.node_tables.specs.declared.exposure.ExposingPlaces.{ExposingPlaces}
 use Rattle.node_tables.specs.declared.row.Row.{Row}
 use Rattle.node_tables.specs.declared.span.Span.{Span}
 use Rattle.node_tables.specs.declared.table.Table.{Table}
@@ -55,13 +55,13 @@ pub record BringsNothing (items : List Checked) (rows : List Row) (spans : List 
   pub undenied : (p : Span) → Contains spans p → denies_at items a p.item ≡ false
 
 -- It exposes the node, with a row or a segment that is kept.
-abbrev pub IsBrought : List Checked → List Row → List Span → Row → Authenticator → Exposure → Type 0
+abbrev pub IsBrought : List Checked → List Row → List Span → Row → Authenticator → ExposingPlaces → Type 0
 IsBrought items rows spans row a (exposure.TwoHashes r q) = (r ≡ row) × Contains rows q × (two_at items q a ≡ true)
 IsBrought items rows spans row a (exposure.Denied r i) = (r ≡ row) × Stands spans i × (denies_at items a i ≡ true)
 IsBrought items rows spans row a (exposure.Deviates i) = ⊥
 
 -- What exposes the node after the statement, by what did before.
-abbrev pub IsNext : List Checked → List Row → List Span → ℕ → Row → Authenticator → Option Exposure → Option Exposure → Type 0
+abbrev pub IsNext : List Checked → List Row → List Span → ℕ → Row → Authenticator → Option ExposingPlaces → Option ExposingPlaces → Type 0
 IsNext items rows spans place row a (Some e) o = o ≡ Some e
 IsNext items rows spans place row a None None = BringsNothing items rows spans place a
 IsNext items rows spans place row a None (Some e) = IsBrought items rows spans row a e
@@ -100,12 +100,12 @@ pub record SegmentBringsNothing (items : List Checked) (rows : List Row) (place 
   pub conforming : deviates_at items place ≡ false
 
 -- It exposes the node, with a row that is kept or by itself.
-abbrev pub IsBroughtBySegment : List Checked → List Row → ℕ → Exposure → Type 0
+abbrev pub IsBroughtBySegment : List Checked → List Row → ℕ → ExposingPlaces → Type 0
 IsBroughtBySegment items rows place (exposure.TwoHashes r q) = ⊥
 IsBroughtBySegment items rows place (exposure.Denied r i) = (i ≡ place) × Contains rows r × ((a : Authenticator) × (stated_at items r ≡ Some a) × (denies_at items a place ≡ true))
 IsBroughtBySegment items rows place (exposure.Deviates i) = (i ≡ place) × (deviates_at items place ≡ true)
 
-abbrev pub IsNextBySegment : List Checked → List Row → ℕ → Option Exposure → Option Exposure → Type 0
+abbrev pub IsNextBySegment : List Checked → List Row → ℕ → Option ExposingPlaces → Option ExposingPlaces → Type 0
 IsNextBySegment items rows place (Some e) o = o ≡ Some e
 IsNextBySegment items rows place None None = SegmentBringsNothing items rows place
 IsNextBySegment items rows place None (Some e) = IsBroughtBySegment items rows place e

@@ -1,0 +1,42 @@
+//! What is told of one input, in sentences.
+
+use authenticators::NodeId;
+use evidence_set::Indication;
+
+/// An entry of a node's log.
+#[derive(Clone, Copy, Debug, PartialEq, Eq)]
+pub struct Mark {
+    /// The node whose log it is of.
+    pub node: NodeId,
+    /// The entry's number.
+    pub seq: u64,
+}
+
+/// One sentence about a node.
+#[derive(Debug, Drop)]
+pub struct Sentence {
+    /// The sentence, with its full stop and without a line feed.
+    pub text: String,
+    /// The entries of which it says that they contradict something.
+    pub marks: Vec<Mark>,
+}
+
+/// What is told of a node.
+#[derive(Debug, Drop)]
+pub struct NodeExplanation {
+    /// The node.
+    pub node: NodeId,
+    /// What the evidence says of it.
+    pub indication: Indication,
+    /// Why, in order.
+    pub sentences: Vec<Sentence>,
+}
+
+/// What is told of a store or of a proof.
+#[derive(Debug, Drop)]
+pub struct Explanation {
+    /// One line about the whole, without a line feed.
+    pub heading: String,
+    /// The nodes, ascending by number, each once.
+    pub nodes: Vec<NodeExplanation>,
+}

@@ -1,0 +1,26 @@
+//! Accounts: what is told of a store of evidence or of a proof, in sentences that a person can read.
+//!
+//! - [`Explanation`] has a heading, and of each node its indication and [`Sentence`]s; a [`Mark`] names an entry of which a sentence says
+//!   that it contradicts something. [`text_of`] writes an explanation down.
+//! - [`Lines`] takes sentences one after the other.
+//! - [`Count`], [`Kind`], [`Bytes`], [`Sending`], [`Logged`] and [`Sites`] are the words for what evidence has: each writes itself.
+//!
+//! No contract speaks of the words: stored outputs hold them.
+#![tactic(auto)]
+
+pub use authenticators::NodeId;
+pub use evidence_set::Indication;
+pub use explanation::{Explanation, Mark, NodeExplanation, Sentence};
+pub use lines::Lines;
+pub use log_chain::Entry;
+pub use outcome::Memory;
+pub use replay_verifier::Output;
+pub use site::{Input, Role, Site, Sites};
+pub use words::{Bytes, Count, Kind, Logged, Sending};
+pub use writing::text_of;
+
+mod explanation;
+mod lines;
+mod site;
+mod words;
+mod writing;

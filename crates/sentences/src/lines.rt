@@ -1,0 +1,48 @@
+//! Sentences, one after the other.
+
+use crate::explanation::{Mark, Sentence};
+use authenticators::NodeId;
+use outcome::Memory;
+use std::alloc::Global;
+
+/// The sentences about a node, so far.
+#[derive(Debug, Drop)]
+pub struct Lines {
+    alloc: Global,
+    sentences: Vec<Sentence>,
+}
+
+impl Lines {
+    /// No sentence. It takes no memory.
+    pub fn new(alloc: Global) -> Lines {
+        Lines {
+            alloc,
+            sentences: Vec::new(alloc),
+        }
+    }
+
+    /// The allocator.
+    pub fn alloc(&self) -> Global {
+        self.alloc
+    }
+
+    /// Says a sentence that speaks of no contradiction.
+    pub fn say(&mut self, text: String) -> Result<(), Memory> {
+        let marks = Vec::new(self.alloc);
+        self.sentences.push(Sentence { text, marks })?;
+        Ok(())
+    }
+
+    /// Says a sentence that speaks of this entry as contradicting something.
+    pub fn say_of(&mut self, node: NodeId, seq: u64, text: String) -> Result<(), Memory> {
+        let mut marks = Vec::new(self.alloc);
+        marks.push(Mark { node, seq })?;
+        self.sentences.push(Sentence { text, marks })?;
+        Ok(())
+    }
+
+    /// The sentences in order.
+    pub fn into_sentences(self) -> Vec<Sentence> {
+        self.sentences
+    }
+}
