@@ -3,7 +3,8 @@
 #
 # The program is `growths` of crates/growths, one call a scene, which `rt ci` and `rt run` leave in its folder out/. It tells
 # refuse.c which growths are those of the call. A run in which none is refused gives a scene's right lines and counts the growths; then
-# the scene is played once for each of them. Wants gcc.
+# the scene is played once for each of them. least.txt has for each scene how many growths, and how many refused with Memory, there are
+# at the least: fewer is a fault, as it would be if a compiler dropped what arms the growths. Wants gcc.
 import os
 import re
 import subprocess
@@ -13,6 +14,7 @@ from concurrent.futures import ThreadPoolExecutor
 
 TOP = os.path.dirname(os.path.dirname(os.path.abspath(__file__)))
 OUT = os.path.join(TOP, "crates", "growths", "out")
+LEAST = os.path.join(TOP, "growths", "least.txt")
 JOBS = 4
 SECONDS = 60
 MEMORY = "refused 99 Memory"
@@ -163,8 +165,15 @@ def holds(rule, run, right):
     return rule(run, right)
 
 
+def least_counts():
+    """For each scene, how many growths it has and how many of them are refused with Memory, at the least."""
+    with open(LEAST, encoding="utf-8") as lines:
+        rows = [line.split() for line in lines]
+    return {scene: (int(growths), int(refused)) for scene, growths, refused in rows}
+
+
 def try_scene(program, library, scene, written, pool):
-    """Plays the scene once for each of its growths. How many runs go wrong."""
+    """Plays the scene once for each of its growths. How many there are, how many were refused, and how many runs go wrong."""
     right = right_run(program, library, scene, written)
     numbers = range(1, right.growths + 1)
     runs = list(pool.map(lambda n: play(program, library, scene, n), numbers))
@@ -195,13 +204,16 @@ def make_library(folder):
     return library
 
 
-def try_program(program, library, pool):
+def try_program(program, library, pool, least):
     """Tries each scene of the program. How many runs go wrong."""
     print(f"{os.path.relpath(program, TOP)}:")
     growths, refused, faults = 0, 0, 0
-    for scene, written in scenes_of(program):
+    scenes = scenes_of(program)
+    need({scene for scene, _ in scenes} == set(least), "the scenes are others than those of least.txt")
+    for scene, written in scenes:
         try:
             counts = try_scene(program, library, scene, written, pool)
+            need(counts[0] >= least[scene][0] and counts[1] >= least[scene][1], f"fewer than {least[scene]} in least.txt")
         except Fault as fault:
             print(f"{scene}: {fault}")
             counts = (0, 0, 1)
@@ -217,7 +229,8 @@ def main():
         sys.exit("crates/growths/out/growths is wanted: rt ci or rt run makes it")
     with tempfile.TemporaryDirectory() as folder, ThreadPoolExecutor(JOBS) as pool:
         library = make_library(folder)
-        faults = sum(try_program(program, library, pool) for program in programs)
+        least = least_counts()
+        faults = sum(try_program(program, library, pool, least) for program in programs)
     sys.exit(1 if faults else 0)
 
 
