@@ -3,7 +3,6 @@
 ghost use Rattle.std.specs.Prelude.{◌≡◌};
 ghost use Rattle.log_chain.specs.Chain.{base};
 
-use sha2::{Digest, Sha256};
 use std::fmt;
 use std::marker::Model;
 
@@ -40,9 +39,15 @@ impl fmt::Display for Hash {
     }
 }
 
-/// The hash before a log's first entry: SHA-256 of the empty text.
+/// The 32 bytes of the SHA-256 of the empty text. The contract of [`base_hash`] ties them to it.
+const BASE: [u8; 32] = [
+    0xe3, 0xb0, 0xc4, 0x42, 0x98, 0xfc, 0x1c, 0x14, 0x9a, 0xfb, 0xf4, 0xc8, 0x99, 0x6f, 0xb9, 0x24,
+    0x27, 0xae, 0x41, 0xe4, 0x64, 0x9b, 0x93, 0x4c, 0xa4, 0x95, 0x99, 0x1b, 0x78, 0x52, 0xb8, 0x55,
+];
+
+/// The hash before a log's first entry: SHA-256 of the empty text. It is a constant: nothing is hashed.
 pub fn base_hash() -> Hash
     ensures { result ≡ base }
 {
-    Hash(Sha256::new().finalize())
+    Hash(BASE)
 }
