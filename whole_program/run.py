@@ -260,9 +260,9 @@ def cases(build):
 
 
 def probing_loops(build):
-    """How many loops probe the stack with r11 in LLVM's build, where r11 may hold a value of the program (docs/DECISIONS.md); 0 where
-    objdump is not there. Rattle's own compiler probes at the head of a function alone, where r11 holds nothing."""
-    if build.endswith(".by-rattle") or shutil.which("objdump") is None:
+    """How many loops probe the stack with r11 in LLVM's build, where r11 may hold a value of the program (docs/DECISIONS.md). Rattle's
+    own compiler probes at the head of a function alone, where r11 holds nothing."""
+    if build.endswith(".by-rattle"):
         return 0
     code = subprocess.run(["objdump", "-d", build], stdout=subprocess.PIPE, text=True, check=True).stdout
     return len(re.findall(r"\bcmp +%r11,%rsp", code))
@@ -272,6 +272,9 @@ def main():
     builds = [it for it in BUILDS if os.path.isfile(it)]
     if not builds:
         print("no build of node_sim: rt ci or rt run makes one")
+        return 2
+    if shutil.which("objdump") is None:
+        print("objdump, of Debian's binutils, is wanted: it shows how the build probes the stack")
         return 2
     done = failed = 0
     for build in builds:

@@ -15,7 +15,7 @@ use evidence_item::laws::valid_items_are_signed;
 use evidence_item::{ByteString, Item};
 use kept_evidence::{proof_of_denial, proof_of_segment, proof_of_two};
 use kept_items::{KeptItem, Said};
-use node_tables::{Exposure, Row, Table, place_of, said_at};
+use node_tables::{ExposingPlaces, Row, Table, place_of, said_at};
 use outcome::Memory;
 use proofs::Proof;
 use replay_verifier::Program;
@@ -113,15 +113,15 @@ fn proof_by<P>(
     alloc: Global,
     directory: &Directory,
     items: &[KeptItem<P>],
-    exposure: Exposure,
+    exposure: ExposingPlaces,
 ) -> Result<Option<Proof>, Memory>
     requires { AreSigned directory.now items.now }
     ensures { IfOk result (IsMade items.now exposure) }
 {
     match exposure {
-        Exposure::TwoHashes(one, other) => of_two(alloc, directory, items, one, other),
-        Exposure::Denied(row, place) => of_denial(alloc, directory, items, row, place),
-        Exposure::Deviates(place) => of_segment(alloc, items, place),
+        ExposingPlaces::TwoHashes(one, other) => of_two(alloc, directory, items, one, other),
+        ExposingPlaces::Denied(row, place) => of_denial(alloc, directory, items, row, place),
+        ExposingPlaces::Deviates(place) => of_segment(alloc, items, place),
     }
 }
 

@@ -1,0 +1,89 @@
+#!/usr/bin/env python3
+"""Holds the table of refusals in docs/FORMATS.md to the sources; where they differ it says so and ends with status 1. With the word
+`write` it writes the table anew.
+
+Each enum of faults gives a variant's number and name by `number` and `name`, and a line for a person. A row has a number and a name,
+the line of the lowest crate that tells it, and the types that do. `Reason` is why a log deviates, and no refusal. Crates stand as in crates.txt's order of use, lowest first.
+"""
+
+import re
+import sys
+from pathlib import Path
+
+TOP = Path(__file__).resolve().parent.parent
+PAGE = TOP / "docs" / "FORMATS.md"
+HEADING = "## Refusals\n"
+
+ARM = re.compile(r"(\w+)::(\w+)(?:\(_\))? => (\d+|\"\w+\")")
+LINE = re.compile(r'((?:^\s*///.*\n)*)(?:^\s*#\[error\("([^"]*)"\)\]\n)?^\s*(\w+),$', re.M)
+
+
+def crates():
+    """The crates, each behind those that it stands on."""
+    uses = {}
+    for line in (TOP / "crates.txt").read_text().splitlines():
+        name, colon, rest = line.partition(":")
+        if colon and not line.startswith("#"):
+            uses[name.split()[0]] = rest.split()
+    found = []
+    while len(found) < len(uses):
+        found += sorted(name for name in uses if name not in found and all(low in found for low in uses[name] if low in uses))
+    return [name for name in found if not name.endswith("_tests")]
+
+
+def lines_of(text, kind):
+    """What is told to a person of each variant of an enum: the line that it derives, or its comment."""
+    body = re.search(rf"\benum {kind}\b.*?\{{\n(.*?)^\}}", text, re.M | re.S)[1]
+    told = {}
+    for comment, line, variant in LINE.findall(body):
+        words = " ".join(part.strip().removeprefix("///").strip() for part in comment.strip().splitlines())
+        words = re.sub(r"^\d+: ", "", words)
+        told[variant] = line or words[:1].lower() + words[1:].rstrip(".")
+    return told
+
+
+def refusals():
+    """(number, name): the types that tell it, lowest first, and the first one's line."""
+    rows = {}
+    for crate in crates():
+        for path in sorted((TOP / "crates" / crate / "src").glob("**/*.rt")):
+            text = path.read_text(encoding="utf-8")
+            given = {}
+            for kind, variant, value in ARM.findall(text):
+                given.setdefault((kind, variant), []).append(value)
+            for (kind, variant), values in given.items():
+                number = next((int(value) for value in values if value.isdigit()), None)
+                name = next((value.strip('"') for value in values if value.startswith('"')), None)
+                if number is None or name is None or kind == "Reason" or not re.search(rf"\benum {kind}\b", text):
+                    continue
+                row = rows.setdefault((number, name), ([], lines_of(text, kind).get(variant, "")))
+                row[0].append(f"`{crate}::{kind}`")
+    return rows
+
+
+def table():
+    rows = ["| Number | Name | It says that | Told by |", "|---|---|---|---|"]
+    for (number, name), (kinds, line) in sorted(refusals().items()):
+        rows.append(f"| {number} | {name} | {line} | {', '.join(kinds)} |")
+    return "\n".join(rows) + "\n"
+
+
+def main():
+    text = PAGE.read_text(encoding="utf-8")
+    head, found, rest = text.partition(HEADING)
+    if not found:
+        sys.exit(f"docs/FORMATS.md has no heading {HEADING.strip()}")
+    old = re.search(r"^\|.*?\n(?!\|)|^\|.*\Z", rest, re.M | re.S)
+    wanted = table()
+    if sys.argv[1:] == ["write"]:
+        PAGE.write_text(head + found + rest.replace(old[0], wanted) if old else text + "\n" + wanted, encoding="utf-8")
+        return 0
+    if old is None or old[0] != wanted:
+        print("docs/FORMATS.md: the table of refusals is another one than the sources give; reference/refusals.py write makes it anew")
+        return 1
+    print(f"docs/FORMATS.md has the sources' {wanted.count(chr(10)) - 2} refusals")
+    return 0
+
+
+if __name__ == "__main__":
+    sys.exit(main())
