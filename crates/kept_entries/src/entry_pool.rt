@@ -1,51 +1,57 @@
 //! The pool that gives handles of entries, of equal ones handles of one.
 
-ghost use Rattle.std.specs.Prelude.{◌≡◌, ◌≤◌, IfOk, IfSome, length};
+ghost use Rattle.std.specs.Prelude.{◌≡◌, IfOk, IfSome};
 ghost use Rattle.std.specs.Arc.{arc_value};
 ghost use Rattle.kept_entries.specs.within.Keeping.{wanted_entry};
 
-use crate::keeping::{Keyed, Wanted, is_same, key_of};
+use crate::keeping::{Key, Wanted, front_of, is_same};
 use crate::shared::SharedEntry;
 use log_chain::{Entry, Hash};
 use outcome::Memory;
 use std::alloc::Global;
+use std::collections::BTreeMap;
 use std::sync::Arc;
-use tiered_vec::TieredVec;
 
-/// The entries that are kept. Each is found again by all its parts: two that differ in one of them are two, whatever their hashes.
+/// The entries that are kept, in a tree by the fronts of their hashes. An entry is given only where all its parts are those that are
+/// wanted, whatever the keys say.
 #[derive(Drop)]
 pub struct EntryPool {
-    kept: TieredVec<Keyed>,
+    kept: BTreeMap<Key, Arc<SharedEntry, Global>>,
 }
 
-/// Another handle of the entry at a place, where that is the wanted one.
-fn handle_at(
-    kept: &TieredVec<Keyed>,
-    place: usize,
+/// Where the wanted entry is kept, or would be: the first place behind those of others with the same front.
+fn key_of(kept: &BTreeMap<Key, Arc<SharedEntry, Global>>, wanted: &Wanted<'_>) -> Key {
+    let front = front_of(wanted.hash);
+    for turn in 0..u32::MAX {
+        match kept.get(&(front, turn)) {
+            Some(handle) if !is_same(handle, wanted) => {}
+            _ => return (front, turn),
+        }
+    }
+    (front, u32::MAX)
+}
+
+/// Another handle of the wanted entry, where it is kept.
+fn kept_handle(
+    kept: &BTreeMap<Key, Arc<SharedEntry, Global>>,
+    key: Key,
     wanted: &Wanted<'_>,
 ) -> Result<Option<Arc<SharedEntry, Global>>, Memory>
     ensures { IfOk result (λ o. IfSome o (λ a. arc_value a ≡ wanted_entry wanted.now)) }
 {
-    match kept.get(place) {
-        Some(keyed) if is_same(&keyed.handle, wanted) => {
-            let handle = Arc::try_clone(&keyed.handle)?;
-            Ok(Some(handle))
+    match kept.get(&key) {
+        Some(handle) if is_same(handle, wanted) => {
+            let other = Arc::try_clone(handle)?;
+            Ok(Some(other))
         }
         _ => Ok(None),
     }
 }
 
-/// Keeps a copy of the entry at the place where it belongs, and gives a handle of it.
-fn keep(
-    kept: &mut TieredVec<Keyed>,
-    alloc: Global,
-    place: usize,
-    wanted: &Wanted<'_>,
-) -> Result<Arc<SharedEntry, Global>, Memory>
-    requires { place ≤ length kept.old.items }
+/// A handle of a copy of the entry.
+fn copied(alloc: Global, wanted: &Wanted<'_>) -> Result<Arc<SharedEntry, Global>, Memory>
     ensures { IfOk result (λ a. arc_value a ≡ wanted_entry wanted.now) }
 {
-    kept.reserve(1)?;
     let copy = SharedEntry {
         prev: wanted.prev,
         entry: wanted.entry.try_clone(alloc)?,
@@ -53,9 +59,6 @@ fn keep(
         quoted: wanted.quoted,
     };
     let handle = Arc::new(alloc, copy)?;
-    let key = wanted.key;
-    let other = Arc::try_clone(&handle)?;
-    kept.insert(place, Keyed { key, handle: other });
     Ok(handle)
 }
 
@@ -63,7 +66,7 @@ impl EntryPool {
     /// A pool with nothing.
     pub fn new(alloc: Global) -> EntryPool {
         EntryPool {
-            kept: TieredVec::new(alloc),
+            kept: BTreeMap::new(alloc),
         }
     }
 
@@ -78,20 +81,19 @@ impl EntryPool {
     ) -> Result<Arc<SharedEntry, Global>, Memory>
         ensures { IfOk result (λ a. arc_value a ≡ record { prev = prev; entry = entry.now; hash = hash; quoted = quoted }) }
     {
-        let key = key_of(hash);
         let wanted = Wanted {
-            key,
             prev,
             entry,
             hash,
             quoted,
         };
-        match self.kept.search(&wanted) {
-            Err(place) => keep(&mut self.kept, alloc, place, &wanted),
-            Ok(place) => match handle_at(&self.kept, place, &wanted)? {
-                Some(handle) => Ok(handle),
-                None => keep(&mut self.kept, alloc, place, &wanted),
-            },
+        let key = key_of(&self.kept, &wanted);
+        if let Some(handle) = kept_handle(&self.kept, key, &wanted)? {
+            return Ok(handle);
         }
+        let handle = copied(alloc, &wanted)?;
+        let other = Arc::try_clone(&handle)?;
+        self.kept.insert(key, other)?;
+        Ok(handle)
     }
 }

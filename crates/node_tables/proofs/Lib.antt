@@ -1,4 +1,5 @@
 pub mod Acknowledged
+pub mod Again
 pub mod Answerers
 pub mod Asked
 pub mod Beside

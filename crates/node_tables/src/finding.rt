@@ -6,7 +6,7 @@ ghost use Rattle.kept_items.specs.Positions.{shown};
 ghost use Rattle.node_tables.specs.declared.row.Row.{Row as TheRow};
 ghost use Rattle.node_tables.specs.declared.span.Span.{Span as TheSpan};
 ghost use Rattle.node_tables.specs.Tables.{AreSpans, DoNotFall, denies_at};
-ghost use Rattle.node_tables.specs.within.Bringing.{BringsNothing, IsBrought, NoneBeside, two_at};
+ghost use Rattle.node_tables.specs.within.Bringing.{AreUndenied, BringsNothing, IsBrought, NoneBeside, again_at, two_at};
 
 use crate::exposure::ExposingPlaces;
 use crate::row::{Row, said_at};
@@ -80,6 +80,46 @@ fn other_beside<P>(
     }
 }
 
+/// Whether the row's statement has the number and the same hash.
+fn is_again<P>(items: &[KeptItem<P>], row: Row, said: &Said<'_>) -> bool
+    ensures { result ≡ again_at items.now row (shown said.now) }
+{
+    match said_at(items, row) {
+        None => false,
+        Some(at) => at.seq == said.seq && at.hash == said.hash,
+    }
+}
+
+/// Whether the statement of the row at the place has the number and the same hash.
+fn is_again_at<P>(
+    items: &[KeptItem<P>],
+    rows: &TieredVec<Row>,
+    place: usize,
+    said: &Said<'_>,
+) -> bool
+    ensures { result ≡ true → (r : TheRow) × Contains rows.now.items r × (again_at items.now r (shown said.now) ≡ true) }
+{
+    match rows.get(place) {
+        None => false,
+        Some(row) => is_again(items, *row, said),
+    }
+}
+
+/// Whether the statement of a row beside the place has the number and the same hash. Those of one number and hash stand together.
+fn is_again_beside<P>(
+    items: &[KeptItem<P>],
+    rows: &TieredVec<Row>,
+    place: usize,
+    said: &Said<'_>,
+) -> bool
+    ensures { result ≡ true → (r : TheRow) × Contains rows.now.items r × (again_at items.now r (shown said.now) ≡ true) }
+{
+    if is_again_at(items, rows, place, said) {
+        return true;
+    }
+    place > 0 && is_again_at(items, rows, place - 1, said)
+}
+
 /// Whether the statement contradicts the item at the place, which is a segment.
 fn is_denied_at<P>(items: &[KeptItem<P>], place: u32, said: &Said<'_>) -> bool
     ensures { result ≡ denies_at items.now (shown said.now) place }
@@ -119,7 +159,8 @@ fn denied_by<P>(items: &[KeptItem<P>], spans: &[Span], node: NodeId, said: &Said
     None
 }
 
-/// What exposes the node with a statement more, whose place among the rows is given, where nothing did without it.
+/// What exposes the node with a statement more, whose place among the rows is given, where nothing did without it. One that was said
+/// already, with another signature, contradicts no segment, since it did not before: none is looked at.
 pub(crate) fn brought_by<P>(
     items: &[KeptItem<P>],
     rows: &TieredVec<Row>,
@@ -131,11 +172,15 @@ pub(crate) fn brought_by<P>(
     requires spans { AreSpans items.now said.now.node spans.now }
     requires by_low { DoNotFall spans.now }
     requires place { place ≤ length rows.now.items }
+    requires quiet { AreUndenied items.now rows.now.items spans.now }
     ensures none { IfNone result (BringsNothing items.now rows.now.items spans.now place (shown said.now)) }
     ensures some { IfSome result (IsBrought items.now rows.now.items spans.now row (shown said.now)) }
 {
     if let Some(other) = other_beside(items, rows, place, said) {
         return Some(ExposingPlaces::TwoHashes(row, other));
+    }
+    if is_again_beside(items, rows, place, said) {
+        return None;
     }
     match denied_by(items, spans, said.node, said) {
         None => None,

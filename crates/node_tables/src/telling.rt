@@ -1,12 +1,12 @@
 //! Putting a statement into the table of its node.
 
-ghost use Rattle.std.specs.Prelude.{◌≡◌, ◌≤◌, ◌-◌, Some, length};
+ghost use Rattle.std.specs.Prelude.{◌≡◌, ◌≤◌, ◌-◌, None, Some, length};
 ghost use Rattle.std.specs.List.Sorted.{IsBinarySearchResult, IsSearchInRange};
 ghost use Rattle.authenticators.specs.declared.authenticator.Authenticator.{Authenticator as Statement};
 ghost use Rattle.kept_items.specs.Positions.{shown};
 ghost use Rattle.node_tables.specs.Rows.{stated_at};
 ghost use Rattle.node_tables.specs.Tables.{AreSpans, DoNotFall, IsTold};
-ghost use Rattle.node_tables.specs.within.Bringing.{IsNext, StatementStep, order_at};
+ghost use Rattle.node_tables.specs.within.Bringing.{AreUndenied, IsNext, StatementStep, order_at};
 
 use crate::exposure::ExposingPlaces;
 use crate::finding::brought_by;
@@ -54,6 +54,7 @@ fn exposure_with<P>(
     requires spans { AreSpans items.now said.now.node table.now.spans.items }
     requires by_low { DoNotFall table.now.spans.items }
     requires place { place ≤ length table.now.rows.items }
+    requires quiet { table.now.exposure ≡ None → AreUndenied items.now table.now.rows.items table.now.spans.items }
     ensures { IsNext items.now table.now.rows.items table.now.spans.items place row (shown said.now) table.now.exposure result }
 {
     match table.exposure {

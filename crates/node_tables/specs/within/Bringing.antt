@@ -44,6 +44,18 @@ two_by (Some b) a = (b.seq == a.seq) && not (bytes_eq b.hash a.hash)
 abbrev pub two_at : List Checked → Row → Authenticator → Bool
 two_at items r a = two_by (stated_at items r) a
 
+-- The row's statement has the number and the same hash.
+abbrev pub again_by : Option Authenticator → Authenticator → Bool
+again_by None a = false
+again_by (Some b) a = (b.seq == a.seq) && bytes_eq b.hash a.hash
+
+abbrev pub again_at : List Checked → Row → Authenticator → Bool
+again_at items r a = again_by (stated_at items r) a
+
+-- No statement of the rows contradicts one of the segments.
+abbrev pub AreUndenied : List Checked → List Row → List Span → Type 0
+AreUndenied items rows spans = (r : Row) (b : Authenticator) (p : Span) → Contains rows r → stated_at items r ≡ Some b → Contains spans p → denies_at items b p.item ≡ false
+
 -- No row beside the place has the number of the statement and another hash.
 pub record NoneBeside (items : List Checked) (rows : List Row) (place : ℕ) (a : Authenticator) : Type 0 where
   pub before : (d : Row) → 1 ≤ place → two_at items (slice_index_or rows (place - 1) d) a ≡ false

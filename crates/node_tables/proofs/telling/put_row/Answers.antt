@@ -3,6 +3,7 @@ use Rattle.std.specs.Option.{option_map}
 use Rattle.kept_items.specs.Positions.{shown}
 use Rattle.node_tables.specs.Tables.{AreSpans}
 use Rattle.node_tables.proofs.Told.{step_of_said, told_more, step_more}
+use Rattle.node_tables.proofs.Again.{told_quiet}
 use Rattle.node_tables.proofs.telling.put_row.Goals as goal
 
 pub returns-in_default-place_of-clause-step : goal.returns-in_default-place_of-clause-step
@@ -33,3 +34,6 @@ returns-clause-step g c =
     step_more c.args.items.now c.args.row t c.requires.told a is (c.requires.own a is) c.in-Err.place c.in-Err.ensures.bound c.in-Err.ensures.position
     (record { node = t.node; rows = c.insert.new.self; spans = t.spans; unanswered = t.unanswered; exposure = c.exposure_with-exposure.result; promised = t.promised; bodies = t.bodies })
     refl c.insert.ensures.items refl c.insert.ensures.room refl
+
+pub exposure_with-exposure-requires-clause-quiet : goal.exposure_with-exposure-requires-clause-quiet
+exposure_with-exposure-requires-clause-quiet g c = told_quiet c.args.items.now c.args.table.now c.requires.told
