@@ -10,7 +10,7 @@ const HEADER: usize = 16;
 
 /// Where a fault stands. Lines count from 1, what stands in them from 0.
 #[derive(Clone, Copy, Debug)]
-pub enum Place {
+pub enum FaultPlace {
     /// Nowhere in the input.
     None,
     /// In this line.
@@ -25,7 +25,7 @@ pub enum Place {
 
 /// The form of an item, by its first byte.
 #[derive(Clone, Copy, Debug)]
-pub enum Form {
+pub enum ItemForm {
     Statement,
     Segment,
     AuditChallenge,
@@ -39,15 +39,15 @@ pub enum Told {
     /// Nothing: there is no such item, or its first byte is none that begins one.
     Nothing,
     /// A form alone.
-    Form(Form),
+    Form(ItemForm),
     /// A form and its node.
-    Of(Form, NodeId),
+    Of(ItemForm, NodeId),
     /// A form, its node, and the number of an entry: a statement's, a segment's first, or one that an audit challenge asks for.
-    At(Form, NodeId, u64),
+    At(ItemForm, NodeId, u64),
     /// A form of a message, its sender and its receiver.
-    Between(Form, NodeId, NodeId),
+    Between(ItemForm, NodeId, NodeId),
     /// A form of a message, its sender, its receiver, and the number of the entry that sent it.
-    Sent(Form, NodeId, NodeId, u64),
+    Sent(ItemForm, NodeId, NodeId, u64),
 }
 
 /// The bytes of an item of a store's text, behind so many others, or as many as there are of it.
@@ -64,7 +64,7 @@ fn item_at(text: &[u8], count: u64) -> Result<&[u8], FieldFault> {
 }
 
 /// What is read of an item of one node, whose number stands behind so many bytes more.
-fn read_one(form: Form, fields: &[u8], between: usize) -> Told {
+fn read_one(form: ItemForm, fields: &[u8], between: usize) -> Told {
     let mut reader = FieldReader::new(fields);
     let Ok(node) = reader.u32() else {
         return Told::Form(form);
@@ -80,7 +80,7 @@ fn read_one(form: Form, fields: &[u8], between: usize) -> Told {
 }
 
 /// What is read of an item of a message.
-fn read_message(form: Form, fields: &[u8]) -> Told {
+fn read_message(form: ItemForm, fields: &[u8]) -> Told {
     let mut reader = FieldReader::new(fields);
     let (Ok(from), Ok(to)) = (reader.u32(), reader.u32()) else {
         return Told::Form(form);
@@ -95,11 +95,11 @@ fn read_message(form: Form, fields: &[u8]) -> Told {
 /// behind a flag.
 fn told_of(item: &[u8]) -> Told {
     match item {
-        [1, fields @ ..] => read_one(Form::Statement, fields, 0),
-        [2, fields @ ..] => read_one(Form::Segment, fields, 36),
-        [3, fields @ ..] => read_one(Form::AuditChallenge, fields, 1),
-        [4, fields @ ..] => read_message(Form::SendChallenge, fields),
-        [5, fields @ ..] => read_message(Form::Acknowledgement, fields),
+        [1, fields @ ..] => read_one(ItemForm::Statement, fields, 0),
+        [2, fields @ ..] => read_one(ItemForm::Segment, fields, 36),
+        [3, fields @ ..] => read_one(ItemForm::AuditChallenge, fields, 1),
+        [4, fields @ ..] => read_message(ItemForm::SendChallenge, fields),
+        [5, fields @ ..] => read_message(ItemForm::Acknowledgement, fields),
         _ => Told::Nothing,
     }
 }
@@ -116,32 +116,32 @@ fn count_of(text: &[u8]) -> Option<u64> {
     }
 }
 
-impl Place {
+impl FaultPlace {
     /// The place of a fault of a store's text in the second line.
-    pub fn of_import(fault: &ImportFault, text: &[u8]) -> Place {
+    pub fn of_import(fault: &ImportFault, text: &[u8]) -> FaultPlace {
         let Some(count) = count_of(text) else {
-            return Place::Line(2);
+            return FaultPlace::Line(2);
         };
         match fault.cause {
-            Cause::Memory => Place::None,
-            Cause::BadMagic => Place::Line(2),
-            _ if fault.item >= count => Place::Behind(count),
+            Cause::Memory => FaultPlace::None,
+            Cause::BadMagic => FaultPlace::Line(2),
+            _ if fault.item >= count => FaultPlace::Behind(count),
             _ => match item_at(text, fault.item) {
-                Ok(item) => Place::Item(fault.item, told_of(item)),
-                Err(_) => Place::Item(fault.item, Told::Nothing),
+                Ok(item) => FaultPlace::Item(fault.item, told_of(item)),
+                Err(_) => FaultPlace::Item(fault.item, Told::Nothing),
             },
         }
     }
 }
 
-impl fmt::Display for Form {
+impl fmt::Display for ItemForm {
     fn fmt<W: fmt::Write>(&self, f: &mut fmt::Formatter<W>) -> fmt::Result {
         f.write_str(match self {
-            Form::Statement => "a statement",
-            Form::Segment => "a segment",
-            Form::AuditChallenge => "an audit challenge",
-            Form::SendChallenge => "a send challenge",
-            Form::Acknowledgement => "an acknowledgement",
+            ItemForm::Statement => "a statement",
+            ItemForm::Segment => "a segment",
+            ItemForm::AuditChallenge => "an audit challenge",
+            ItemForm::SendChallenge => "a send challenge",
+            ItemForm::Acknowledgement => "an acknowledgement",
         })
     }
 }
@@ -162,14 +162,14 @@ impl fmt::Display for Told {
 }
 
 /// The place in words, with what is put before it.
-impl fmt::Display for Place {
+impl fmt::Display for FaultPlace {
     fn fmt<W: fmt::Write>(&self, f: &mut fmt::Formatter<W>) -> fmt::Result {
         match *self {
-            Place::None => Ok(()),
-            Place::Line(line) => write!(f, ": line {line}"),
-            Place::Character { line, place } => write!(f, ": line {line}, character {place}"),
-            Place::Item(count, told) => write!(f, ": line 2, item {count}{told}"),
-            Place::Behind(count) => write!(f, ": line 2, behind {count} items"),
+            FaultPlace::None => Ok(()),
+            FaultPlace::Line(line) => write!(f, ": line {line}"),
+            FaultPlace::Character { line, place } => write!(f, ": line {line}, character {place}"),
+            FaultPlace::Item(count, told) => write!(f, ": line 2, item {count}{told}"),
+            FaultPlace::Behind(count) => write!(f, ": line 2, behind {count} items"),
         }
     }
 }

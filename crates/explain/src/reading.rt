@@ -1,6 +1,6 @@
 //! Reading an input: two lines of hexadecimal digits, of a directory and behind it a store or a proof.
 
-use crate::place::Place;
+use crate::place::FaultPlace;
 use crate::refusal::Refusal;
 use authenticators::Directory;
 use commands::fault::Fault;
@@ -33,7 +33,7 @@ fn spelled(alloc: Global, line: &[u8], number: u8) -> Result<Vec<u8>, Refusal> {
         Err(FromHexError::OutOfMemory) => Err(Refusal::from(Fault::Memory)),
         Err(FromHexError::InvalidHexCharacter { index, .. }) => Err(Refusal {
             fault: Fault::BadHex,
-            place: Place::Character {
+            place: FaultPlace::Character {
                 line: number,
                 place: index as u64,
             },
@@ -72,7 +72,7 @@ pub fn read_store<P: Program, S: Evidence<P>>(
     match store.import(program, &text) {
         Ok(_) => Ok(store),
         Err(fault) => Err(Refusal {
-            place: Place::of_import(&fault, &text),
+            place: FaultPlace::of_import(&fault, &text),
             fault: Fault::from(fault),
         }),
     }

@@ -1,6 +1,6 @@
 //! Why an input is not explained, and where the fault stands.
 
-use crate::place::Place;
+use crate::place::FaultPlace;
 use commands::fault::Fault;
 use outcome::Memory;
 use std::alloc::{AllocError, AllocFailed};
@@ -12,7 +12,7 @@ pub struct Refusal {
     /// Its number and its name.
     pub fault: Fault,
     /// Where it stands.
-    pub place: Place,
+    pub place: FaultPlace,
 }
 
 impl Refusal {
@@ -20,7 +20,7 @@ impl Refusal {
     pub fn of_line(fault: Fault, line: u8) -> Refusal {
         Refusal {
             fault,
-            place: Place::Line(line),
+            place: FaultPlace::Line(line),
         }
     }
 }
@@ -75,7 +75,7 @@ impl From<Fault> for Refusal {
     fn from(fault: Fault) -> Refusal {
         Refusal {
             fault,
-            place: Place::None,
+            place: FaultPlace::None,
         }
     }
 }

@@ -63,7 +63,7 @@ impl Drawn {
 
 /// A row of the picture.
 #[derive(Clone, Copy, Debug)]
-pub(crate) struct Row {
+pub(crate) struct PictureRow {
     pub(crate) node: NodeId,
     /// How many entries are known of the node's log.
     pub(crate) known: usize,
@@ -75,7 +75,7 @@ pub(crate) struct Row {
     count: usize,
 }
 
-impl Row {
+impl PictureRow {
     /// Whether nothing is drawn in it.
     pub(crate) fn is_empty(&self) -> bool {
         self.count == 0
@@ -87,7 +87,7 @@ impl Row {
 pub(crate) struct Choice {
     /// How many nodes are known of that have no row.
     pub(crate) left_out: u64,
-    pub(crate) rows: Vec<Row>,
+    pub(crate) rows: Vec<PictureRow>,
     pub(crate) cells: Vec<Drawn>,
 }
 
@@ -239,7 +239,7 @@ impl Choice {
         marks: &Marks,
     ) -> Result<(), AllocError> {
         let kept = row_cells(alloc, rows, self.rows.len(), node, marks)?;
-        self.rows.push(Row {
+        self.rows.push(PictureRow {
             node,
             known: rows.of(node).len(),
             drawn: kept.iter().filter(|one| one.is_known()).count(),
@@ -251,13 +251,13 @@ impl Choice {
     }
 
     /// The entries of a row.
-    pub(crate) fn cells_of(&self, row: &Row) -> &[Drawn] {
+    pub(crate) fn cells_of(&self, row: &PictureRow) -> &[Drawn] {
         let behind = self.cells.get(row.from..).unwrap_or(&[]);
         behind.get(..row.count).unwrap_or(behind)
     }
 
     /// The row of a node.
-    pub(crate) fn row_of(&self, node: NodeId) -> Option<&Row> {
+    pub(crate) fn row_of(&self, node: NodeId) -> Option<&PictureRow> {
         let at = self.rows.binary_search_by_key(&node, |row| row.node).ok()?;
         self.rows.get(at)
     }

@@ -1,6 +1,6 @@
 //! The page as a whole.
 
-use crate::choosing::{Choice, Row, choice_of};
+use crate::choosing::{Choice, PictureRow, choice_of};
 use crate::describing::sentence_id;
 use crate::marks::{Marks, SentenceId};
 use crate::picture::draw;
@@ -77,7 +77,7 @@ fn write_chips(page: &mut Page, nodes: &[NodeExplanation]) -> Result<(), AllocEr
 }
 
 /// Writes that a row is cut.
-fn write_cut(page: &mut Page, row: &Row) -> Result<(), AllocError> {
+fn write_cut(page: &mut Page, row: &PictureRow) -> Result<(), AllocError> {
     if row.drawn < row.known {
         page.write(&[
             Markup("<p class=\"cut\">"),

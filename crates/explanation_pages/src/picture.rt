@@ -1,6 +1,6 @@
 //! The picture: a row for each node, its entries by number, and arrows from what was sent to what quotes it.
 
-use crate::choosing::{Choice, Drawn, Row};
+use crate::choosing::{Choice, Drawn, PictureRow};
 use crate::describing::{entry_id, kind_name, sentence_link, write_line};
 use crate::grid::Grid;
 use crate::layout::{Band, COLUMN, HEIGHT, LEFT, Layout, PAD, Point, WIDTH};
@@ -257,7 +257,7 @@ fn draw_entries(
 }
 
 /// Writes a row's ground and name, and that nothing is known of it.
-fn draw_row(page: &mut Page, row: &Row, band: &Band, width: u64) -> Result<(), AllocError> {
+fn draw_row(page: &mut Page, row: &PictureRow, band: &Band, width: u64) -> Result<(), AllocError> {
     let middle = band.top.saturating_add(PAD + HEIGHT / 2);
     page.write(&[
         Markup("<rect class=\"band\" y=\""),
@@ -285,7 +285,7 @@ fn draw_row(page: &mut Page, row: &Row, band: &Band, width: u64) -> Result<(), A
 }
 
 /// Writes the rows' grounds and names.
-fn draw_rows(page: &mut Page, rows: &[Row], layout: &Layout) -> Result<(), AllocError> {
+fn draw_rows(page: &mut Page, rows: &[PictureRow], layout: &Layout) -> Result<(), AllocError> {
     for (row, band) in rows.iter().zip(layout.bands.as_slice()) {
         draw_row(page, row, band, layout.width)?;
     }

@@ -1,6 +1,6 @@
 //! The entries in tables, for whoever can't see the picture.
 
-use crate::choosing::{Choice, Drawn, Row};
+use crate::choosing::{Choice, Drawn, PictureRow};
 use crate::describing::{entry_id, kind_of, sentence_link, source_of, write_content, write_hash};
 use known_logs::{Cell, Rows};
 use page_text::Page;
@@ -56,7 +56,7 @@ fn write_entry(page: &mut Page, rows: &Rows, one: &Drawn) -> Result<(), AllocErr
 }
 
 /// Writes the table's head.
-fn write_head(page: &mut Page, row: &Row) -> Result<(), AllocError> {
+fn write_head(page: &mut Page, row: &PictureRow) -> Result<(), AllocError> {
     page.write(&[
         Markup("<details open><summary>What is known of the log of node "),
         Number(row.node.0 as u64),
@@ -80,7 +80,7 @@ fn write_head(page: &mut Page, row: &Row) -> Result<(), AllocError> {
 pub(crate) fn write_table(
     page: &mut Page,
     rows: &Rows,
-    row: &Row,
+    row: &PictureRow,
     cells: &[Drawn],
 ) -> Result<(), AllocError> {
     if cells.is_empty() {
