@@ -55,7 +55,8 @@ fn words_of(fault: Fault) -> &'static str {
         Fault::EmptySegment => "the segment has no entry",
         Fault::BadStart => "the segment begins neither with the log nor with a CHECKPOINT",
         Fault::BadRange => "the range that the challenge asks for is empty",
-        Fault::BadSignature => "none of the node's keys verifies a signature of it",
+        Fault::BadSignature =>
+            "a signature of it is not one by the node's key of the number that it names",
         Fault::NoContradiction => "the parts can be of one node's log, or are of two nodes",
         Fault::Conforms => "the segment conforms",
         Fault::BadMagic => "the store does not begin as one",

@@ -71,16 +71,16 @@ pub(crate) fn source_of(rows: &Rows, cell: &Cell) -> &'static str {
     }
 }
 
-/// Whether the bytes are printable ASCII.
-fn is_printable(bytes: &[u8]) -> bool {
-    bytes.iter().all(|byte| matches!(*byte, 32..=126))
+/// Whether the bytes can stand in quotation marks: printable ASCII without a quotation mark or a backslash.
+fn is_quotable(bytes: &[u8]) -> bool {
+    bytes.iter().all(|byte| matches!(*byte, 32..=126) && *byte != b'"' && *byte != b'\\')
 }
 
-/// Writes the beginning of a payload, as text where it is printable and else in digits, and how long it is.
+/// Writes the beginning of a payload, in quotation marks where it can stand there and else in digits, and how long it is.
 fn write_payload(page: &mut Page, payload: &Payload) -> Result<(), AllocError> {
     let shown = payload.shown();
     let size = payload.size();
-    if is_printable(shown) {
+    if is_quotable(shown) {
         page.write(&[Text(b"\""), Text(shown), Text(b"\"")])?;
     } else {
         page.write(&[Digits(shown)])?;

@@ -63,7 +63,7 @@ fn say_send(lines: &mut Lines, place: u64, message: &Message) -> Result<(), Memo
     )?;
     lines.say(asked)?;
     let answer = format!(in alloc;
-        "An acknowledgement of node {to} would answer it, or a segment of node {to} with a RECV of entry {seq} of node {from}."
+        "An acknowledgement by node {to} of a message from node {from} with this number would answer it, or a segment of node {to} with a RECV of one that node {from} signed."
     )?;
     lines.say(answer)
 }

@@ -20,7 +20,7 @@ pub(crate) struct Span {
 /// What the items have of a node.
 #[derive(Debug, Drop)]
 pub(crate) struct NodePlaces {
-    /// How many statements of the node they hold, beside the ends of its segments.
+    /// At how many places statements of the node stand, beside the ends of its segments.
     pub(crate) statements: u64,
     /// How many challenges against the node there are.
     pub(crate) challenges: u64,

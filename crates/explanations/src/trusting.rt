@@ -54,16 +54,16 @@ fn say_spans(lines: &mut Lines, spans: &[Span]) -> Result<(), Memory> {
     lines.say(text)
 }
 
-/// Says how many statements there are.
+/// Says at how many places statements stand: one that stands at two is counted twice.
 fn say_statements(lines: &mut Lines, found: &NodePlaces) -> Result<(), Memory> {
     if found.statements == 0 {
         return Ok(());
     }
-    let count = Count(found.statements, "statement", "statements");
+    let count = Count(found.statements, "place", "places");
     let text = if found.segments.is_empty() {
-        format!(in lines.alloc(); "The items hold {count} of it.")?
+        format!(in lines.alloc(); "Statements of it stand at {count} in the items.")?
     } else {
-        format!(in lines.alloc(); "Beside that the items hold {count} of it.")?
+        format!(in lines.alloc(); "Beside that, statements of it stand at {count} in the items.")?
     };
     lines.say(text)
 }

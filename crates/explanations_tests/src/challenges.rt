@@ -40,26 +40,26 @@ fn told_of_nothing(alloc: Global) -> Result<String, Fail> {
 fn demands_text() -> &'static str {
     "2 nodes: 1 trusted, 1 suspected, 0 exposed; 3 items: 2 audit challenges, 1 send challenge
 1 trusted
-  The items hold 1 statement of it.
+  Statements of it stand at 1 place in the items.
 2 suspected
   Item 0, an audit challenge, asks node 2 for its log from the beginning to entry 6.
   A segment of node 2 from the beginning that has entry 6 with the hash 8efdb92f95adedfc3b0901b6cd71095fbf3ba9e41ea7217e94b2d844596172f7 would answer it.
   Item 1, an audit challenge, asks node 2 for its log from entry 3 to entry 6.
   A segment of node 2 that has entry 3 with the hash 0bee76b99802d47101db002c12e34a0d1a06de5e939794c91dbb4101c4376d20 and entry 6 with the hash 8efdb92f95adedfc3b0901b6cd71095fbf3ba9e41ea7217e94b2d844596172f7 would answer it.
   Item 2, a send challenge of node 1, asks node 2 to acknowledge entry 7 of node 1: \"hello\".
-  An acknowledgement of node 2 would answer it, or a segment of node 2 with a RECV of entry 7 of node 1.
+  An acknowledgement by node 2 of a message from node 1 with this number would answer it, or a segment of node 2 with a RECV of one that node 1 signed.
 "
 }
 
 fn answer_text() -> &'static str {
     "2 nodes: 1 trusted, 1 suspected, 0 exposed; 4 items: 1 segment, 2 audit challenges, 1 send challenge
 1 trusted
-  The items hold 1 statement of it.
+  Statements of it stand at 1 place in the items.
 2 suspected
   Item 1, an audit challenge, asks node 2 for its log from the beginning to entry 6.
   A segment of node 2 from the beginning that has entry 6 with the hash 8efdb92f95adedfc3b0901b6cd71095fbf3ba9e41ea7217e94b2d844596172f7 would answer it.
   Item 3, a send challenge of node 1, asks node 2 to acknowledge entry 7 of node 1: \"hello\".
-  An acknowledgement of node 2 would answer it, or a segment of node 2 with a RECV of entry 7 of node 1.
+  An acknowledgement by node 2 of a message from node 1 with this number would answer it, or a segment of node 2 with a RECV of one that node 1 signed.
 "
 }
 
