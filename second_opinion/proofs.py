@@ -1,0 +1,44 @@
+"""Proofs, and whom they convict: FORMATS, "Proof"."""
+
+from contradictions import are_two_hashes, contradicts
+from fields import BAD_TAG, CONFORMS, NO_CONTRADICTION, Reader, Refused
+from items import LONGEST_ITEM, check_item, read_item
+from replay import deviation, reads_of
+
+# Of each form the tags of its items: 1 of a signed statement, 2 of a segment
+FORMS = {1: (1, 1), 2: (1, 2), 3: (2,)}
+
+
+def read_proof(text):
+    """The items of the proof that takes all of the text, or its leftmost fault."""
+    reader = Reader(text)
+    form = reader.number(1)
+    if form not in FORMS:
+        raise Refused(BAD_TAG)
+    parts = [read_part(reader, tag) for tag in FORMS[form]]
+    reader.end()
+    return parts
+
+
+def read_part(reader, tag):
+    """An item behind its length. Another tag is told before all else of it."""
+    text = reader.sized(LONGEST_ITEM)
+    if text and text[0] != tag:
+        raise Refused(BAD_TAG)
+    return read_item(text)
+
+
+def convicted(directory, program, parts):
+    """The node that a proof of these items convicts; refused where one of them is not valid, or where they show no fault."""
+    for part in parts:
+        check_item(directory, part)
+    if not shows_fault(directory, program, *parts):
+        raise Refused(CONFORMS if len(parts) == 1 else NO_CONTRADICTION)
+    return parts[0].nodes()[0]
+
+
+def shows_fault(directory, program, first, second=None):
+    if second is None:
+        return deviation(directory, program, first, reads_of(directory, first)) is not None
+    statement = first.statement
+    return contradicts(statement, second) if hasattr(second, "entries") else are_two_hashes(statement, second.statement)
