@@ -1,4 +1,4 @@
-"""What cannot be of one log: two statements, and a statement and a segment. FORMATS, "Proof", its last paragraph."""
+"""What cannot be of one log: two statements, or a statement and a segment. FORMATS, "Proof", its last paragraph."""
 
 
 def are_two_hashes(one, other):
@@ -7,11 +7,11 @@ def are_two_hashes(one, other):
 
 
 def contradicts(statement, segment):
-    """Whether a statement contradicts a segment of the same node."""
-    numbers = [entry.number for entry in segment.entries]
-    if statement.node != segment.node or not numbers or any(one >= two for one, two in zip(numbers, numbers[1:])):
+    """Whether a statement contradicts a segment of the same node. One whose numbers do not rise is contradicted by none."""
+    if statement.node != segment.node or not segment.rises:
         return False
-    is_left_out = numbers[0] <= statement.number <= numbers[-1] and not segment.has(statement)
-    is_off_start = statement.number + 1 == numbers[0] and statement.hash != segment.before
-    is_before_log = segment.begins_log() and statement.number < numbers[0]
+    first, last = segment.numbers[0], segment.numbers[-1]
+    is_left_out = first <= statement.number <= last and not segment.has(statement)
+    is_off_start = statement.number + 1 == first and statement.hash != segment.before
+    is_before_log = segment.begins_log() and statement.number < first
     return is_left_out or is_off_start or is_before_log

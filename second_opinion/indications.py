@@ -17,12 +17,13 @@ class Evidence:
     def __init__(self, directory, program, items):
         self.directory, self.program = directory, program
         self.reads = {item: reads_of(directory, item) for item in items if isinstance(item, Segment)}
-        self.audits = [item for item in items if isinstance(item, AuditChallenge)]
-        self.sends = [item.message for item in items if isinstance(item, SendChallenge)]
-        self.acknowledged = {item.message.name() for item in items if isinstance(item, Acknowledgement)}
+        self.challenges = [item for item in items if isinstance(item, (AuditChallenge, SendChallenge))]
+        self.acknowledged = {item.name() for item in items if isinstance(item, Acknowledgement)}
         self.held = {statement for item in items for statement in item.statements()}
+        self.received = set()
         for segment, quote in self.quotes():
             self.held.add(quote.statement(segment.node))
+            self.received.add((quote.sender, segment.node, quote.number))
 
     def quotes(self):
         """Each genuine quote, with the segment in which it stands."""
@@ -46,14 +47,18 @@ class Evidence:
     def deviating(self):
         return {it.node for it, reads in self.reads.items() if deviation(self.directory, self.program, it, reads) is not None}
 
-    def suspected(self):
-        received = {(quote.sender, segment.node, quote.number) for segment, quote in self.quotes()}
-        silent = {message.receiver for message in self.sends if message.name() not in self.acknowledged | received}
-        return silent | {audit.node for audit in self.audits if not any(answers(segment, audit) for segment in self.reads)}
+    def unanswered(self):
+        """For each challenge that has no answer the node that is to answer it."""
+        return [item.nodes()[-1] for item in self.challenges if not self.is_answered(item)]
+
+    def is_answered(self, challenge):
+        if isinstance(challenge, SendChallenge):
+            return challenge.name() in self.acknowledged or challenge.name() in self.received
+        return any(answers(segment, challenge) for segment in self.reads)
 
     def indications(self):
         """The word for each node, ascending by number."""
-        exposed, suspected = self.exposed(), self.suspected()
+        exposed, suspected = self.exposed(), set(self.unanswered())
         for node in sorted(self.directory):
             yield node, "exposed" if node in exposed else "suspected" if node in suspected else "trusted"
 

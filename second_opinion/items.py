@@ -1,9 +1,8 @@
 """Items of evidence, read and checked: FORMATS, "Items of evidence".
 
-Each of the five forms says which nodes it names, which statements its own signatures are of, and what else may be wrong with it.
+Each of the five forms reads its fields, and says which nodes it names, which statements its own signatures are of, and its flaw: what
+is wrong with it that no signature shows.
 """
-
-from typing import NamedTuple, Optional
 
 from directories import LONGEST_SIGNATURE, Statement, is_signed
 from fields import BAD_RANGE, BAD_SIGNATURE, BAD_START, BAD_TAG, EMPTY_SEGMENT, SELF_MESSAGE, UNKNOWN_NODE
@@ -13,34 +12,48 @@ from logs import BASE, CHECKPOINT, LONGEST_CONTENT, LONGEST_PAYLOAD, MOST_ENTRIE
 LONGEST_ITEM = 536_933_530
 
 
-class Said(NamedTuple):
-    """Form 1: a signed statement."""
+class OfOneNode:
+    """What the first three forms have in common: they name one node, and begin with its number."""
 
-    statement: Statement
-
-    def nodes(self):
-        return [self.statement.node]
-
-    def statements(self):
-        return [self.statement]
-
-    def flaw(self):
-        return None
-
-
-class Segment:
-    """Form 2: entries of a node's log, each with its hash, and the node's signature of the last one."""
-
-    def __init__(self, node, before, entries, signature):
-        self.node, self.before, self.entries, self.signature = node, before, entries, signature
-        self.hashes = hashes_of(before, entries)
-        self.pairs = {(entry.number, digest) for entry, digest in zip(entries, self.hashes)}
+    def __init__(self, reader):
+        self.node = reader.number(4)
 
     def nodes(self):
         return [self.node]
 
+    def flaw(self):
+        return None
+
+    def read_statement(self, reader):
+        return Statement(self.node, reader.number(8), reader.take(32), reader.sized(LONGEST_SIGNATURE))
+
+
+class SignedStatement(OfOneNode):
+    """Form 1: a statement, and nothing else."""
+
+    def __init__(self, reader):
+        super().__init__(reader)
+        self.statement = self.read_statement(reader)
+
     def statements(self):
-        return [Statement(self.node, self.entries[-1].number, self.hashes[-1], self.signature)]
+        return [self.statement]
+
+
+class Segment(OfOneNode):
+    """Form 2: entries of a node's log, each with its hash, and the node's signature of the last one."""
+
+    def __init__(self, reader):
+        super().__init__(reader)
+        self.before, count = reader.take(32), reader.count(MOST_ENTRIES)
+        self.entries = [Entry(reader.number(8), reader.number(1), reader.sized(LONGEST_CONTENT)) for _ in range(count)]
+        self.signature = reader.sized(LONGEST_SIGNATURE)
+        self.hashes = hashes_of(self.before, self.entries)
+        self.numbers = [entry.number for entry in self.entries]
+        self.pairs = set(zip(self.numbers, self.hashes))
+        self.rises = all(one < two for one, two in zip(self.numbers, self.numbers[1:]))
+
+    def statements(self):
+        return [Statement(self.node, self.numbers[-1], self.hashes[-1], self.signature)]
 
     def flaw(self):
         if not self.entries:
@@ -57,116 +70,63 @@ class Segment:
         return (statement.number, statement.hash) in self.pairs
 
 
-class AuditChallenge(NamedTuple):
-    """Form 3: a node is asked for its log from one signed entry, or from the beginning, to another one."""
+class AuditChallenge(OfOneNode):
+    """Form 3: a node is asked for its log to the last entry that is named, from the first one, or else from the beginning."""
 
-    node: int
-    first: Optional[Statement]
-    last: Statement
-
-    def nodes(self):
-        return [self.node]
+    def __init__(self, reader):
+        super().__init__(reader)
+        flag = reader.number(1)
+        if flag > 1:
+            raise Refused(BAD_TAG)
+        self.first = self.read_statement(reader) if flag else None
+        self.last = self.read_statement(reader)
 
     def statements(self):
-        return [self.last] if self.first is None else [self.first, self.last]
+        return [self.first, self.last] if self.first else [self.last]
 
     def flaw(self):
-        return BAD_RANGE if self.first is not None and self.first.number >= self.last.number else None
+        return BAD_RANGE if self.first and self.first.number >= self.last.number else None
 
 
-class Message(NamedTuple):
-    """A message: its receiver, and what the receiver's RECV entry quotes of it. It is named by its two nodes and the number."""
+class OfMessage:
+    """What the other two forms have in common: a message, which they begin with."""
 
-    receiver: int
-    quote: Quote
-
-    def name(self):
-        return self.quote.sender, self.receiver, self.quote.number
+    def __init__(self, reader):
+        sender, self.receiver, number, before = reader.number(4), reader.number(4), reader.number(8), reader.take(32)
+        signature, payload = reader.sized(LONGEST_SIGNATURE), reader.sized(LONGEST_PAYLOAD)
+        self.quote = Quote(sender, number, before, signature, payload)
 
     def nodes(self):
         return [self.quote.sender, self.receiver]
 
-    def statement(self):
-        return self.quote.statement(self.receiver)
+    def name(self):
+        """By what a message is known: its sender, its receiver and the number of its SEND entry."""
+        return self.quote.sender, self.receiver, self.quote.number
+
+    def statements(self):
+        return [self.quote.statement(self.receiver)]
 
     def flaw(self):
         return SELF_MESSAGE if self.quote.sender == self.receiver else None
 
 
-class SendChallenge(NamedTuple):
-    """Form 4: a receiver is asked to acknowledge a message."""
-
-    message: Message
-
-    def nodes(self):
-        return self.message.nodes()
-
-    def statements(self):
-        return [self.message.statement()]
-
-    def flaw(self):
-        return self.message.flaw()
+class SendChallenge(OfMessage):
+    """Form 4: the receiver of a message is asked to acknowledge it."""
 
 
-class Acknowledgement(NamedTuple):
-    """Form 5: a message, and its receiver's signature of the RECV entry that it became."""
+class Acknowledgement(OfMessage):
+    """Form 5: the receiver of a message signed the RECV entry that it became."""
 
-    message: Message
-    number: int
-    before: bytes
-    signature: bytes
-
-    def nodes(self):
-        return self.message.nodes()
+    def __init__(self, reader):
+        super().__init__(reader)
+        self.number, self.before, self.signature = reader.number(8), reader.take(32), reader.sized(LONGEST_SIGNATURE)
 
     def statements(self):
-        digest = entry_hash(self.before, Entry(self.number, RECV, self.message.quote.content()))
-        return [self.message.statement(), Statement(self.message.receiver, self.number, digest, self.signature)]
-
-    def flaw(self):
-        return self.message.flaw()
+        digest = entry_hash(self.before, Entry(self.number, RECV, self.quote.content()))
+        return super().statements() + [Statement(self.receiver, self.number, digest, self.signature)]
 
 
-# ---- reading
-
-
-def read_statement(reader, node):
-    return Statement(node, reader.number(8), reader.take(32), reader.sized(LONGEST_SIGNATURE))
-
-
-def read_said(reader):
-    return Said(read_statement(reader, reader.number(4)))
-
-
-def read_segment(reader):
-    node, before, count = reader.number(4), reader.take(32), reader.count(MOST_ENTRIES)
-    entries = [Entry(reader.number(8), reader.number(1), reader.sized(LONGEST_CONTENT)) for _ in range(count)]
-    return Segment(node, before, entries, reader.sized(LONGEST_SIGNATURE))
-
-
-def read_audit_challenge(reader):
-    node, flag = reader.number(4), reader.number(1)
-    if flag > 1:
-        raise Refused(BAD_TAG)
-    first = read_statement(reader, node) if flag else None
-    return AuditChallenge(node, first, read_statement(reader, node))
-
-
-def read_message(reader):
-    sender, receiver, number, before = reader.number(4), reader.number(4), reader.number(8), reader.take(32)
-    signature, payload = reader.sized(LONGEST_SIGNATURE), reader.sized(LONGEST_PAYLOAD)
-    return Message(receiver, Quote(sender, number, before, signature, payload))
-
-
-def read_send_challenge(reader):
-    return SendChallenge(read_message(reader))
-
-
-def read_acknowledgement(reader):
-    return Acknowledgement(read_message(reader), reader.number(8), reader.take(32), reader.sized(LONGEST_SIGNATURE))
-
-
-FORMS = {1: read_said, 2: read_segment, 3: read_audit_challenge, 4: read_send_challenge, 5: read_acknowledgement}
+FORMS = {1: SignedStatement, 2: Segment, 3: AuditChallenge, 4: SendChallenge, 5: Acknowledgement}
 
 
 def read_item(text):
@@ -180,15 +140,11 @@ def read_item(text):
     return item
 
 
-# ---- checking
-
-
 def check_item(directory, item):
     """Refuses an item that is not valid under the directory, by the first of its faults."""
     if any(node not in directory for node in item.nodes()):
         raise Refused(UNKNOWN_NODE)
-    flaw = item.flaw()
-    if flaw is not None:
-        raise Refused(flaw)
+    if item.flaw():
+        raise Refused(item.flaw())
     if not all(is_signed(directory, statement) for statement in item.statements()):
         raise Refused(BAD_SIGNATURE)

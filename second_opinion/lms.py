@@ -3,6 +3,7 @@
 `verifies` is algorithm 6a of section 5.4.2, and the one-time signature in it algorithm 4b of section 4.6.
 """
 
+from functools import lru_cache
 from typing import NamedTuple
 
 from fields import Refused, UNKNOWN_LMS_TYPE, UNKNOWN_OTS_TYPE, sha256, u8, u16, u32
@@ -78,8 +79,9 @@ def leaf_of(signature):
     return int.from_bytes(signature[:4], "big")
 
 
+@lru_cache(maxsize=4096)
 def verifies(key, message, signature):
-    """Whether the signature is one of the message under the key."""
+    """Whether the signature is one of the message under the key. What was found is kept for a while: items quote each other."""
     if len(signature) != signature_length(key):
         return False
     height, path_at = HEIGHTS[key.lms_type], 44 + 32 * ONE_TIME[key.ots_type].p

@@ -2,7 +2,7 @@
 
 from contradictions import are_two_hashes, contradicts
 from fields import BAD_TAG, CONFORMS, NO_CONTRADICTION, Reader, Refused
-from items import LONGEST_ITEM, check_item, read_item
+from items import LONGEST_ITEM, Segment, check_item, read_item
 from replay import deviation, reads_of
 
 # Of each form the tags of its items: 1 of a signed statement, 2 of a segment
@@ -32,13 +32,13 @@ def convicted(directory, program, parts):
     """The node that a proof of these items convicts; refused where one of them is not valid, or where they show no fault."""
     for part in parts:
         check_item(directory, part)
-    if not shows_fault(directory, program, *parts):
-        raise Refused(CONFORMS if len(parts) == 1 else NO_CONTRADICTION)
-    return parts[0].nodes()[0]
-
-
-def shows_fault(directory, program, first, second=None):
-    if second is None:
-        return deviation(directory, program, first, reads_of(directory, first)) is not None
-    statement = first.statement
-    return contradicts(statement, second) if hasattr(second, "entries") else are_two_hashes(statement, second.statement)
+    first, last = parts[0], parts[-1]
+    if len(parts) == 1:
+        if deviation(directory, program, first, reads_of(directory, first)) is None:
+            raise Refused(CONFORMS)
+    elif isinstance(last, Segment):
+        if not contradicts(first.statement, last):
+            raise Refused(NO_CONTRADICTION)
+    elif not are_two_hashes(first.statement, last.statement):
+        raise Refused(NO_CONTRADICTION)
+    return first.node
