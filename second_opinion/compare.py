@@ -19,17 +19,17 @@ import time
 sys.dont_write_bytecode = True
 
 import stored
-from check import COMMANDS, answer
+from check import answer
 from containers import read_store
 from directories import read_directory
-from fields import Refused, u32, u64
+from fields import Refused, sha256, u32, u64
 from indications import Evidence
 from items import Segment, read_item
-from programs import Relay, Tally
+from programs import PROGRAMS
 from replay import deviation, reads_of
 
 # How many cases each source has at least
-LEAST = {"tour": 13, "explained": 13, "page": 11, "refusals": 31, "vectors": 363, "verdicts": 83, "proofs": 264, "cuts": 9640}
+LEAST = {"tour": 13, "explained": 13, "page": 11, "refusals": 31, "vectors": 363, "verdicts": 83, "proofs": 264, "cuts": 9640, "bundles": 84}
 
 
 def opinion(words, text):
@@ -73,7 +73,7 @@ def hold_vectors(tried):
 def hold_verdict(tried, vector):
     """The verdict on a segment, with the place and the reason."""
     directory, segment = read_directory(vector.directory), read_item(stored.item_in(vector.words[0]))
-    found = deviation(directory, Relay() if vector.kind == "relay" else Tally(), segment, reads_of(directory, segment))
+    found = deviation(directory, PROGRAMS[vector.kind], segment, reads_of(directory, segment))
     told = "conforms" if found is None else "deviates %d %d %s" % (found[0], *found[1])
     tried.hold("verdicts", told, told, " ".join(vector.words[1:]))
 
@@ -82,7 +82,7 @@ def hold_store(tried, vector):
     """How many challenges to each node are open; and that what the store holds makes proofs against just the nodes that it exposes."""
     directory, rows = read_directory(vector.directory), vector.words[3:-1]
     items = stored.items_in(*vector.words[:2])
-    evidence = Evidence(directory, Tally(), read_store(directory, stored.store_of(items)))
+    evidence = Evidence(directory, PROGRAMS["tally"], read_store(directory, stored.store_of(items)))
     is_open = collections.Counter(evidence.unanswered())
     told = [(int(node), int(count)) for node, count in zip(rows[::4], rows[2::4])]
     tried.hold("proofs", "open challenges", [(node, is_open[node]) for node, _ in told], told)
@@ -99,6 +99,36 @@ def convicted_by(directory, evidence, items):
     proofs += [stored.proof_of(2, one, segment) for one in said for segment in segments if one[1:5] == segment[1:5]]
     found = [opinion(["check"], directory.hex().encode() + b"\n" + proof.hex().encode()) for proof in proofs]
     return {int(told.split()[1]) for told in found if told.startswith("exposes")}
+
+
+def hold_bundle(tried, case):
+    """The bundle of a proof is read as it is; one with a line at fault is refused with the number of that line."""
+
+    def hold(name, text, wanted):
+        tried.hold("bundles", f"{case.name}, {name}", opinion(["check-bundle"], text.encode()), wanted)
+
+    lines = opinion(["bundle"], case.text()).splitlines(keepends=True)
+    told = f"program tally\ndirectory {sha256(case.lines[0]).hex()}\n{case.wanted}"
+    hold("whole", "".join(lines), told)
+    hold("without sentences", "".join(lines[:7]), told)
+    hold("another node", "".join([*lines[:6], "exposes 77\n"]), f"{told}disagrees: the bundle says that it exposes 77\n")
+    tried.hold("bundles", "two lines", (lines[3] + lines[5]).encode(), case.text())
+    size = f" {len(case.lines[0])} "
+    for place, line in (
+        *((place, "") for place in range(1, 8)),
+        (1, "bulwynef bundle 2\n"),
+        (2, "program other\n"),
+        (3, lines[2].replace(size, f" {len(case.lines[0]) - 1} ")),
+        (3, lines[2].replace(size, f" 0{size[1:]}")),
+        (3, lines[2][:-65] + 64 * "0" + "\n"),
+        (4, lines[3].replace("\n", "0\n")),
+        (5, lines[4][:-65] + 64 * "0" + "\n"),
+        (7, "exposes\n"),
+        (8, "no sentence\n"),
+        (len(lines), lines[-1][:-1]),
+    ):
+        broken = "".join([*lines[: place - 1], line, *lines[place:]])
+        hold(f"line {place}", broken, f"refused 106 BadBundle: line {place}\n")
 
 
 def written_by(program, words, text):
@@ -121,7 +151,7 @@ def hold_program(tried, program, seconds, seed):
     for name, words, text in itertools.chain(known, ((f"{seed}-{at}", *inputs.input(at)) for at in itertools.count())):
         if time.monotonic() > end:
             break
-        if words[0] in COMMANDS:
+        if words[0] in ("status", "check"):
             tried.hold("program", f"{name}, {' '.join(words)}", opinion(words, text), written_by(program, words, text))
 
 
@@ -134,6 +164,9 @@ def main():
     tried = Tried()
     hold_cases(tried)
     hold_vectors(tried)
+    for case in stored.tours():
+        if case.words == ["check"]:
+            hold_bundle(tried, case)
     if options.program:
         print(f"--seed {options.seed}")
         hold_program(tried, os.path.abspath(options.program), options.seconds, options.seed)

@@ -15,15 +15,14 @@ BAD_START, BAD_RANGE, BAD_SIGNATURE = (47, "BadStart"), (48, "BadRange"), (49, "
 NO_CONTRADICTION, CONFORMS = (50, "NoContradiction"), (51, "Conforms")
 BAD_MAGIC, NOT_ASCENDING = (60, "BadMagic"), (61, "NotAscending")
 MEMORY, READ_FAILED, INPUT_TOO_LONG, WRITE_FAILED = (99, "Memory"), (100, "ReadFailed"), (101, "InputTooLong"), (102, "WriteFailed")
-BAD_HEX, LINE_COUNT = (103, "BadHex"), (104, "LineCount")
+BAD_HEX, LINE_COUNT, BAD_BUNDLE = (103, "BadHex"), (104, "LineCount"), (106, "BadBundle")
 
 
 class Refused(Exception):
-    """An input is refused, for a reason that has a number and a name."""
+    """An input is refused, for a reason that has a number and a name; of a bundle there is a place, too."""
 
-    def __init__(self, reason):
-        super().__init__("refused %d %s" % reason)
-        self.reason = reason
+    def __init__(self, reason, place=""):
+        super().__init__("refused %d %s" % reason + place)
 
 
 def sha256(*parts):

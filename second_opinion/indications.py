@@ -6,7 +6,7 @@ else it is suspected where a challenge to it has no answer; else it is trusted. 
 and a segment also those that its RECV entries quote genuinely.
 """
 
-from contradictions import contradicts
+from contradictions import contradiction
 from items import Acknowledgement, AuditChallenge, Segment, SendChallenge
 from replay import deviation, reads_of
 
@@ -42,7 +42,7 @@ class Evidence:
         return {node for (node, _), found in hashes.items() if len(found) > 1}
 
     def contradicted(self):
-        return {segment.node for segment in self.reads for statement in self.held if contradicts(statement, segment)}
+        return {segment.node for segment in self.reads for statement in self.held if contradiction(statement, segment)}
 
     def deviating(self):
         return {it.node for it, reads in self.reads.items() if deviation(self.directory, self.program, it, reads) is not None}

@@ -48,3 +48,6 @@ class Relay(Counter):
 
     def ticked(self, me, count, moment):
         return count, to_next(me, u64(moment))
+
+
+PROGRAMS = {"tally": Tally(), "relay": Relay()}

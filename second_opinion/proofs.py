@@ -1,6 +1,6 @@
 """Proofs, and whom they convict: FORMATS, "Proof"."""
 
-from contradictions import are_two_hashes, contradicts
+from contradictions import are_two_hashes, contradiction
 from fields import BAD_TAG, CONFORMS, NO_CONTRADICTION, Reader, Refused
 from items import LONGEST_ITEM, Segment, check_item, read_item
 from replay import deviation, reads_of
@@ -37,7 +37,7 @@ def convicted(directory, program, parts):
         if deviation(directory, program, first, reads_of(directory, first)) is None:
             raise Refused(CONFORMS)
     elif isinstance(last, Segment):
-        if not contradicts(first.statement, last):
+        if contradiction(first.statement, last) is None:
             raise Refused(NO_CONTRADICTION)
     elif not are_two_hashes(first.statement, last.statement):
         raise Refused(NO_CONTRADICTION)
