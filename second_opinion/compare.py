@@ -29,7 +29,7 @@ from programs import PROGRAMS
 from replay import deviation, reads_of
 
 # How many cases each source has at least
-LEAST = {"tour": 13, "explained": 13, "page": 11, "refusals": 31, "vectors": 363, "verdicts": 83, "proofs": 264, "cuts": 9640, "bundles": 84}
+LEAST = {"tour": 13, "explained": 13, "page": 11, "refusals": 31, "vectors": 363, "verdicts": 83, "proofs": 264, "cuts": 9640, "bundles": 84, "falling": 200}
 
 
 def opinion(words, text):
@@ -90,14 +90,33 @@ def hold_store(tried, vector):
     tried.hold("proofs", "convicted", convicted_by(vector.directory, evidence, items), wanted)
 
 
+def hold_falling(tried):
+    """A segment whose numbers do not rise is contradicted by none of the statements that its node signed in other items."""
+    said, falling = collections.defaultdict(set), []
+    for vector in stored.vectors():
+        if vector.kind in PROGRAMS and vector.words[1] != "refused":
+            said[vector.directory].update(read_item(stored.item_in(vector.words[0])).statements())
+            falling += [(vector.directory, stored.item_in(vector.words[0]))] * (vector.words[-1] == "SeqOrder")
+    for directory, segment in falling:
+        for statement in sorted(it for it in said[directory] if u32(it.node) == segment[1:5]):
+            found = opinion(["check"], stored.input_of(directory, stored.proof_of(2, spelled(statement), segment)))
+            tried.hold("falling", statement.number, found, "refused 50 NoContradiction\n")
+
+
+def spelled(statement):
+    """The item that is this statement alone."""
+    node, number, digest, signature = statement
+    return b"\x01" + u32(node) + u64(number) + digest + u32(len(signature)) + signature
+
+
 def convicted_by(directory, evidence, items):
     """Whom the proofs convict that can be made of the statements and the segments."""
-    said = sorted({b"\x01" + u32(it.node) + u64(it.number) + it.hash + u32(len(it.signature)) + it.signature for it in evidence.held})
+    said = sorted(spelled(statement) for statement in evidence.held)
     segments = [item for item in items if item[:1] == b"\x02"]
     proofs = [stored.proof_of(3, segment) for segment in segments]
-    proofs += [stored.proof_of(1, one, two) for one, two in itertools.combinations(said, 2) if one[1:5] == two[1:5]]
-    proofs += [stored.proof_of(2, one, segment) for one in said for segment in segments if one[1:5] == segment[1:5]]
-    found = [opinion(["check"], directory.hex().encode() + b"\n" + proof.hex().encode()) for proof in proofs]
+    proofs += [stored.proof_of(1, one, two) for one, two in itertools.combinations(said, 2)]
+    proofs += [stored.proof_of(2, one, segment) for one in said for segment in segments]
+    found = [opinion(["check"], stored.input_of(directory, proof)) for proof in proofs]
     return {int(told.split()[1]) for told in found if told.startswith("exposes")}
 
 
@@ -164,6 +183,7 @@ def main():
     tried = Tried()
     hold_cases(tried)
     hold_vectors(tried)
+    hold_falling(tried)
     for case in stored.tours():
         if case.words == ["check"]:
             hold_bundle(tried, case)

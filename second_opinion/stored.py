@@ -26,12 +26,17 @@ class Case(NamedTuple):
     wanted: str
 
     def text(self):
-        return b"".join(line.hex().encode() + b"\n" for line in self.lines)
+        return input_of(*self.lines)
 
 
 def read(path):
     with open(f"{TOP}/{path}", "rb") as file:
         return file.read()
+
+
+def input_of(*texts):
+    """An input that spells these texts, and the texts that an input spells."""
+    return b"".join(text.hex().encode() + b"\n" for text in texts)
 
 
 def lines_of(text):
