@@ -30,7 +30,7 @@ from programs import PROGRAMS
 from replay import deviation, reads_of
 
 # How many cases each source has at least
-LEAST = {"tour": 13, "explained": 13, "page": 11, "refusals": 31, "vectors": 363, "verdicts": 83, "proofs": 264, "cuts": 9640, "bundles": 84, "falling": 201, "boundaries": 113}
+LEAST = {"tour": 13, "explained": 13, "page": 11, "refusals": 32, "vectors": 363, "verdicts": 83, "proofs": 264, "cuts": 9640, "bundles": 84, "falling": 201, "boundaries": 113}
 
 
 def opinion(words, text):
