@@ -15,6 +15,8 @@ output of the commands" and "Bundle", has all of it. Nothing here is proved: REA
 import binascii
 import sys
 
+sys.dont_write_bytecode = True
+
 from bundles import Bundle, read_bundle
 from containers import read_store
 from directories import read_directory
@@ -22,7 +24,7 @@ from fields import BAD_HEX, INPUT_TOO_LONG, LINE_COUNT, MEMORY, READ_FAILED, WRI
 from indications import Evidence
 from programs import PROGRAMS
 from proofs import convicted, read_proof
-from sources import sum_of_sources
+from sums import sum_of_sources
 from why import of_parts
 
 LONGEST_INPUT = 67_108_864

@@ -18,6 +18,7 @@ import time
 
 sys.dont_write_bytecode = True
 
+import boundaries
 import stored
 from check import answer
 from containers import read_store
@@ -29,7 +30,7 @@ from programs import PROGRAMS
 from replay import deviation, reads_of
 
 # How many cases each source has at least
-LEAST = {"tour": 13, "explained": 13, "page": 11, "refusals": 31, "vectors": 363, "verdicts": 83, "proofs": 264, "cuts": 9640, "bundles": 84, "falling": 200}
+LEAST = {"tour": 13, "explained": 13, "page": 11, "refusals": 32, "vectors": 363, "verdicts": 83, "proofs": 264, "cuts": 9640, "bundles": 84, "falling": 201, "boundaries": 113}
 
 
 def opinion(words, text):
@@ -55,7 +56,8 @@ class Tried:
 
 
 def hold_cases(tried):
-    for case in itertools.chain(stored.tours(), stored.explained(), stored.page(), stored.refusals()):
+    sources = stored.tours(), stored.explained(), stored.page(), stored.refusals(), boundaries.statements(), boundaries.challenges()
+    for case in itertools.chain(*sources):
         tried.hold(case.source, case.name, opinion(case.words, case.text()), case.wanted)
 
 

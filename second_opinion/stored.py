@@ -201,6 +201,7 @@ def refusals():
     for wanted, text in (
         ("40 Truncated", b""),
         ("40 Truncated", proof[:-1]),
+        ("40 Truncated", proof_of(1, b"", two)),
         ("41 BadTag", after(proof, 0, 0)),
         ("41 BadTag", after(proof, 0, 2)),
         ("41 BadTag", after(proof, 5, 3)),
