@@ -1,0 +1,7 @@
+mod Exposures
+mod Items
+mod Kept
+mod KeyLists
+mod Lists
+mod Reasons
+mod Verdicts

@@ -1,0 +1,70 @@
+-- What stays valid, what conforms and which proofs convict, where nodes have further keys.
+use Rattle.std.specs.Prelude.{◌≢◌, ℕ, IsTrue, List}
+use Rattle.std.specs.List.{All}
+use Rattle.log_chain.specs.declared.entry.Entry.{Entry}
+use Rattle.authenticators.specs.Directory.{Listing}
+use Rattle.replay_verifier.specs.declared.verdict.Reason.{Reason}
+use Rattle.replay_verifier.specs.declared.verdict.Reason.TheVariants.{BadReceipt}
+use Rattle.replay_verifier.specs.Conforming.{Conforms, setting_of}
+use Rattle.replay_verifier.specs.Deviation.{DeviatesAt, is_genuine_entry}
+use Rattle.replay_verifier.specs.Meaning.{Meaning}
+use Rattle.item_forms.specs.declared.forms.Fields.{Fields}
+use Rattle.item_forms.specs.declared.forms.Fields.TheVariants as form
+use Rattle.item_forms.specs.declared.forms.Segment.{Segment}
+use Rattle.evidence_item.specs.Validity.{IsValid}
+use Rattle.proofs.specs.declared.proof.Parts.{Parts}
+use Rattle.proofs.specs.declared.proof.Parts.TheVariants as parts
+use Rattle.proofs.specs.Convicting.{Convicts}
+use Rattle.evidence_set.specs.Exports.{AreValid}
+use Rattle.evidence_set.specs.Indications.{Denies, DoesNotConform, SaysTwo}
+use Rattle.evidence_set.specs.ItemSets.{Items}
+use Rattle.further_keys.specs.FurtherKeys.{HasFurtherKeys}
+
+-- The entry of node me is no RECV that quotes genuinely under the new directory alone.
+abbrev pub QuotesNothingNew : Listing → Listing → ℕ → Entry → Type 0
+QuotesNothingNew old new me e = IsTrue (is_genuine_entry new me e) → IsTrue (is_genuine_entry old me e)
+
+-- No entry of the proof's segment does, where the proof is that a segment does not conform.
+abbrev pub ShowsNothingNew : Listing → Listing → Parts → Type 0
+ShowsNothingNew old new (parts.TwoAuths a b) = Unit {0}
+ShowsNothingNew old new (parts.AuthSegment a s) = Unit {0}
+ShowsNothingNew old new (parts.Nonconforming s) = All (QuotesNothingNew old new s.node) s.entries
+
+-- ---- laws, which `laws` proves
+
+-- Each item that was valid is valid.
+abbrev pub FurtherKeysKeepItems : Type 0
+FurtherKeysKeepItems = (old new : Listing) → HasFurtherKeys old new → (x : Fields) → IsValid old x → IsValid new x
+
+-- What conformed conforms. What conforms with the further keys, and quotes nothing new, conformed. And what deviated deviates at the
+-- same place and for the same reason, where the entry at that place quotes nothing new, or where the reason is another than that what
+-- it quotes is not genuine.
+pub record FurtherKeysKeepVerdicts (S : Type 0) : Type 0 where
+  pub conforms : (old new : Listing) → HasFurtherKeys old new → (me : ℕ) (program : Meaning S) (prev : List ℕ) (log : List Entry)
+      → Conforms (setting_of old me program) prev log → Conforms (setting_of new me program) prev log
+  pub conformed : (old new : Listing) → HasFurtherKeys old new → (me : ℕ) (program : Meaning S) (prev : List ℕ) (log : List Entry)
+      → All (QuotesNothingNew old new me) log → Conforms (setting_of new me program) prev log → Conforms (setting_of old me program) prev log
+  pub deviates : (old new : Listing) → HasFurtherKeys old new → (me : ℕ) (program : Meaning S) (prev : List ℕ) (log : List Entry) (at : ℕ) (why : Reason)
+      → (d : DeviatesAt (setting_of old me program) prev log at why) → QuotesNothingNew old new me d.entry → DeviatesAt (setting_of new me program) prev log at why
+  pub stays : (old new : Listing) → HasFurtherKeys old new → (me : ℕ) (program : Meaning S) (prev : List ℕ) (log : List Entry) (at : ℕ) (why : Reason)
+      → why ≢ BadReceipt → DeviatesAt (setting_of old me program) prev log at why → DeviatesAt (setting_of new me program) prev log at why
+
+-- A proof that convicts a node convicts it: one by statements always, one by a segment that does not conform where it shows nothing
+-- new; for which it is enough that the entry quotes nothing new at which it deviates, or that it deviates there for another reason.
+pub record FurtherKeysKeepProofs (S : Type 0) : Type 0 where
+  pub convicts : (old new : Listing) → HasFurtherKeys old new → (program : Meaning S) (node : ℕ) (x : Parts)
+      → ShowsNothingNew old new x → Convicts old program node x → Convicts new program node x
+  pub deviating : (old new : Listing) → HasFurtherKeys old new → (program : Meaning S) (s : Segment) (at : ℕ) (why : Reason)
+      → IsValid old (form.Segment s) → (d : DeviatesAt (setting_of old s.node program) s.prev s.entries at why) → QuotesNothingNew old new s.node d.entry
+      → Convicts new program s.node (parts.Nonconforming s)
+  pub stays : (old new : Listing) → HasFurtherKeys old new → (program : Meaning S) (s : Segment) (at : ℕ) (why : Reason)
+      → IsValid old (form.Segment s) → why ≢ BadReceipt → DeviatesAt (setting_of old s.node program) s.prev s.entries at why
+      → Convicts new program s.node (parts.Nonconforming s)
+
+-- A set of valid items is one; what exposes a node by statements alone, or by a statement and a segment, exposes it; and a set that with
+-- the further keys has a segment that does not conform had one.
+pub record FurtherKeysKeepExposures (S : Type 0) : Type 0 where
+  pub valid : (old new : Listing) → HasFurtherKeys old new → (E : Items) → AreValid old E → AreValid new E
+  pub two : (old new : Listing) → HasFurtherKeys old new → (E : Items) (j : ℕ) → SaysTwo old E j → SaysTwo new E j
+  pub denies : (old new : Listing) → HasFurtherKeys old new → (E : Items) (j : ℕ) → Denies old E j → Denies new E j
+  pub deviated : (old new : Listing) → HasFurtherKeys old new → (program : Meaning S) (E : Items) (j : ℕ) → DoesNotConform new program E j → DoesNotConform old program E j
