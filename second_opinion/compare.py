@@ -25,12 +25,13 @@ from containers import read_store
 from directories import read_directory
 from fields import Refused, sha256, u32, u64
 from indications import Evidence
-from items import Segment, read_item
+from items import read_item
 from programs import PROGRAMS
 from replay import deviation, reads_of
 
 # How many cases each source has at least
-LEAST = {"tour": 13, "explained": 13, "page": 11, "refusals": 32, "vectors": 363, "verdicts": 83, "proofs": 264, "cuts": 9640, "bundles": 84, "falling": 201, "boundaries": 113}
+LEAST = {"tour": 13, "explained": 13, "page": 11, "refusals": 32, "boundaries": 122, "vectors": 363, "cuts": 9640}
+LEAST.update({"verdicts": 83, "proofs": 264, "falling": 201, "bundles": 84})
 
 
 def opinion(words, text):
@@ -55,21 +56,24 @@ class Tried:
                 print(f"DIFFERS {source}, {name}: wanted {wanted!r}, and here it is {found!r}")
 
 
-def hold_cases(tried):
-    sources = stored.tours(), stored.explained(), stored.page(), stored.refusals(), boundaries.statements(), boundaries.challenges()
-    for case in itertools.chain(*sources):
-        tried.hold(case.source, case.name, opinion(case.words, case.text()), case.wanted)
+    def case(self, case):
+        self.hold(case.source, case.name, opinion(case.words, case.text()), case.wanted)
 
 
-def hold_vectors(tried):
+def hold_stored(tried):
+    """All that is stored, and what is signed and bundled here."""
+    for cases in (stored.tours, stored.explained, stored.page, stored.refusals, stored.vector_cases, boundaries.statements, boundaries.challenges):
+        for case in cases():
+            tried.case(case)
     for vector in stored.vectors():
-        cases = {"store": stored.store_cases, "cuts": stored.cut_cases}.get(vector.kind, stored.item_cases)(vector)
-        for case in cases:
-            tried.hold(case.source, case.name, opinion(case.words, case.text()), case.wanted)
         if vector.kind == "store":
             hold_store(tried, vector)
-        elif vector.kind in ("tally", "relay") and vector.words[1] in ("conforms", "deviates"):
+        elif vector.words[1] in ("conforms", "deviates"):
             hold_verdict(tried, vector)
+    hold_falling(tried)
+    for case in stored.tours():
+        if case.words == ["check"]:
+            hold_bundle(tried, case)
 
 
 def hold_verdict(tried, vector):
@@ -183,12 +187,7 @@ def main():
     parser.add_argument("--seed", type=int, default=random.randrange(2**32), help="what its inputs are made from (one by chance)")
     options = parser.parse_args()
     tried = Tried()
-    hold_cases(tried)
-    hold_vectors(tried)
-    hold_falling(tried)
-    for case in stored.tours():
-        if case.words == ["check"]:
-            hold_bundle(tried, case)
+    hold_stored(tried)
     if options.program:
         print(f"--seed {options.seed}")
         hold_program(tried, os.path.abspath(options.program), options.seconds, options.seed)

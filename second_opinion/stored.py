@@ -129,6 +129,13 @@ def vectors():
             yield Vector(directory, kind, words)
 
 
+def vector_cases():
+    """What the vectors say of inputs of the two commands."""
+    makers = {"tally": item_cases, "relay": item_cases, "store": store_cases, "cuts": cut_cases}
+    for vector in vectors():
+        yield from makers[vector.kind](vector)
+
+
 def item_in(word):
     return b"" if word == "-" else bytes.fromhex(word)
 
