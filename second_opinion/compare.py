@@ -30,7 +30,7 @@ from programs import PROGRAMS
 from replay import deviation, reads_of
 
 # How many cases each source has at least
-LEAST = {"tour": 13, "explained": 13, "page": 11, "refusals": 32, "boundaries": 122, "vectors": 363, "cuts": 9640}
+LEAST = {"tour": 13, "explained": 13, "page": 11, "refusals": 34, "boundaries": 122, "vectors": 363, "cuts": 9640}
 LEAST.update({"verdicts": 83, "proofs": 264, "falling": 201, "bundles": 84})
 
 

@@ -189,6 +189,8 @@ def refusals():
         ("24 Truncated", directory[:11]),
         ("24 Truncated", directory[:-1]),
         ("24 Truncated", after(directory, 11, 4)),
+        ("24 Truncated", after(directory, 10, 4, 0)),
+        ("24 Truncated", after(directory, 16, 8)),
         ("23 BadMagic", after(directory, 0, 0)),
         ("22 TooManyNodes", after(directory, 10, 4, 1)),
         ("26 KeyCount", after(directory, 16, 0)),
