@@ -1,5 +1,7 @@
-"""Statements at and beside the ends of segments, with the answers that FORMATS has for them: "Proof", its last paragraph, and "Items of
-evidence", its last one. They are signed here, by keys of `reference/nodes.py`, which sign more than once by a leaf: nobody else has them.
+"""Statements at and beside the ends of segments, and signatures that are none, with the answers that FORMATS has for them: "A node's
+keys", and the last paragraphs of "Proof" and of "Items of evidence".
+
+They are signed here, by keys of `reference/nodes.py`, which sign more than once by a leaf: nobody else has them.
 """
 
 import sys
@@ -88,3 +90,16 @@ def challenges():
         yield Case("boundaries", numbers, ["status"], [DIRECTORY, store_of([asked, part.segment(1)])], wanted)
         wanted = f"1 suspected\n2 {'exposed' if part is WHOLE else 'trusted'}\n"
         yield Case("boundaries", numbers, ["status"], [DIRECTORY, store_of([asked, part.segment(2)])], wanted)
+
+
+def signatures():
+    """Texts of signatures of which one alone is one: others name a key that the node has not, or none, or have another length."""
+    said = signed(1, 5, OTHER)
+    front, own = said[:40], said[44:]
+    for text in (own, b"", own[:-1], own[1:], own[32:], own + b"\0", u8(0) + own, u8(1) + own, u8(7) + own, u8(8) + own):
+        item = u8(1) + u32(1) + front + u32(len(text)) + text
+        wanted = "1 trusted\n2 trusted\n" if text == own else "refused 49 BadSignature\n"
+        yield Case("boundaries", text[:4].hex(), ["status"], [DIRECTORY, store_of([item])], wanted)
+
+
+SOURCES = statements, challenges, signatures

@@ -30,7 +30,7 @@ from programs import PROGRAMS
 from replay import deviation, reads_of
 
 # How many cases each source has at least
-LEAST = {"tour": 13, "explained": 13, "page": 11, "refusals": 34, "boundaries": 122, "vectors": 363, "cuts": 9640}
+LEAST = {"tour": 13, "explained": 13, "page": 11, "refusals": 34, "boundaries": 132, "vectors": 363, "cuts": 9640}
 LEAST.update({"verdicts": 83, "proofs": 264, "falling": 201, "bundles": 84})
 
 
@@ -62,7 +62,7 @@ class Tried:
 
 def hold_stored(tried):
     """All that is stored, and what is signed and bundled here."""
-    for cases in (stored.tours, stored.explained, stored.page, stored.refusals, stored.vector_cases, boundaries.statements, boundaries.challenges):
+    for cases in (stored.tours, stored.explained, stored.page, stored.refusals, stored.vector_cases, *boundaries.SOURCES):
         for case in cases():
             tried.case(case)
     for vector in stored.vectors():
