@@ -90,6 +90,8 @@ def challenges():
         yield Case("boundaries", numbers, ["status"], [DIRECTORY, store_of([asked, part.segment(1)])], wanted)
         wanted = f"1 suspected\n2 {'exposed' if part is WHOLE else 'trusted'}\n"
         yield Case("boundaries", numbers, ["status"], [DIRECTORY, store_of([asked, part.segment(2)])], wanted)
+    asked = u8(3) + u32(1) + u8(2) + signed(1, 5, LATER.at[5]) + signed(1, 8, LATER.at[8])
+    yield Case("boundaries", "flag 2", ["status"], [DIRECTORY, store_of([asked])], "refused 41 BadTag\n")
 
 
 def signatures():

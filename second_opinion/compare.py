@@ -29,9 +29,10 @@ from items import read_item
 from programs import PROGRAMS
 from replay import deviation, reads_of
 
+HERE = os.path.dirname(os.path.abspath(__file__))
 # How many cases each source has at least
-LEAST = {"tour": 13, "explained": 13, "page": 11, "refusals": 34, "boundaries": 132, "vectors": 363, "cuts": 9640}
-LEAST.update({"verdicts": 83, "proofs": 264, "falling": 201, "bundles": 84})
+LEAST = {"tour": 13, "explained": 13, "page": 11, "refusals": 34, "boundaries": 133, "vectors": 363, "cuts": 9640}
+LEAST.update({"verdicts": 83, "proofs": 264, "falling": 201, "bundles": 84, "process": 13})
 
 
 def opinion(words, text):
@@ -71,6 +72,7 @@ def hold_stored(tried):
         elif vector.words[1] in ("conforms", "deviates"):
             hold_verdict(tried, vector)
     hold_falling(tried)
+    hold_process(tried)
     for case in stored.tours():
         if case.words == ["check"]:
             hold_bundle(tried, case)
@@ -154,6 +156,27 @@ def hold_bundle(tried, case):
     ):
         broken = "".join([*lines[: place - 1], line, *lines[place:]])
         hold(f"line {place}", broken, f"refused 106 BadBundle: line {place}\n")
+
+
+def hold_process(tried):
+    """How the command ends as a process: by words, by its devices, and where its input is as long as may be or longer."""
+    good = next(case for case in stored.tours() if "exposed" in case.wanted)
+    for words, text, output, status, wanted in (
+        *((words, good.text(), None, 2, "") for words in ([], ["Status"], ["--relay"], ["status", "x"], ["status", "--relay", "--relay"])),
+        (["check-bundle", "--relay"], good.text(), None, 2, ""),
+        (["status"], good.text(), None, 0, good.wanted),
+        (["status", "--relay"], good.text(), None, 0, good.wanted),
+        (["status"], b"", None, 1, "refused 104 LineCount\n"),
+        (["status"], b"0g\n00", None, 1, "refused 103 BadHex\n"),
+        (["status"], good.text(), "/dev/full", 1, "refused 102 WriteFailed\n"),
+        (["status"], bytes(67_108_864), None, 1, "refused 104 LineCount\n"),
+        (["status"], bytes(67_108_865), None, 1, "refused 101 InputTooLong\n"),
+    ):
+        with open(output or os.devnull, "wb") as sink:
+            streams = {"stdout": sink if output else subprocess.PIPE, "stderr": subprocess.PIPE}
+            done = subprocess.run([sys.executable, f"{HERE}/check.py", *words], input=text, **streams)
+        told = {0: done.stdout, 1: done.stderr}.get(done.returncode, done.stdout)
+        tried.hold("process", f"{words} of {len(text)} bytes", (done.returncode, told.decode()), (status, wanted))
 
 
 def written_by(program, words, text):
