@@ -1,5 +1,7 @@
-"""Statements at and beside the ends of segments, with the answers that FORMATS has for them: "Proof", its last paragraph, and "Items of
-evidence", its last one. They are signed here, by keys of `reference/nodes.py`, which sign more than once by a leaf: nobody else has them.
+"""Statements at and beside the ends of segments, and signatures that are none, with the answers that FORMATS has for them: "A node's
+keys", and the last paragraphs of "Proof" and of "Items of evidence".
+
+They are signed here, by keys of `reference/nodes.py`, which sign more than once by a leaf: nobody else has them.
 """
 
 import sys
@@ -25,15 +27,19 @@ def signed(node, number, digest):
 
 
 class Part:
-    """A segment of node 1 that conforms: entries with these numbers after this hash, and the hash at each."""
+    """Entries of a log of node 1, with these numbers after this hash, and the hash at each. They conform."""
 
     def __init__(self, before, *numbers):
-        self.at, text, digest = {}, b"", before
-        for place, number in enumerate(numbers):
-            kind, content = INIT if place == 0 and before == BASE else CHECKPOINT
-            digest = self.at[number] = entry_hash(digest, number, kind, content)
-            text += u64(number) + u8(kind) + u32(len(content)) + content
-        self.item = u8(2) + u32(1) + before + u32(len(numbers)) + text + signed(1, number, digest)[40:]
+        self.before, self.numbers, self.at, self.text = before, numbers, {}, b""
+        for number in numbers:
+            kind, content = INIT if before == BASE else CHECKPOINT
+            self.at[number] = before = entry_hash(before, number, kind, content)
+            self.text += u64(number) + u8(kind) + u32(len(content)) + content
+
+    def segment(self, node):
+        """The segment of these entries that a node signed."""
+        last = self.numbers[-1]
+        return u8(2) + u32(node) + self.before + u32(len(self.numbers)) + self.text + signed(node, last, self.at[last])[40:]
 
 
 LATER, WHOLE, FROM_ZERO = Part(EARLIER, 5, 6, 8), Part(BASE, 3, 4), Part(EARLIER, 0, 1)
@@ -50,7 +56,7 @@ STATEMENTS = (
     (FROM_ZERO, 2**64 - 1, OTHER, False),
     (FROM_ZERO, 0, OTHER, True),
 )
-# A segment, two numbers of it or one, by which node 1 is asked for its log, and whether the segment answers that
+# A segment, one number or two by which node 1 is asked for its log, and whether the segment answers that
 CHALLENGES = (
     (LATER, [8], False),
     (LATER, [5, 8], True),
@@ -70,15 +76,32 @@ def statements():
         for node in (1, 2):
             said, exposed = u8(1) + u32(node) + signed(node, number, digest), contradicts and node == 1
             wanted = "exposes 1\n" if exposed else "refused 50 NoContradiction\n"
-            yield Case("boundaries", number, ["check"], [DIRECTORY, proof_of(2, said, part.item)], wanted)
+            yield Case("boundaries", number, ["check"], [DIRECTORY, proof_of(2, said, part.segment(1))], wanted)
             wanted = f"1 {'exposed' if exposed else 'trusted'}\n2 trusted\n"
-            yield Case("boundaries", number, ["status"], [DIRECTORY, store_of([said, part.item])], wanted)
+            yield Case("boundaries", number, ["status"], [DIRECTORY, store_of([said, part.segment(1)])], wanted)
 
 
 def challenges():
-    """Each challenge beside its segment. What it names outside of the segment contradicts nothing."""
+    """Each challenge beside its segment, and beside one of the same entries that is of node 2, which answers nothing."""
     for part, numbers, is_answered in CHALLENGES:
         named = [signed(1, number, part.at.get(number, EARLIER)) for number in numbers]
         asked = u8(3) + u32(1) + u8(len(named) - 1) + b"".join(named)
         wanted = f"1 {'trusted' if is_answered else 'suspected'}\n2 trusted\n"
-        yield Case("boundaries", numbers, ["status"], [DIRECTORY, store_of([asked, part.item])], wanted)
+        yield Case("boundaries", numbers, ["status"], [DIRECTORY, store_of([asked, part.segment(1)])], wanted)
+        wanted = f"1 suspected\n2 {'exposed' if part is WHOLE else 'trusted'}\n"
+        yield Case("boundaries", numbers, ["status"], [DIRECTORY, store_of([asked, part.segment(2)])], wanted)
+    asked = u8(3) + u32(1) + u8(2) + signed(1, 5, LATER.at[5]) + signed(1, 8, LATER.at[8])
+    yield Case("boundaries", "flag 2", ["status"], [DIRECTORY, store_of([asked])], "refused 41 BadTag\n")
+
+
+def signatures():
+    """Texts of signatures of which one alone is one: others name a key that the node has not, or none, or have another length."""
+    said = signed(1, 5, OTHER)
+    front, own = said[:40], said[44:]
+    for text in (own, b"", own[:-1], own[1:], own[32:], own + b"\0", u8(0) + own, u8(1) + own, u8(7) + own, u8(8) + own):
+        item = u8(1) + u32(1) + front + u32(len(text)) + text
+        wanted = "1 trusted\n2 trusted\n" if text == own else "refused 49 BadSignature\n"
+        yield Case("boundaries", text[:4].hex(), ["status"], [DIRECTORY, store_of([item])], wanted)
+
+
+SOURCES = statements, challenges, signatures

@@ -108,16 +108,18 @@ def are_understood(words):
 
 
 def read_input():
+    """All of standard input, or one byte more than may be."""
     try:
-        return sys.stdin.buffer.read(LONGEST_INPUT + 1)
+        with open(0, "rb", closefd=False) as source:
+            return source.read(LONGEST_INPUT + 1)
     except OSError:
         raise Refused(READ_FAILED) from None
 
 
 def write(text):
     try:
-        sys.stdout.write(text)
-        sys.stdout.flush()
+        with open(1, "wb", closefd=False) as sink:
+            sink.write(text.encode())
     except OSError:
         raise Refused(WRITE_FAILED) from None
 

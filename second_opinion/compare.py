@@ -25,12 +25,14 @@ from containers import read_store
 from directories import read_directory
 from fields import Refused, sha256, u32, u64
 from indications import Evidence
-from items import Segment, read_item
+from items import read_item
 from programs import PROGRAMS
 from replay import deviation, reads_of
 
+HERE = os.path.dirname(os.path.abspath(__file__))
 # How many cases each source has at least
-LEAST = {"tour": 13, "explained": 13, "page": 11, "refusals": 32, "vectors": 363, "verdicts": 83, "proofs": 264, "cuts": 9640, "bundles": 84, "falling": 201, "boundaries": 113}
+LEAST = {"tour": 13, "explained": 13, "page": 11, "refusals": 34, "boundaries": 133, "vectors": 363, "cuts": 9640}
+LEAST.update({"verdicts": 83, "proofs": 264, "falling": 201, "bundles": 84, "process": 13})
 
 
 def opinion(words, text):
@@ -55,21 +57,25 @@ class Tried:
                 print(f"DIFFERS {source}, {name}: wanted {wanted!r}, and here it is {found!r}")
 
 
-def hold_cases(tried):
-    sources = stored.tours(), stored.explained(), stored.page(), stored.refusals(), boundaries.statements(), boundaries.challenges()
-    for case in itertools.chain(*sources):
-        tried.hold(case.source, case.name, opinion(case.words, case.text()), case.wanted)
+    def case(self, case):
+        self.hold(case.source, case.name, opinion(case.words, case.text()), case.wanted)
 
 
-def hold_vectors(tried):
+def hold_stored(tried):
+    """All that is stored, and what is signed and bundled here."""
+    for cases in (stored.tours, stored.explained, stored.page, stored.refusals, stored.vector_cases, *boundaries.SOURCES):
+        for case in cases():
+            tried.case(case)
     for vector in stored.vectors():
-        cases = {"store": stored.store_cases, "cuts": stored.cut_cases}.get(vector.kind, stored.item_cases)(vector)
-        for case in cases:
-            tried.hold(case.source, case.name, opinion(case.words, case.text()), case.wanted)
         if vector.kind == "store":
             hold_store(tried, vector)
-        elif vector.kind in ("tally", "relay") and vector.words[1] in ("conforms", "deviates"):
+        elif vector.words[1] in ("conforms", "deviates"):
             hold_verdict(tried, vector)
+    hold_falling(tried)
+    hold_process(tried)
+    for case in stored.tours():
+        if case.words == ["check"]:
+            hold_bundle(tried, case)
 
 
 def hold_verdict(tried, vector):
@@ -152,6 +158,27 @@ def hold_bundle(tried, case):
         hold(f"line {place}", broken, f"refused 106 BadBundle: line {place}\n")
 
 
+def hold_process(tried):
+    """How the command ends as a process: by words, by its devices, and where its input is as long as may be or longer."""
+    good = next(case for case in stored.tours() if "exposed" in case.wanted)
+    for words, text, output, status, wanted in (
+        *((words, good.text(), None, 2, "") for words in ([], ["Status"], ["--relay"], ["status", "x"], ["status", "--relay", "--relay"])),
+        (["check-bundle", "--relay"], good.text(), None, 2, ""),
+        (["status"], good.text(), None, 0, good.wanted),
+        (["status", "--relay"], good.text(), None, 0, good.wanted),
+        (["status"], b"", None, 1, "refused 104 LineCount\n"),
+        (["status"], b"0g\n00", None, 1, "refused 103 BadHex\n"),
+        (["status"], good.text(), "/dev/full", 1, "refused 102 WriteFailed\n"),
+        (["status"], bytes(67_108_864), None, 1, "refused 104 LineCount\n"),
+        (["status"], bytes(67_108_865), None, 1, "refused 101 InputTooLong\n"),
+    ):
+        with open(output or os.devnull, "wb") as sink:
+            streams = {"stdout": sink if output else subprocess.PIPE, "stderr": subprocess.PIPE}
+            done = subprocess.run([sys.executable, f"{HERE}/check.py", *words], input=text, **streams)
+        told = {0: done.stdout, 1: done.stderr}.get(done.returncode, done.stdout)
+        tried.hold("process", f"{words} of {len(text)} bytes", (done.returncode, told.decode()), (status, wanted))
+
+
 def written_by(program, words, text):
     """What a program writes, as an answer or a refusal; and else how it ended."""
     done = subprocess.run([program, *words], input=text, capture_output=True, timeout=60)
@@ -183,12 +210,7 @@ def main():
     parser.add_argument("--seed", type=int, default=random.randrange(2**32), help="what its inputs are made from (one by chance)")
     options = parser.parse_args()
     tried = Tried()
-    hold_cases(tried)
-    hold_vectors(tried)
-    hold_falling(tried)
-    for case in stored.tours():
-        if case.words == ["check"]:
-            hold_bundle(tried, case)
+    hold_stored(tried)
     if options.program:
         print(f"--seed {options.seed}")
         hold_program(tried, os.path.abspath(options.program), options.seconds, options.seed)

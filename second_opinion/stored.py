@@ -129,6 +129,13 @@ def vectors():
             yield Vector(directory, kind, words)
 
 
+def vector_cases():
+    """What the vectors say of inputs of the two commands."""
+    makers = {"tally": item_cases, "relay": item_cases, "store": store_cases, "cuts": cut_cases}
+    for vector in vectors():
+        yield from makers[vector.kind](vector)
+
+
 def item_in(word):
     return b"" if word == "-" else bytes.fromhex(word)
 
@@ -182,6 +189,8 @@ def refusals():
         ("24 Truncated", directory[:11]),
         ("24 Truncated", directory[:-1]),
         ("24 Truncated", after(directory, 11, 4)),
+        ("24 Truncated", after(directory, 10, 4, 0)),
+        ("24 Truncated", after(directory, 16, 8)),
         ("23 BadMagic", after(directory, 0, 0)),
         ("22 TooManyNodes", after(directory, 10, 4, 1)),
         ("26 KeyCount", after(directory, 16, 0)),
