@@ -32,7 +32,7 @@ from replay import deviation, reads_of
 HERE = os.path.dirname(os.path.abspath(__file__))
 # How many cases each source has at least
 LEAST = {"tour": 13, "explained": 13, "page": 11, "refusals": 34, "boundaries": 133, "vectors": 363, "cuts": 9640}
-LEAST.update({"verdicts": 83, "proofs": 264, "falling": 201, "bundles": 84, "process": 13})
+LEAST.update({"verdicts": 83, "proofs": 264, "falling": 201, "bundles": 88, "process": 13})
 
 
 def opinion(words, text):
@@ -152,6 +152,7 @@ def hold_bundle(tried, case):
         (5, lines[4][:-65] + 64 * "0" + "\n"),
         (7, "exposes\n"),
         (8, "no sentence\n"),
+        (len(lines), "no sentence\n"),
         (len(lines), lines[-1][:-1]),
     ):
         broken = "".join([*lines[: place - 1], line, *lines[place:]])
