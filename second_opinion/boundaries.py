@@ -109,10 +109,15 @@ def challenges():
 
 
 def signatures():
-    """Texts of signatures of which one alone is one: others name a key that the node has not, or none, or have another length."""
+    """Texts of signatures of which one alone is one: others name a key that the node has not, or none, have another length, or tell
+    another leaf or other types (W8 for W4, H10 for H5)."""
     said = signed(1, 5, OTHER)
     front, own = said[:40], said[44:]
-    for text in (own, b"", own[:-1], own[1:], own[32:], own + b"\0", u8(0) + own, u8(1) + own, u8(7) + own, u8(8) + own):
+    path_at = 44 + 32 * 67
+    lengths = b"", own[:-1], own[1:], own[32:], own + b"\0"
+    keys = (u8(number) + own for number in (0, 1, 7, 8))
+    fields = u32(1) + own[4:], u32(32) + own[4:], own[:4] + u32(4) + own[8:], own[: path_at - 4] + u32(6) + own[path_at:]
+    for text in (own, *lengths, *keys, *fields):
         item = u8(1) + u32(1) + front + u32(len(text)) + text
         wanted = "1 trusted\n2 trusted\n" if text == own else "refused 49 BadSignature\n"
         yield Case("boundaries", text[:4].hex(), ["status"], [DIRECTORY, store_of([item])], wanted)

@@ -31,7 +31,7 @@ from replay import deviation, reads_of
 
 HERE = os.path.dirname(os.path.abspath(__file__))
 # How many cases each source has at least
-LEAST = {"tour": 13, "explained": 13, "page": 11, "refusals": 34, "boundaries": 161, "vectors": 363, "cuts": 9640}
+LEAST = {"tour": 13, "explained": 13, "page": 11, "refusals": 34, "boundaries": 165, "vectors": 363, "cuts": 9640}
 LEAST.update({"verdicts": 83, "proofs": 264, "falling": 201, "bundles": 88, "process": 13, "why": 200})
 
 
