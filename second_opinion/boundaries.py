@@ -1,5 +1,5 @@
-"""Statements at and beside the ends of segments, and signatures that are none, with the answers that FORMATS has for them: "A node's
-keys", and the last paragraphs of "Proof" and of "Items of evidence".
+"""Statements at and beside the ends of segments, signatures that are none, and logs at the ends of the programs' numbers, with the answers
+that FORMATS has for them: "A node's keys", "The reference programs", and the last paragraphs of "Proof" and of "Items of evidence".
 
 They are signed here, by keys of `reference/nodes.py`, which sign more than once by a leaf: nobody else has them.
 """
@@ -13,8 +13,15 @@ sys.path.append(f"{TOP}/reference")
 
 from nodes import Key, entry_hash
 
-KEYS = {node: Key(node, 3) for node in (1, 2)}
-DIRECTORY = b"PRDIREC2" + u32(2) + b"".join(u32(node) + u8(1) + key.public() for node, key in KEYS.items())
+LAST = 2**32 - 1
+KEYS = {node: Key(node, 3) for node in (1, 2, LAST - 1, LAST)}
+
+
+def directory_of(*nodes):
+    return b"PRDIREC2" + u32(len(nodes)) + b"".join(u32(node) + u8(1) + KEYS[node].public() for node in nodes)
+
+
+DIRECTORY = directory_of(1, 2)
 BASE, EARLIER, OTHER = sha256(), 32 * b"\x11", 32 * b"\x22"
 INIT, CHECKPOINT = (1, u32(1)), (5, u64(0))
 
@@ -26,20 +33,27 @@ def signed(node, number, digest):
     return u64(number) + digest + u32(len(signature)) + signature
 
 
+def segment_of(node, before, entries):
+    """The segment of these entries, each with its number, that the node signed."""
+    text, digest = b"", before
+    for number, kind, content in entries:
+        digest = entry_hash(digest, number, kind, content)
+        text += u64(number) + u8(kind) + u32(len(content)) + content
+    return u8(2) + u32(node) + before + u32(len(entries)) + text + signed(node, entries[-1][0], digest)[40:]
+
+
 class Part:
-    """Entries of a log of node 1, with these numbers after this hash, and the hash at each. They conform."""
+    """Entries of a log of node 1 that conform, with these numbers after this hash, and the hash at each."""
 
     def __init__(self, before, *numbers):
-        self.before, self.numbers, self.at, self.text = before, numbers, {}, b""
+        self.before, self.entries, self.at = before, [], {}
         for number in numbers:
-            kind, content = INIT if before == BASE else CHECKPOINT
-            self.at[number] = before = entry_hash(before, number, kind, content)
-            self.text += u64(number) + u8(kind) + u32(len(content)) + content
+            entry = (number, *(INIT if before == BASE else CHECKPOINT))
+            self.entries.append(entry)
+            self.at[number] = before = entry_hash(before, *entry)
 
     def segment(self, node):
-        """The segment of these entries that a node signed."""
-        last = self.numbers[-1]
-        return u8(2) + u32(node) + self.before + u32(len(self.numbers)) + self.text + signed(node, last, self.at[last])[40:]
+        return segment_of(node, self.before, self.entries)
 
 
 LATER, WHOLE, FROM_ZERO = Part(EARLIER, 5, 6, 8), Part(BASE, 3, 4), Part(EARLIER, 0, 1)
@@ -95,13 +109,60 @@ def challenges():
 
 
 def signatures():
-    """Texts of signatures of which one alone is one: others name a key that the node has not, or none, or have another length."""
+    """Texts of signatures of which one alone is one: others name a key that the node has not, or none, have another length, or tell
+    another leaf or other types (W8 for W4, H10 for H5)."""
     said = signed(1, 5, OTHER)
     front, own = said[:40], said[44:]
-    for text in (own, b"", own[:-1], own[1:], own[32:], own + b"\0", u8(0) + own, u8(1) + own, u8(7) + own, u8(8) + own):
+    path_at = 44 + 32 * 67
+    lengths = b"", own[:-1], own[1:], own[32:], own + b"\0"
+    keys = (u8(number) + own for number in (0, 1, 7, 8))
+    fields = u32(1) + own[4:], u32(32) + own[4:], own[:4] + u32(4) + own[8:], own[: path_at - 4] + u32(6) + own[path_at:]
+    for text in (own, *lengths, *keys, *fields):
         item = u8(1) + u32(1) + front + u32(len(text)) + text
         wanted = "1 trusted\n2 trusted\n" if text == own else "refused 49 BadSignature\n"
         yield Case("boundaries", text[:4].hex(), ["status"], [DIRECTORY, store_of([item])], wanted)
 
 
-SOURCES = statements, challenges, signatures
+def sent(to, payload):
+    return 2, u32(to) + payload
+
+
+def received(number, payload):
+    """The RECV entry of a message from node 2 to node 1."""
+    signature = signed(2, number, entry_hash(EARLIER, number, *sent(1, payload)))[40:]
+    return 3, u32(2) + u64(number) + EARLIER + signature + payload
+
+
+def state(number):
+    return 5, u64(number)
+
+
+TIMER, MOST = (4, u64(7)), 2**64 - 1
+# The flag, a node, the hash before its entries, and entries, numbered from 1, that conform, and do not where the last byte is another
+LOGS = (
+    ([], 1, BASE, [INIT, received(1, b"A" + u64(MOST)), sent(2, b"T" + u64(MOST))]),
+    ([], 1, BASE, [INIT, received(1, b"A" + u64(2**56)), sent(2, b"T" + u64(2**56)), state(2**56)]),
+    ([], 1, EARLIER, [state(MOST - 1), received(1, b"A" + u64(3)), sent(2, b"T" + u64(MOST)), state(MOST)]),
+    ([], 1, BASE, [INIT, received(1, b"A" + bytes(7)), state(0)]),
+    ([], 1, BASE, [INIT, received(1, b"A" + bytes(9)), state(0)]),
+    ([], 1, BASE, [INIT, received(1, b"B" + u64(1)), state(0)]),
+    ([], 1, BASE, [INIT, TIMER, sent(2, b"A" + u64(7)), state(0)]),
+    ([], 2, BASE, [(1, u32(2)), TIMER, state(0)]),
+    (["--relay"], 1, EARLIER, [state(MOST - 1), received(1, b""), sent(2, b""), received(2, b"A"), sent(2, b"A"), state(MOST)]),
+    (["--relay"], 1, BASE, [INIT, TIMER, sent(2, u64(7)), state(0)]),
+    *((flag, LAST - 1, BASE, [(1, u32(LAST - 1)), TIMER, sent(LAST, front + u64(7))]) for flag, front in (([], b"A"), (["--relay"], b""))),
+    *((flag, LAST, BASE, [(1, u32(LAST)), TIMER, state(0)]) for flag in ([], ["--relay"])),
+)
+
+
+def logs():
+    for flag, node, before, entries in LOGS:
+        kind, content = entries[-1]
+        other = [*entries[:-1], (kind, content[:-1] + u8(content[-1] ^ 1))]
+        for these, wanted in ((entries, "refused 51 Conforms\n"), (other, f"exposes {node}\n")):
+            numbered = [(number, *entry) for number, entry in enumerate(these, 1)]
+            lines = [directory_of(1, 2, LAST - 1, LAST), proof_of(3, segment_of(node, before, numbered))]
+            yield Case("boundaries", f"log of node {node}", ["check", *flag], lines, wanted)
+
+
+SOURCES = statements, challenges, signatures, logs

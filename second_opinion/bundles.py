@@ -39,7 +39,7 @@ def read_bundle(text):
     for place, line in enumerate(lines[len(LINES) : -1], len(LINES) + 1):
         if not line.startswith("#"):
             raise bad_line(place)
-    if len(lines) == len(LINES) or lines[-1]:
+    if lines[-1]:
         raise bad_line(len(lines))
     return Bundle(found[1][0], held_to_sum(found, 2), held_to_sum(found, 4), int(found[6][0]))
 

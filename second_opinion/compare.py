@@ -31,8 +31,8 @@ from replay import deviation, reads_of
 
 HERE = os.path.dirname(os.path.abspath(__file__))
 # How many cases each source has at least
-LEAST = {"tour": 13, "explained": 13, "page": 11, "refusals": 34, "boundaries": 133, "vectors": 363, "cuts": 9640}
-LEAST.update({"verdicts": 83, "proofs": 264, "falling": 201, "bundles": 84, "process": 13})
+LEAST = {"tour": 13, "explained": 13, "page": 11, "refusals": 34, "boundaries": 165, "vectors": 363, "cuts": 9640}
+LEAST.update({"verdicts": 83, "proofs": 264, "falling": 201, "bundles": 88, "process": 13, "why": 200})
 
 
 def opinion(words, text):
@@ -59,6 +59,9 @@ class Tried:
 
     def case(self, case):
         self.hold(case.source, case.name, opinion(case.words, case.text()), case.wanted)
+        if case.words[0] == "check":
+            told = opinion(["why", *case.words[1:]], case.text())
+            self.hold("why", case.name, told.splitlines(keepends=True)[0], case.wanted)
 
 
 def hold_stored(tried):
@@ -152,6 +155,7 @@ def hold_bundle(tried, case):
         (5, lines[4][:-65] + 64 * "0" + "\n"),
         (7, "exposes\n"),
         (8, "no sentence\n"),
+        (len(lines), "no sentence\n"),
         (len(lines), lines[-1][:-1]),
     ):
         broken = "".join([*lines[: place - 1], line, *lines[place:]])
@@ -181,7 +185,10 @@ def hold_process(tried):
 
 def written_by(program, words, text):
     """What a program writes, as an answer or a refusal; and else how it ended."""
-    done = subprocess.run([program, *words], input=text, capture_output=True, timeout=60)
+    try:
+        done = subprocess.run([program, *words], input=text, capture_output=True, timeout=60)
+    except subprocess.TimeoutExpired:
+        return "no answer in 60 seconds"
     told = {0: done.stdout, 1: done.stderr}.get(done.returncode)
     if told is None or (done.stdout if done.returncode else done.stderr):
         return f"ended with {done.returncode}, {done.stdout!r}, {done.stderr!r}"

@@ -35,11 +35,12 @@ def read(path):
 
 
 def input_of(*texts):
-    """An input that spells these texts, and the texts that an input spells."""
+    """An input of lines that spell these texts."""
     return b"".join(text.hex().encode() + b"\n" for text in texts)
 
 
 def lines_of(text):
+    """The texts that the lines of an input spell."""
     return [bytes.fromhex(line.decode()) for line in text.splitlines()]
 
 
