@@ -19,12 +19,15 @@ fn words_of(reason: Reason) -> &'static str {
         Reason::BadInit => "a log begins with an INIT of its node",
         Reason::BadKind => "no entry of this kind can stand there",
         Reason::BadContent => "its content is none of its kind",
-        Reason::BadReceipt => "no key of the sender signed the message that it quotes",
+        Reason::BadReceipt => {
+            "it quotes no message that another listed node signed by the key which the signature names"
+        },
         Reason::MissingOutput => "a message that the program sends is missing",
         Reason::ExtraOutput => "the program sends no message there",
         Reason::WrongOutput => "the program sends another message there",
         Reason::WrongCheckpoint => "the program is in another state there",
-        Reason::DuplicateReceipt => "the message that it quotes came before",
+        Reason::DuplicateReceipt =>
+            "a RECV before it quotes a message of the same sender and number",
     }
 }
 
