@@ -11,7 +11,7 @@ use Rattle.containers.specs.declared.progress.Progress.{Progress}
 use Rattle.containers.specs.Refusals.{IsOfChecking, IsOfItems}
 use Rattle.containers.specs.declared.fault.ImportFault.{ImportFault}
 use Rattle.containers.specs.Container.{Faulty, as_fault}
-use Rattle.containers.specs.Stages.{State, closed, go_on}
+use Rattle.containers.specs.Stages.{State, begun, closed, go_on}
 use Rattle.containers.specs.CheckedItems.{fields_of}
 use Rattle.containers.specs.within.Parts.{IsHeldOn, IsTaken}
 use Rattle.containers.specs.within.Seen.{IsParted, Stands, StandsWith, last_text, seen, with_more}
@@ -27,6 +27,10 @@ Leaves (left.CutOff bytes) Goes Ends = Ends bytes.now
 -- What the end of the text makes of where a reading stands.
 abbrev pub at_end : {A : Type 0} → Result (State A) ImportFault → Result (List A) ImportFault
 at_end r = told_as as_fault (told_as Faulty r >>= λ s. closed s)
+
+-- The header is not cut off.
+abbrev pub IsPastHeader : {A : Type 0} → Result (State A) ImportFault → Type 0
+IsPastHeader led = (held : List ℕ) → ¬ (led ≡ Ok (begun held))
 
 -- ---- one item
 
