@@ -1,5 +1,5 @@
 -- Challenges that are owed an answer.
-use Rattle.std.proofs.Common.{◌≡◌, ℕ, [], ◌∷◌, ◌++◌, map, Option, Some, None, refl, sym, ap, ◌∙◌, subst, inl, inr, arith}
+use Rattle.std.proofs.Common.{◌≡◌, ℕ, [], ◌∷◌, map, Option, Some, None, refl, sym, ap, ◌∙◌, subst, inl, inr, arith}
 use Rattle.std.specs.List.{Contains}
 use Rattle.std.proofs.lemmas.Bool.{eq-eqb}
 use Rattle.std.proofs.lemmas.List.Elements.{Contains-append_cases}

@@ -4,6 +4,7 @@ mod each_call;
 mod fixtures;
 mod keys;
 mod receptions;
+mod refusals;
 
 use commitment::{Ack, Message, Node, NodeFault};
 use fixtures::{
