@@ -8,7 +8,7 @@ use Rattle.log_chain.specs.Chain.{Rising}
 use Rattle.replay_verifier.specs.declared.output.Output.{Output}
 use Rattle.replay_verifier.specs.declared.verdict.Reason.{Reason}
 use Rattle.replay_verifier.specs.declared.verdict.Reason.TheVariants.{MissingOutput, ExtraOutput, WrongOutput}
-use Rattle.replay_verifier.specs.Conforming.{Setting, Act, act, send_act, head_act, Block, Receives, Ticks, Checkpoints, IsProper, Begins, Stand, at_rest, Leads, Follows, Conforms, is_repeated}
+use Rattle.replay_verifier.specs.Conforming.{Setting, Act, act, send_act, head_act, Block, Receives, Ticks, Checkpoints, Begins, Stand, at_rest, Leads, Follows, Conforms, is_repeated}
 use Rattle.replay_verifier.specs.Deviation.{After, last_number, Leaves, first_line, table, reason_behind, DeviatesAt}
 use Rattle.replay_verifier.specs.Stands.{Stands}
 use Rattle.replay_verifier.proofs.ComingOnce.{once_push}

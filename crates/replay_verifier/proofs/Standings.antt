@@ -1,6 +1,5 @@
 -- Where the entries that conform leave the log.
-use Rattle.std.proofs.Common.{◌≡◌, List, [], ◌∷◌, Option, Some, None, refl, sym, ap, ◌∙◌, subst}
-use Rattle.std.proofs.Common.{ℕ}
+use Rattle.std.proofs.Common.{◌≡◌, ℕ, List, [], ◌∷◌, Option, Some, None, refl, sym, ap, ◌∙◌, subst}
 use Rattle.log_chain.specs.declared.entry.Entry.{Entry}
 use Rattle.replay_verifier.specs.declared.course.Course.{Course}
 use Rattle.replay_verifier.specs.declared.course.Course.TheVariants as course
@@ -10,7 +9,7 @@ use Rattle.replay_verifier.specs.declared.verdict.Verdict.TheVariants as verdict
 use Rattle.replay_verifier.specs.Conforming.{Setting, act, Begins, Stand, at_rest, Leads, Conforms}
 use Rattle.replay_verifier.specs.Deviation.{IsVerdict, Position, First, After, reason_at}
 use Rattle.replay_verifier.specs.Stands.{Stands}
-use Rattle.replay_verifier.specs.within.Courses.{arrives, ended, position_of}
+use Rattle.replay_verifier.specs.within.Courses.{ended, position_of}
 use Rattle.replay_verifier.specs.within.Following.{following, repeated_from, with_repeat, with_repeats}
 use Rattle.replay_verifier.specs.within.Stepping.{next_place, next_stand, arrived, arrive, judge}
 use Rattle.replay_verifier.proofs.Judging.{BytesEach, RisingFrom, from_rising, no_line_begins}

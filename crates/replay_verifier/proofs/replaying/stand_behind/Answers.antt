@@ -1,5 +1,4 @@
-use Rattle.std.proofs.Common.{◌≡◌, sym, ap, ◌∙◌, subst}
-use Rattle.replay_verifier.specs.declared.verdict.Verdict.{Verdict}
+use Rattle.std.proofs.Common.{ap, ◌∙◌, subst}
 use Rattle.replay_verifier.specs.declared.verdict.Verdict.TheVariants as verdict
 use Rattle.replay_verifier.specs.Conforming.{setting_of}
 use Rattle.replay_verifier.specs.Deviation.{IsVerdict}
