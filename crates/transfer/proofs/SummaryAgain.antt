@@ -10,7 +10,7 @@ use Rattle.log_chain.proofs.FieldKinds.{front_again, u64_field, u8_field}
 use Rattle.transfer.specs.declared.reading.Rule.TheVariants as rule
 use Rattle.transfer.specs.Digests.{buckets, first_byte, joined, numbers}
 use Rattle.transfer.specs.Summaries.{IsSummary, Summary, kept_at}
-use Rattle.transfer.specs.SummaryTexts.{ReadSoFar, SummariesHaveOneText, digests_at, keeps_some, last_of, listing, part_at, part_by_tag, parts_at, parts_text, short_at, short_magic, summary_magic, summary_of, summary_text, whole_at, whole_text}
+use Rattle.transfer.specs.SummaryTexts.{ReadSoFar, SummariesHaveOneText, counted_at, digests_at, keeps_some, last_of, listing, part_at, part_by_tag, parts_at, parts_text, short_at, short_magic, summary_magic, summary_of, summary_text, whole_at, whole_text}
 use Rattle.transfer.specs.within.Runs.{after_run, run_of, runs_text}
 use Rattle.transfer.proofs.AscendingDigests.{ascends, digests_after}
 use Rattle.transfer.proofs.DigestLists.{AreAfter, digests_again, last_of-push}
@@ -138,7 +138,7 @@ unfolding summary_of
 whole_again text body n ds a c = rw (a, c) refl
 
 whole_body : (body later : List ℕ) (n : ℕ) (ds : List (List ℕ)) → number_at w64 body ≡ Ok (n, later) → digests_at rule.Ascending n [] later ≡ Ok (ds, []) → whole_at body ≡ Ok (listing ds)
-unfolding whole_at
+unfolding whole_at counted_at
 whole_body body later n ds a c = rw (a, c) refl
 
 short_again : (text body : List ℕ) (s : Summary) → take_at 8 text ≡ Ok (short_magic, body) → short_at body ≡ Ok s → summary_of text ≡ Ok s

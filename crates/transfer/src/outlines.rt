@@ -1,9 +1,10 @@
 //! Outlines.
 
-ghost use Rattle.std.specs.Prelude.{◌≡◌, ℕ, List, IfOk, Ok};
+ghost use Rattle.std.specs.Prelude.{◌≡◌, ℕ, List, Err, IfOk, Ok};
 ghost use Rattle.outcome.specs.Outcome.{Gives};
+ghost use Rattle.transfer.specs.declared.fault.SummaryFault.{SummaryFault as TheFault};
 ghost use Rattle.transfer.specs.declared.fault.SummaryFault.TheVariants as fault;
-ghost use Rattle.transfer.specs.SummaryTexts.{outline_of_text, outline_text};
+ghost use Rattle.transfer.specs.SummaryTexts.{outline_header, outline_of_text, outline_text};
 ghost use Rattle.transfer.specs.Digests.{IsOutline};
 
 use crate::fault::SummaryFault;
@@ -65,13 +66,15 @@ impl Outline {
     /// Reads the text of an outline.
     ///
     /// The first of these is told: `Truncated` (40) of the first eight bytes, `BadMagic` (60), `Truncated` of a digest, `Trailing`
-    /// (43). `Memory` may come in place of any of them, or of the answer.
+    /// (43). `Memory` may come in place of those behind the first eight bytes, or of the answer.
     pub fn from_bytes(alloc: Global, bytes: &[u8]) -> Result<Outline, SummaryFault>
         // What is read is spelled so.
         ensures found { IfOk result (λ o. IsOutline o × (bytes.now ≡ outline_text o)) }
         // What is spelled so is read, unless memory runs out.
         ensures only { (digests : List (List ℕ)) → IsOutline digests → bytes.now ≡ outline_text digests → Gives fault.Memory (λ o. o) result (Ok digests) }
         ensures exact { Gives fault.Memory (λ o. o) result (outline_of_text bytes.now) }
+        // A fault of the header is told, whether there is memory or not.
+        ensures forbidden { (e : TheFault) → outline_header bytes.now ≡ Err e → result ≡ Err e }
     {
         bytes_fit(bytes);
         let digests = outline_digests(alloc, &MAGIC, bytes)?;
