@@ -11,7 +11,7 @@ ghost use Rattle.shared_stores.specs.within.Journals.{Steps};
 use crate::history::{Call, Given, Recorded};
 use crate::item_set::ItemSet;
 use authenticators::{Directory, NodeId};
-use evidence::{Evidence, NotTaken};
+use evidence::{Evidence, TakeRefused};
 use evidence_item::{Checked, Item};
 use evidence_set::Indication;
 use log_chain::ByteString;
@@ -70,7 +70,7 @@ impl<P: Program, S: Evidence<P>> Kept<P, S> {
         caller: usize,
         checked: Checked<P>,
         copy: Item,
-    ) -> Result<bool, NotTaken<P>>
+    ) -> Result<bool, TakeRefused<P>>
         requires checked { IsChecked self.old.directory P.means checked }
         requires copy { copy ≡ checked.item }
         ensures done { IfOk result (λ new. Steps P.means self.old caller (Take checked.item) (Took new) self.new) }
@@ -78,7 +78,7 @@ impl<P: Program, S: Evidence<P>> Kept<P, S> {
         ensures refused { OnErr result (self.new ≡ self.old) }
     {
         if self.history.reserve(1).is_err() {
-            return Err(NotTaken(checked));
+            return Err(TakeRefused(checked));
         }
         let took = self.store.take(checked)?;
         self.history

@@ -17,7 +17,7 @@ use crate::item_set::ItemSet;
 use crate::kept::Kept;
 use crate::pass::Pass;
 use authenticators::{Directory, NodeId};
-use evidence::Evidence;
+use evidence::{Evidence, TakeRefused};
 use evidence_item::Checked;
 use evidence_set::Indication;
 use outcome::Memory;
@@ -167,7 +167,7 @@ impl<P: Program, S: Evidence<P>> SharedStore<P, S> {
                 pass.calls.push_reserved(call);
                 Ok(new)
             }
-            Err(evidence::NotTaken(checked)) => Err(out_of_memory(checked)),
+            Err(TakeRefused(checked)) => Err(out_of_memory(checked)),
         }
     }
 
