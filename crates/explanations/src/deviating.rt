@@ -1,12 +1,16 @@
 //! A segment that deviates from its node's program, in sentences.
 
+ghost use Rattle.std.specs.Prelude.{IfOk};
+ghost use Rattle.replay_verifier.specs.Conforming.{setting_of};
+ghost use Rattle.replay_verifier.specs.Stands.{IsStanding};
+
 use crate::grounds::FoundSegment;
-use crate::stepping::{Before, standing_before};
 use authenticators::{Directory, NodeId};
 use item_forms::{Entry, Segment};
 use outcome::Memory;
-use replay_verifier::{Program, Reason, Receipt, Verdict};
+use replay_verifier::{Program, Reason, Receipt, Stand, Verdict, stand_behind};
 use sentences::{Bytes, Kind, Lines, Logged, Sending, Sites};
+use std::alloc::Global;
 
 /// A reason in words.
 fn words_of(reason: Reason) -> &'static str {
@@ -58,8 +62,8 @@ pub(crate) fn say_segment(
 }
 
 /// Says which message the program sends there, where it sends one.
-fn say_awaited<S>(lines: &mut Lines, before: &Before<S>, reason: Reason) -> Result<(), Memory> {
-    match before.awaited.last() {
+fn say_awaited<S>(lines: &mut Lines, stand: &Stand<S>, reason: Reason) -> Result<(), Memory> {
+    match stand.awaited().first() {
         Some(output) => {
             let sending = Sending(output);
             let text = format!(in lines.alloc(); "The program awaited {sending}.")?;
@@ -77,13 +81,13 @@ fn say_awaited<S>(lines: &mut Lines, before: &Before<S>, reason: Reason) -> Resu
 fn say_state<P: Program>(
     lines: &mut Lines,
     program: &P,
-    before: &Before<P::State>,
+    stand: &Stand<P::State>,
     reason: Reason,
 ) -> Result<(), Memory> {
     if reason != Reason::WrongCheckpoint {
         return Ok(());
     }
-    let state = program.encode(lines.alloc(), &before.state)?;
+    let state = program.encode(lines.alloc(), stand.state())?;
     let shown = Bytes(&state);
     let text = format!(in lines.alloc(); "The program's state was {shown}.")?;
     lines.say(text)
@@ -141,20 +145,34 @@ fn say_logged(lines: &mut Lines, entry: &Entry) -> Result<(), Memory> {
     lines.say(text)
 }
 
-/// Says what the program does before the entry at this place.
+/// Where the log of the segment stands behind the entries before the one at which it deviates; none at its first entry.
+fn stand_there<P: Program>(
+    alloc: Global,
+    program: &P,
+    directory: &Directory,
+    segment: &Segment,
+    earlier: &[Entry],
+) -> Result<Option<Stand<P::State>>, Memory>
+    ensures { IfOk result (λ o. IsStanding (setting_of directory.now segment.now.node P.means) segment.now.prev earlier.now o) }
+{
+    let node = segment.node;
+    stand_behind(alloc, program, directory, node, segment.prev, earlier)
+}
+
+/// Says what the program does behind the entries before the one at which the segment deviates.
 fn say_before<P: Program>(
     lines: &mut Lines,
     program: &P,
     directory: &Directory,
     segment: &Segment,
-    at: usize,
+    earlier: &[Entry],
     reason: Reason,
 ) -> Result<(), Memory> {
-    let Some(before) = standing_before(lines.alloc(), program, directory, segment, at)? else {
+    let Some(stand) = stand_there(lines.alloc(), program, directory, segment, earlier)? else {
         return Ok(());
     };
-    say_awaited(lines, &before, reason)?;
-    say_state(lines, program, &before, reason)
+    say_awaited(lines, &stand, reason)?;
+    say_state(lines, program, &stand, reason)
 }
 
 /// Says of a segment that deviates where and why, what the program awaits there, and what is logged.
@@ -175,6 +193,6 @@ pub(crate) fn say_deviation<P: Program>(
     say_place(lines, segment, entry, reason)?;
     say_segment(lines, segment, found)?;
     say_rival(lines, segment.node, earlier, entry, reason)?;
-    say_before(lines, program, directory, segment, at, reason)?;
+    say_before(lines, program, directory, segment, earlier, reason)?;
     say_logged(lines, entry)
 }

@@ -3,7 +3,7 @@
 //! - [`why_of`] tells of a node why the store says of it what it says: the proof that convicts it, or the challenges that are open;
 //!   [`whys_of`] the same of each node. `specs/Whys.antt` says what that is.
 //! - [`explain_store`] tells of each node what the store says of it, with where the items stand that say so. One pass over the items
-//!   finds that; the program is run again over the entries before a deviation.
+//!   finds that; the entries before a deviation are replayed, for what the program awaits there.
 //! - [`explain_proof`] tells whom a proof convicts, and the same of its parts.
 #![tactic(auto)]
 
@@ -28,7 +28,6 @@ mod heading;
 mod nodes;
 mod noting;
 mod places;
-mod stepping;
 mod telling;
 mod trusting;
 mod why;

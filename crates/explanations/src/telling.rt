@@ -83,7 +83,8 @@ fn explanations_of<P: Program>(
 }
 
 /// What a store says of the nodes of its directory, and why: in one pass over its items, in which nothing is verified or hashed that
-/// was before. `Memory` where a growth was refused.
+/// was before; and where a segment exposes a node, the entries before its deviation are replayed. `Memory` where the program, or a
+/// growth, was refused memory.
 pub fn explain_store<P: Program, S: Evidence<P>>(
     alloc: Global,
     program: &P,
