@@ -7,7 +7,9 @@ from fields import BAD_BUNDLE, Refused, sha256
 
 FIRST = "bulwynef bundle 1"
 SIZE_AND_SUM, DIGITS = "(0|[1-9][0-9]{0,8}) ([0-9a-f]{64})", "((?:[0-9a-f]{2})*)"
-LINES = [FIRST, "program (tally|relay)", f"directory {SIZE_AND_SUM}", DIGITS, f"proof {SIZE_AND_SUM}", DIGITS, "exposes (0|[1-9][0-9]{0,9})"]
+LINES = [FIRST, "program (tally|relay)"]
+LINES += [f"directory {SIZE_AND_SUM}", DIGITS, f"proof {SIZE_AND_SUM}", DIGITS]
+LINES += ["exposes (0|[1-9][0-9]{0,9})"]
 
 
 class Bundle(NamedTuple):
