@@ -120,6 +120,11 @@ module _ {P : Type 0} (before piece head rest : List ℕ) (eight : length head �
   begun_goes (stage.Items r) b = subst (λ (x : Result (List ℕ) ImportFault). IsOk x) (sym b.2) refl
   begun_goes (stage.Refused f) b = ap (λ (g : ImportFault). g.cause) b.1
 
+  pub begun_joined : (s : Stage P) → IsBegun head s → IfOk (fed_of s) (λ more. more ++ rest ≡ before ++ piece)
+  begun_joined (stage.Head h) b = absurd b
+  begun_joined (stage.Items r) b = subst (λ (x : Result (List ℕ) ImportFault). IfOk x (λ more. more ++ rest ≡ before ++ piece)) (sym b.2) moved
+  begun_joined (stage.Refused f) b = tt
+
 pub is_open : {S P : Type 0} (ds : Listing) (program : Meaning S) (s : Stage P) → IsStage ds program s → IsOpen s
 is_open ds program (stage.Head h) is = is
 is_open ds program (stage.Items r) is = tt
@@ -142,6 +147,19 @@ memory_through (Err e) fed result expected same goes h alike = tt
 memory_through (Ok text) (Err e) result expected same goes h alike = absurd cc
 memory_through (Ok text) (Ok t) (Ok done) expected same goes h alike = tt
 memory_through (Ok text) (Ok t) (Err f) expected same goes h alike = λ memory g all. h memory g (λ r. sym (alike r) ∙ all r)
+
+-- Before the header is whole memory does not run out, of the same bytes otherwise parted.
+pub header_through : (old fed : Result (List ℕ) ImportFault) (result : Result (Unit {0}) ImportFault) (piece rest : List ℕ) → IfOk old (λ text. IsOk fed) → IfOk old (λ text. IfOk fed (λ more. more ++ rest ≡ text ++ piece))
+    → IfOk fed (λ text. IfErr result (λ f. f.cause ≡ cause.Memory → 16 ≤ length (text ++ rest))) → IfOk old (λ text. IfErr result (λ f. f.cause ≡ cause.Memory → 16 ≤ length (text ++ piece)))
+header_through (Err e) fed result piece rest goes joined h = tt
+header_through (Ok text) (Err e) result piece rest goes joined h = absurd cc
+header_through (Ok text) (Ok t) (Ok done) piece rest goes joined h = tt
+header_through (Ok text) (Ok t) (Err f) piece rest goes joined h = λ memory. subst (λ (x : List ℕ). 16 ≤ length x) joined (h memory)
+
+-- the same bytes
+pub same_joined : (fed : Result (List ℕ) ImportFault) (piece : List ℕ) → IfOk fed (λ text. IfOk fed (λ more. more ++ piece ≡ text ++ piece))
+same_joined (Ok text) piece = refl
+same_joined (Err e) piece = tt
 
 -- ---- the end
 

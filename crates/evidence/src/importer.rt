@@ -1,6 +1,6 @@
 //! Reading the text of a set that comes in pieces.
 
-ghost use Rattle.std.specs.Prelude.{◌≡◌, ◌+◌, [], IfErr, IfOk, OnErr, OnOk, Ok, Err, List, ℕ};
+ghost use Rattle.std.specs.Prelude.{◌≡◌, ◌+◌, ◌≤◌, ◌++◌, [], IfErr, IfOk, IsOk, OnErr, OnOk, Ok, Err, List, length, ℕ};
 ghost use Rattle.containers.specs.declared.fault.Cause.TheVariants as cause;
 ghost use Rattle.containers.specs.declared.fault.ImportFault.{ImportFault as TheFault};
 ghost use Rattle.containers.specs.CheckedItems.{checked_of};
@@ -50,7 +50,7 @@ impl<P: Program> Importer<P> {
     /// An importer that was fed nothing. Its items are checked under the directory. It takes no memory.
     pub fn new(alloc: Global, directory: Directory) -> Result<Importer<P>, NewStoreRefused>
         ensures begun { IfOk result (λ i. i ≡ record { directory = directory; fed = Ok [] }) }
-        ensures given_back { IfErr result (λ refused. refused.0 ≡ directory) }
+        ensures lent { IsOk result }
     {
         Ok(Importer {
             alloc,
@@ -63,13 +63,15 @@ impl<P: Program> Importer<P> {
     ///
     /// It is refused as soon as the pieces so far show a fault, whatever follows: with that of [`Evidence::import`] of the text so far
     /// which is no cut-off. A text that is only cut off goes on. `Memory` may come in place of a fault, but of none that the bytes show
-    /// whatever their items are: `BadMagic` (60), and in front of the first item `TooLong` (42) and `Trailing` (43). After a refusal
-    /// each later call answers the same fault.
+    /// whatever their items are: `BadMagic` (60), and in front of the first item `TooLong` (42) and `Trailing` (43); nor before the
+    /// header's 16 bytes are whole. After a refusal each later call answers the same fault.
     pub fn feed(&mut self, program: &P, piece: &[u8]) -> Result<(), ImportFault>
         ensures directory { self.new.directory ≡ self.old.directory }
         ensures fed { Feeds result (fed_by (checked_of self.old.directory) piece.now self.old.fed) self.new.fed }
         ensures again { (f : TheFault) → self.old.fed ≡ Err f → (result ≡ Err f) × (self.new.fed ≡ Err f) }
         ensures memory { IfOk self.old.fed (λ text. IfErr result (λ f. f.cause ≡ cause.Memory → IsOfItems (λ reads. fed_by reads piece.now self.old.fed))) }
+        // The header takes no memory.
+        ensures header { IfOk self.old.fed (λ text. IfErr result (λ f. f.cause ≡ cause.Memory → 16 ≤ length (text ++ piece.now))) }
     {
         feed(self.alloc, program, &self.directory, &mut self.stage, piece)
     }

@@ -1,6 +1,6 @@
 //! What an importer was fed so far.
 
-ghost use Rattle.std.specs.Prelude.{◌≡◌, ◌<◌, ◌++◌, [], Err, IfErr, IfOk, IsOk, Ok, length, ℕ, List};
+ghost use Rattle.std.specs.Prelude.{◌≡◌, ◌<◌, ◌≤◌, ◌++◌, [], Err, IfErr, IfOk, IsOk, Ok, length, ℕ, List};
 ghost use Rattle.std.specs.List.{All};
 ghost use Rattle.std.specs.List.Sorted.{IsStrictlySortedBy};
 ghost use Rattle.authenticators.specs.Directory.{Listing};
@@ -75,6 +75,7 @@ fn take_head<'a, P: Program>(alloc: Global, stage: &mut Stage<P>, piece: &'a [u8
     ensures all { (ds : Listing) → IsStage ds P.means stage.old → IsShort stage.new → result.now ≡ [] }
     ensures again { (f : TheFault) → fed_of stage.old ≡ Err f → fed_of stage.new ≡ Err f }
     ensures goes { IfOk (fed_of stage.old) (λ text. GoesOn stage.new) }
+    ensures joined { IfOk (fed_of stage.old) (λ text. IfOk (fed_of stage.new) (λ more. more ++ result.now ≡ text ++ piece.now)) }
 {
     let Stage::Head(head) = stage else {
         return piece;
@@ -99,6 +100,7 @@ pub(crate) fn feed<P: Program>(
     ensures fed { Feeds result (fed_by (checked_of directory.now) piece.now (fed_of stage.old)) (fed_of stage.new) }
     ensures again { (f : TheFault) → fed_of stage.old ≡ Err f → (result ≡ Err f) × (fed_of stage.new ≡ Err f) }
     ensures memory { IfOk (fed_of stage.old) (λ text. IfErr result (λ f. f.cause ≡ cause.Memory → IsOfItems (λ reads. fed_by reads piece.now (fed_of stage.old)))) }
+    ensures header { IfOk (fed_of stage.old) (λ text. IfErr result (λ f. f.cause ≡ cause.Memory → 16 ≤ length (text ++ piece.now))) }
 {
     let rest = take_head(alloc, stage, piece);
     match stage {

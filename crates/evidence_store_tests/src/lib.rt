@@ -20,6 +20,8 @@ mod receipts;
 #[cfg(test)]
 mod samples;
 #[cfg(test)]
+mod segments;
+#[cfg(test)]
 mod statements;
 #[cfg(test)]
 mod texts;

@@ -1,6 +1,6 @@
 //! Three witnesses of the same items, which came in three orders, or to one of them each and crosswise to the others.
 
-use crate::samples::{new_store, take_copy};
+use crate::samples::{new_store, take_some};
 use evidence_item::Item;
 use evidence_samples::{Nodes, ZEROS, make_nodes};
 use evidence_store::{Evidence, IndexedStore, PlainStore};
@@ -41,20 +41,6 @@ fn make_items(alloc: Global) -> Result<Box<Items>, Fail> {
     let mut nodes = make_nodes(alloc)?;
     let items = make_list(alloc, &mut nodes)?;
     Ok(Box::new(alloc, Items { nodes, items })?)
-}
-
-/// Takes the items at these places, in this order.
-fn take_some<S: Evidence<Tally>>(
-    alloc: Global,
-    store: &mut S,
-    items: &[Item],
-    places: &[usize],
-) -> Result<(), Fail> {
-    for place in places {
-        let item = items.get(*place).ok_or("no such item")?;
-        take_copy::<S>(alloc, store, item)?;
-    }
-    Ok(())
 }
 
 fn witness<S: Evidence<Tally>>(

@@ -9,11 +9,12 @@ use ref_programs::Tally;
 use std::alloc::Global;
 use std::test::Fail;
 
-/// What an importer and a store without items make of a text in pieces: the number of the refusal of a piece, or 0; that of the end,
-/// or 0; how many items the store then has; and whether it exports the text.
+/// What an importer and a store without items make of a text in pieces: the number of the refusal of a piece, or 0; that of one more
+/// piece after a refusal, or 0; that of the end, or 0; how many items the store then has; and whether it exports the text.
 #[derive(Clone, Copy, Debug, PartialEq, Eq)]
 struct Told {
     fed: u8,
+    again: u8,
     ended: u8,
     count: u64,
     is_written: bool,
@@ -34,20 +35,34 @@ fn feed(importer: &mut Importer<Tally>, text: &[u8], length: usize) -> u8
     0
 }
 
+/// Feeds the front of a text after a refusal, of this number where it is not 0. The number of the refusal of that, or 0.
+fn feed_again(importer: &mut Importer<Tally>, fed: u8) -> u8
+    ensures { importer.new.directory ≡ importer.old.directory }
+{
+    if fed == 0 {
+        return 0;
+    }
+    match importer.feed(&Tally, b"PRSTORE2") {
+        Ok(()) => 0,
+        Err(fault) => fault.cause.number(),
+    }
+}
+
 fn told_by<S: Evidence<Tally>>(
     alloc: Global,
     store: &mut S,
     text: &[u8],
     length: usize,
-) -> Result<(u8, u8), Fail> {
+) -> Result<[u8; 3], Fail> {
     let directory = store.directory().try_clone()?;
     let mut importer = Importer::new(alloc, directory)?;
     let fed = feed(&mut importer, text, length);
+    let again = feed_again(&mut importer, fed);
     let ended = match importer.finish(&Tally, store) {
         Ok(_) => 0,
         Err(fault) => fault.cause.number(),
     };
-    Ok((fed, ended))
+    Ok([fed, again, ended])
 }
 
 fn read_in_pieces<S: Evidence<Tally>>(
@@ -57,9 +72,10 @@ fn read_in_pieces<S: Evidence<Tally>>(
     length: usize,
 ) -> Result<Told, Fail> {
     let mut store: Box<S> = new_store(alloc, &on.directory)?;
-    let (fed, ended) = told_by::<S>(alloc, &mut store, text, length)?;
+    let [fed, again, ended] = told_by::<S>(alloc, &mut store, text, length)?;
     Ok(Told {
         fed,
+        again,
         ended,
         count: store.count(),
         is_written: store.export()?.as_slice() == on.text.as_slice(),
@@ -68,6 +84,7 @@ fn read_in_pieces<S: Evidence<Tally>>(
 
 const READ: Told = Told {
     fed: 0,
+    again: 0,
     ended: 0,
     count: 2,
     is_written: true,
@@ -75,6 +92,7 @@ const READ: Told = Told {
 
 const CUT_OFF: Told = Told {
     fed: 0,
+    again: 0,
     ended: 40,
     count: 0,
     is_written: false,
@@ -82,6 +100,7 @@ const CUT_OFF: Told = Told {
 
 const OTHER_MAGIC: Told = Told {
     fed: 60,
+    again: 60,
     ended: 60,
     count: 0,
     is_written: false,

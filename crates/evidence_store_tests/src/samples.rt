@@ -38,6 +38,20 @@ pub(crate) fn take_copy<S: Evidence<Tally>>(
     take(alloc, store, Box::new(alloc, copy)?)
 }
 
+/// Takes the items at these places, in this order.
+pub(crate) fn take_some<S: Evidence<Tally>>(
+    alloc: Global,
+    store: &mut S,
+    items: &[Item],
+    places: &[usize],
+) -> Result<(), Fail> {
+    for place in places {
+        let item = items.get(*place).ok_or("no such item")?;
+        take_copy::<S>(alloc, store, item)?;
+    }
+    Ok(())
+}
+
 /// What a store says of both nodes, and how many challenges to node 2 it has that are not answered.
 #[derive(Clone, Copy, Debug, PartialEq, Eq)]
 pub(crate) struct Said {

@@ -19,13 +19,13 @@ pub(crate) struct Text {
 fn export_of_two<S: Evidence<Tally>>(alloc: Global, nodes: &mut Nodes) -> Result<Vec<u8>, Fail> {
     let mut store: Box<S> = new_store(alloc, &nodes.directory)?;
     let first = nodes.one.statement(alloc, 5, Hash([1; 32]), 9)?;
-    let second = nodes.one.statement(alloc, 5, Hash([2; 32]), 9)?;
+    let second = nodes.two.log_from(alloc, 3)?;
     take::<S>(alloc, &mut store, first)?;
     take::<S>(alloc, &mut store, second)?;
     Ok(store.export()?)
 }
 
-/// The text of two statements of node 1.
+/// The text of a statement of node 1 and of a part of node 2's log.
 pub(crate) fn text_of_two<S: Evidence<Tally>>(alloc: Global) -> Result<Text, Fail> {
     let mut nodes = make_nodes(alloc)?;
     let text = export_of_two::<S>(alloc, &mut nodes)?;

@@ -2,9 +2,12 @@
 
 ghost use Rattle.std.specs.Prelude.{◌<◌};
 
-use super::{MAGIC, at, container, make_signer};
-use authenticators::Directory;
+use super::{MAGIC, Signer, at, container, make_signer, statement};
+use authenticators::{Directory, NodeId, statement_text};
 use containers::{Cause, ImportFault, Reading, write_all};
+use evidence_item::Item;
+use log_chain::kind::INIT;
+use log_chain::{ByteString, Entry, base_hash, chain_end};
 use ref_programs::Tally;
 use std::alloc::Global;
 use std::test::Fail;
@@ -48,20 +51,57 @@ fn is_read_in_pieces(
 }
 
 /// The same of pieces of 1, of 7 and of 4,096 bytes.
-fn are_read_in_pieces(alloc: Global) -> Result<[bool; 3], Fail> {
-    let mut signer = make_signer(alloc)?;
-    let text = container(alloc, &mut signer, [5, 6])?;
-    let directory = &signer.directory;
+fn are_read_in_pieces(
+    alloc: Global,
+    directory: &Directory,
+    text: &[u8],
+) -> Result<[bool; 3], Fail> {
     Ok([
-        is_read_in_pieces(alloc, directory, &text, 1)?,
-        is_read_in_pieces(alloc, directory, &text, 7)?,
-        is_read_in_pieces(alloc, directory, &text, 4096)?,
+        is_read_in_pieces(alloc, directory, text, 1)?,
+        is_read_in_pieces(alloc, directory, text, 7)?,
+        is_read_in_pieces(alloc, directory, text, 4096)?,
+    ])
+}
+
+/// The signer's log, which has one entry.
+fn segment(alloc: Global, signer: &mut Signer) -> Result<Box<Item>, Fail> {
+    let mut entries = Vec::new(alloc);
+    entries.push(Entry {
+        seq: 1,
+        kind: INIT,
+        content: ByteString::from_slice(alloc, &[0, 0, 0, 1])?,
+    })?;
+    let hash = chain_end(base_hash(), &entries);
+    let sig = signer.key.sign(alloc, &statement_text(1, hash), [9; 32])?;
+    let item = Item::segment(NodeId(1), base_hash(), entries, ByteString::from_vec(sig))?;
+    Ok(Box::new(alloc, item)?)
+}
+
+/// The container of a statement and a segment.
+fn container_of_both(alloc: Global, signer: &mut Signer) -> Result<Vec<u8>, Fail> {
+    let mut items = Vec::new(alloc);
+    items.push(Box::into_inner(statement(alloc, signer, 5)?))?;
+    items.push(Box::into_inner(segment(alloc, signer)?))?;
+    Ok(write_all(alloc, MAGIC, &items)?)
+}
+
+/// The same of the containers of nothing, of two statements, and of a statement and a segment.
+fn three_are_read(alloc: Global) -> Result<[[bool; 3]; 3], Fail> {
+    let mut signer = make_signer(alloc)?;
+    let nothing: &[Item] = &[];
+    let none = write_all(alloc, MAGIC, nothing)?;
+    let two = container(alloc, &mut signer, [5, 6])?;
+    let both = container_of_both(alloc, &mut signer)?;
+    Ok([
+        are_read_in_pieces(alloc, &signer.directory, &none)?,
+        are_read_in_pieces(alloc, &signer.directory, &two)?,
+        are_read_in_pieces(alloc, &signer.directory, &both)?,
     ])
 }
 
 #[test]
 fn pieces_are_read_as_the_whole(rt: HostRuntime) -> Result<(), Fail> {
-    assert_eq!(rt; are_read_in_pieces(rt.alloc())?, [true; 3]);
+    assert_eq!(rt; three_are_read(rt.alloc())?, [[true; 3]; 3]);
     Ok(())
 }
 
@@ -123,17 +163,18 @@ fn a_fault_of_the_header_or_a_length_is_told_without_memory(rt: HostRuntime) -> 
     Ok(())
 }
 
-/// The answers to a piece that is at fault, to one more, and at the end.
-fn answers(alloc: Global) -> [Result<(), ImportFault>; 3] {
+/// The answers to a piece that is at fault, to a piece without bytes, to a header that is whole, and at the end.
+fn answers(alloc: Global) -> [Result<(), ImportFault>; 4] {
     let directory = Directory::new(alloc);
     let mut reading: Reading<Tally> = Reading::new(alloc, MAGIC);
     let first = reading.feed(&Tally, &directory, &[0, 0, 0, 0, 0, 0, 0, 0, 1]);
     let second = reading.feed(&Tally, &directory, &[]);
+    let third = reading.feed(&Tally, &directory, &[0; 8]);
     let end = match reading.finish() {
         Ok(_) => Ok(()),
         Err(fault) => Err(fault),
     };
-    [first, second, end]
+    [first, second, third, end]
 }
 
 #[test]
@@ -142,6 +183,6 @@ fn a_refusal_stays(rt: HostRuntime) -> Result<(), Fail> {
         item: 0,
         cause: Cause::Trailing,
     });
-    assert_eq!(rt; answers(rt.alloc()), [trailing; 3]);
+    assert_eq!(rt; answers(rt.alloc()), [trailing; 4]);
     Ok(())
 }

@@ -7,7 +7,7 @@ use Rattle.containers.specs.CheckedItems.{checked_of}
 use Rattle.containers.specs.Feeding.{Feeds}
 use Rattle.evidence.specs.within.Stages.{BeginsWith, GoesOn, IsKnown, IsShort, IsStage, fed_of}
 use Rattle.evidence.specs.Importing.{fed_by}
-use Rattle.evidence.proofs.Importing.{begins_on, fed_behind, is_open, memory_through, ok_more, short_fed}
+use Rattle.evidence.proofs.Importing.{begins_on, fed_behind, header_through, is_open, memory_through, ok_more, short_fed}
 use Rattle.evidence.proofs.stage.feed.Goals as goal
 
 pub take_head-rest-requires : goal.take_head-rest-requires
@@ -55,6 +55,16 @@ returns-in-Items-clause-memory g c =
     let goes = ok_more (fed_of c.args.stage.now) (λ text. GoesOn c.take_head-rest.new.stage) (λ text. IsOk r.fed) (λ text h. subst GoesOn c.in-Items.is h) c.take_head-rest.ensures.goes in
     memory_through (fed_of c.args.stage.now) r.fed c.feed.result (λ reads. fed_by reads c.args.piece.now (fed_of c.args.stage.now)) (λ reads. fed_with r.magic reads c.take_head-rest.result.now r.fed) goes (c.feed.ensures.memory p.0)
     (λ reads. c.take_head-rest.ensures.alike c.args.directory.now c.requires reads ∙ ap (fed_by reads c.take_head-rest.result.now) (ap fed_of c.in-Items.is) ∙ fed_behind reads r.magic c.take_head-rest.result.now r.fed p.1 p.2)
+
+pub returns-in-Items-clause-header : goal.returns-in-Items-clause-header
+returns-in-Items-clause-header g c =
+    let r = c.in-Items.reading in
+    let piece = c.args.piece.now in
+    let rest = c.take_head-rest.result.now in
+    let p = subst (IsStage c.args.directory.now g.P.Program.means) c.in-Items.is (c.take_head-rest.ensures.stage c.args.directory.now c.requires) in
+    let goes = ok_more (fed_of c.args.stage.now) (λ text. GoesOn c.take_head-rest.new.stage) (λ text. IsOk r.fed) (λ text h. subst GoesOn c.in-Items.is h) c.take_head-rest.ensures.goes in
+    let joined = subst (λ (x : Result (List ℕ) ImportFault). IfOk (fed_of c.args.stage.now) (λ text. IfOk x (λ more. more ++ rest ≡ text ++ piece))) (ap fed_of c.in-Items.is) c.take_head-rest.ensures.joined in
+    header_through (fed_of c.args.stage.now) r.fed c.feed.result piece rest goes joined (c.feed.ensures.header p.0)
 
 pub returns-in-Refused-clause-fed : goal.returns-in-Refused-clause-fed
 returns-in-Refused-clause-fed g c =
