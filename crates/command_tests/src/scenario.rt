@@ -1,7 +1,7 @@
 //! Scenarios of a few nodes, and texts that are none.
 
 use crate::testing::outcome;
-use commands::fault::Fault;
+use commands::fault::{Fault, RefusalLine};
 use commands::task::Task;
 use std::alloc::{AllocError, Global};
 use std::sync::Wait;
@@ -68,7 +68,7 @@ fn is_refused<H: Threads + Wait + Sync>(
     let Err(fault) = answer else {
         return Ok(false);
     };
-    let told = format!(in alloc; "{fault}")?;
+    let told = format!(in alloc; "{}", RefusalLine { fault })?;
     Ok(told.as_str() == line && written.is_empty())
 }
 

@@ -3,7 +3,7 @@
 mod signed;
 
 use crate::testing::{equivocation, halves, no_statements, outcome, unsigned};
-use commands::fault::Fault;
+use commands::fault::{Fault, RefusalLine};
 use commands::task::Task;
 use std::alloc::Global;
 use std::sync::Wait;
@@ -63,7 +63,8 @@ fn refusals_are_told(rt: HostRuntime) {
         let (answer, written) = told(&rt, rt.alloc(), input);
         assert!(rt; answer == Err(fault));
         assert!(rt; written.is_empty());
-        let shown = format!(in rt.alloc(); "{fault}").expect(&rt, "memory");
+        let line = RefusalLine { fault };
+        let shown = format!(in rt.alloc(); "{line}").expect(&rt, "memory");
         assert!(rt; shown.as_str() == text);
     }
 }

@@ -3,7 +3,7 @@
 ghost use Rattle.std.specs.Prelude.{◌≡◌, OnErr, OnOk};
 ghost use Rattle.std.specs.Process.{exit_status};
 
-use commands::fault::Fault;
+use commands::fault::{Fault, RefusalLine};
 use std::process::ExitCode;
 
 /// Tells a refusal on standard error. Where that cannot be written, the exit status alone tells it.
@@ -14,7 +14,8 @@ pub fn told(rt: &HostRuntime, done: Result<(), Fault>) -> ExitCode
     match done {
         Ok(()) => ExitCode::SUCCESS,
         Err(fault) => {
-            let _ = eprintln!(rt; "{fault}");
+            let line = RefusalLine { fault };
+            let _ = eprintln!(rt; "{line}");
             ExitCode::FAILURE
         }
     }

@@ -225,3 +225,47 @@ fn two_stores_and_one_pass_are_refused(rt: HostRuntime) -> Result<(), Fail> {
     assert!(rt; indexed == (94, 1));
     Ok(())
 }
+
+/// The number of the refusal to close the store with this pass; 0 where it is closed.
+fn close_number<S: Evidence<Tally>>(
+    alloc: Global,
+    shared: SharedStore<Tally, S>,
+    pass: Pass,
+) -> Result<u8, Fail> {
+    let mut passes = Vec::new(alloc);
+    passes.push(pass)?;
+    match shared.close(passes) {
+        Ok(_) => Ok(0),
+        Err(refused) => Ok(refused.fault.number()),
+    }
+}
+
+/// The number of the refusal to close the last store with the last pass.
+fn close_last_number<S: Evidence<Tally>>(alloc: Global, on: &mut Stores<S>) -> Result<u8, Fail> {
+    let (Some(shared), Some(pass)) = (on.stores.pop(), on.passes.pop()) else {
+        return Ok(0);
+    };
+    close_number(alloc, shared, pass)
+}
+
+/// The numbers of the refusals to close two stores whose passes changed places before an exchange: the second store with the first
+/// one's pass, and the first store with the second one's.
+fn closed_with_each_others<S: Evidence<Tally> + Send, R: Threads + Wait + Sync>(
+    rt: &R,
+    alloc: Global,
+) -> Result<(u8, u8), Fail> {
+    let mut on: Stores<S> = two_stores(rt, alloc)?;
+    on.passes.reverse();
+    exchange(rt, alloc, &Tally, &on.directory, &on.stores, &mut on.passes)?;
+    let second = close_last_number(alloc, &mut on)?;
+    let first = close_last_number(alloc, &mut on)?;
+    Ok((second, first))
+}
+
+#[test]
+fn a_pass_of_another_store_is_told_when_the_stores_are_closed(rt: HostRuntime) -> Result<(), Fail> {
+    let plain = closed_with_each_others::<PlainStore<Tally>, HostRuntime>(&rt, rt.alloc())?;
+    let indexed = closed_with_each_others::<IndexedStore<Tally>, HostRuntime>(&rt, rt.alloc())?;
+    assert!(rt; (plain, indexed) == ((92, 92), (92, 92)));
+    Ok(())
+}

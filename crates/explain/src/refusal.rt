@@ -1,7 +1,7 @@
 //! Why an input is not explained, and where the fault stands.
 
 use crate::place::FaultPlace;
-use commands::fault::Fault;
+use commands::fault::{Fault, RefusalLine};
 use outcome::Memory;
 use std::alloc::{AllocError, AllocFailed};
 use std::fmt;
@@ -28,8 +28,9 @@ impl Refusal {
 /// What is told of it on one line: `refused NUMBER NAME`, its place, and what it is in words.
 impl fmt::Display for Refusal {
     fn fmt<W: fmt::Write>(&self, f: &mut fmt::Formatter<W>) -> fmt::Result {
+        let line = RefusalLine { fault: self.fault };
         let words = words_of(self.fault);
-        write!(f, "{}{}: {words}", self.fault, self.place)
+        write!(f, "{line}{}: {words}", self.place)
     }
 }
 
