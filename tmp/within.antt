@@ -1,6 +1,0 @@
--- The words by which private code keeps its promises. A reader of the public contracts needs none of them.
-pub mod Going
-pub mod Parts
-pub mod Resting
-pub mod Seen
-pub mod Whole
