@@ -14,7 +14,8 @@ TOP = Path(__file__).resolve().parent.parent
 PAGE = TOP / "docs" / "FORMATS.md"
 HEADING = "## Refusals\n"
 
-ARM = re.compile(r"(\w+)::(\w+)(?:\(_\))? => (\d+|\"\w+\")")
+ARM = re.compile(r"((?:\w+::\w+(?:\(_\))?\s*\|\s*)*\w+::\w+(?:\(_\))?)\s*=>\s*(\d+|\"\w+\")")
+VARIANT = re.compile(r"(\w+)::(\w+)")
 LINE = re.compile(r'((?:^\s*///.*\n)*)(?:^\s*#\[error\("([^"]*)"\)\]\n)?^\s*(\w+),$', re.M)
 
 
@@ -49,8 +50,9 @@ def refusals():
         for path in sorted((TOP / "crates" / crate / "src").glob("**/*.rt")):
             text = path.read_text(encoding="utf-8")
             given = {}
-            for kind, variant, value in ARM.findall(text):
-                given.setdefault((kind, variant), []).append(value)
+            for variants, value in ARM.findall(text):
+                for kind, variant in VARIANT.findall(variants):
+                    given.setdefault((kind, variant), []).append(value)
             for (kind, variant), values in given.items():
                 number = next((int(value) for value in values if value.isdigit()), None)
                 name = next((value.strip('"') for value in values if value.startswith('"')), None)
