@@ -5,7 +5,8 @@ each public call; where it does not, it says where and ends with status 1. With 
 Of a page that cites, the last cell of a table's row cites calls (`Type::call`, `module::call`, `call`), clauses of
 those calls (behind the word `clause` or `clauses`), types, and definitions of specs/. A clause has to be one of a call that
 the same cell names. A page of docs/promises/ has a crate's root comment, its types and its public calls: of each its comment, and of each
-clause its name, the definitions that it cites, and the comment above it.
+clause its name, the definitions that it cites, and the comment above it; and of the crate's own definitions that contracts cite the
+comments.
 """
 
 import re
@@ -247,7 +248,33 @@ def in_clauses(call):
     return "; ".join(told)
 
 
-def page_of(crate):
+def definitions_of(name):
+    """The words that a crate's specs/ defines and comments: each with its file and its comment, those of a record's members behind it."""
+    for path in sorted((TOP / "crates" / name / "specs").glob("*.antt")):
+        lines = path.read_text(encoding="utf-8").splitlines()
+        for at, line in enumerate(lines):
+            word = re.match(r"(?:abbrev |unfoldable )*pub (?:record |data )?(\w[\w'-]*)", line)
+            if word and not line.startswith("pub mod"):
+                said = in_words(antt_comment(lines, at))
+                for place in range(at + 1, len(lines)):
+                    if not lines[place].startswith(" "):
+                        break
+                    member = re.match(r"  pub (\w[\w'-]*)", lines[place])
+                    about = in_words(antt_comment(lines, place)) if member else ""
+                    said += f"<br>- `{member[1]}`: {about}" if about else ""
+                if said:
+                    yield word[1], path.stem, said
+
+
+def antt_comment(lines, at):
+    """The `--` in front of a line."""
+    first = at
+    while first > 0 and re.match(r"\s*-- (?!----)", lines[first - 1]):
+        first -= 1
+    return [line.strip().removeprefix("--").strip() for line in lines[first:at]]
+
+
+def page_of(crate, cited):
     """The page of a crate, or nothing where it has neither calls nor types of its own."""
     if not crate.calls and not crate.types:
         return None
@@ -261,23 +288,25 @@ def page_of(crate):
         if calls:
             lines += [f"## {title}", "", f"| {title[:-1]} | What its comment says | Its clauses, and the definitions that they cite |", "|---|---|---|"]
             lines += [f"| `{call.path}` | {in_words(call.comment)} | {in_clauses(call)} |" for call in calls] + [""]
-    files = {}
-    for word, file in sorted(crate.words.items()):
-        files.setdefault(file, []).append(word)
-    if files:
-        lines += ["## Definitions", ""]
-        for (owner, file), words in sorted(files.items()):
-            lines.append(f"- [`{owner}/specs/{file.replace('.', '/')}.antt`](../../crates/{owner}/specs/{file.replace('.', '/')}.antt): {', '.join(f'`{word}`' for word in words)}")
-        lines.append("")
+    own = [(word, file, said) for word, file, said in definitions_of(crate.name) if (crate.name, word) in cited]
+    if own:
+        lines += ["## Definitions", "", "| Word | What its comment says | File of `specs/` |", "|---|---|---|"]
+        lines += [f"| `{word}` | {said} | [{file}](../../crates/{crate.name}/specs/{file}.antt) |" for word, file, said in own] + [""]
+    others = {}
+    for word, (owner, _) in sorted(crate.words.items()):
+        if owner != crate.name:
+            others.setdefault(owner, []).append(f"`{word}`")
+    if others:
+        lines += ["Words of other crates: " + "; ".join(f"of [`{owner}`]({owner}.md) {', '.join(words)}" for owner, words in sorted(others.items())) + ".", ""]
     return "\n".join(lines)
 
 
 def held_pages(write):
     """How many pages there are, and how many of them are not what the sources give."""
-    pages = {}
-    for folder in sorted((TOP / "crates").iterdir()):
-        if (folder / "src").is_dir() and not folder.name.endswith("_tests"):
-            pages[folder.name + ".md"] = page_of(Crate(folder))
+    folders = [folder for folder in sorted((TOP / "crates").iterdir()) if (folder / "src").is_dir() and not folder.name.endswith("_tests")]
+    crates = [Crate(folder) for folder in folders]
+    cited = {(owner, word) for crate in crates for word, (owner, _) in crate.words.items()}
+    pages = {f"{crate.name}.md": page_of(crate, cited) for crate in crates}
     pages = {name: text for name, text in pages.items() if text}
     faults = 0
     MADE.mkdir(exist_ok=True)
