@@ -248,10 +248,23 @@ def in_clauses(call):
     return "; ".join(told)
 
 
+BLOCK = re.compile(r"module .* where$|(unfoldable )?mutual$")
+
+
+def dedented(lines):
+    """The lines of a file of specs/, with what stands within a block moved to the front."""
+    told, depth = [], 0
+    for line in lines:
+        depth = min(depth, len(line) - len(line.lstrip())) if line.strip() else depth
+        told.append(line[depth:])
+        depth += 2 if BLOCK.match(told[-1]) else 0
+    return told
+
+
 def definitions_of(name):
     """The words that a crate's specs/ defines and comments: each with its file and its comment, those of a record's members behind it."""
     for path in sorted((TOP / "crates" / name / "specs").glob("*.antt")):
-        lines = path.read_text(encoding="utf-8").splitlines()
+        lines = dedented(path.read_text(encoding="utf-8").splitlines())
         for at, line in enumerate(lines):
             word = re.match(r"(?:abbrev |unfoldable )*pub (?:record |data )?(\w[\w'-]*)", line)
             if word and not line.startswith("pub mod"):
