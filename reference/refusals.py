@@ -3,16 +3,18 @@
 `write` it writes the table anew.
 
 Each enum of faults gives a variant's number and name by `number` and `name`, and a line for a person. A row has a number and a name,
-the line of the lowest crate that tells it, and the types that do. `Reason` is why a log deviates, and no refusal. Crates stand as in crates.txt's order of use, lowest first.
+the line of the lowest crate that tells it, and the types that do. `Reason` is why a log deviates, and no refusal. Crates come as in crates.txt, lowest first.
 """
 
 import re
 import sys
 from pathlib import Path
 
+import layers
+from words import Part
+
 TOP = Path(__file__).resolve().parent.parent
-PAGE = TOP / "docs" / "FORMATS.md"
-HEADING = "## Refusals\n"
+PAGE = "docs/FORMATS.md"
 
 ARM = re.compile(r"((?:\w+::\w+(?:\(_\))?\s*\|\s*)*\w+::\w+(?:\(_\))?)\s*=>\s*(\d+|\"\w+\")")
 VARIANT = re.compile(r"(\w+)::(\w+)")
@@ -21,15 +23,7 @@ LINE = re.compile(r'((?:^\s*///.*\n)*)(?:^\s*#\[error\("([^"]*)"\)\]\n)?^\s*(\w+
 
 def crates():
     """The crates, each behind those that it stands on."""
-    uses = {}
-    for line in (TOP / "crates.txt").read_text().splitlines():
-        name, colon, rest = line.partition(":")
-        if colon and not line.startswith("#"):
-            uses[name.split()[0]] = rest.split()
-    found = []
-    while len(found) < len(uses):
-        found += sorted(name for name in uses if name not in found and all(low in found for low in uses[name] if low in uses))
-    return [name for name in found if not name.endswith("_tests")]
+    return [crate.name for crate in layers.read_crates()[1].values() if crate.layer != layers.TESTS]
 
 
 def lines_of(text, kind):
@@ -71,19 +65,10 @@ def table():
 
 
 def main():
-    text = PAGE.read_text(encoding="utf-8")
-    head, found, rest = text.partition(HEADING)
-    if not found:
-        sys.exit(f"docs/FORMATS.md has no heading {HEADING.strip()}")
-    old = re.search(r"^\|.*?\n(?!\|)|^\|.*\Z", rest, re.M | re.S)
     wanted = table()
-    if sys.argv[1:] == ["write"]:
-        PAGE.write_text(head + found + rest.replace(old[0], wanted) if old else text + "\n" + wanted, encoding="utf-8")
-        return 0
-    if old is None or old[0] != wanted:
-        print("docs/FORMATS.md: the table of refusals is another one than the sources give; reference/refusals.py write makes it anew")
+    if not Part(PAGE, "reference/refusals.py").held_to(wanted, sys.argv[1:] == ["write"]):
         return 1
-    print(f"docs/FORMATS.md has the sources' {wanted.count(chr(10)) - 2} refusals")
+    print(f"{PAGE} has the sources' {wanted.count(chr(10)) - 2} refusals")
     return 0
 
 
