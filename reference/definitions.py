@@ -1,12 +1,17 @@
 #!/usr/bin/env python3
-"""Tells whether docs/DEFINITIONS.md is up to date, from the sources alone; where it is not, it says where and ends with status 1. With
-the word `write` it prints the lines of the page that it looks at, as they should be.
+"""Makes the tables of docs/DEFINITIONS.md from the sources alone, with the word `write`; without it, it tells whether they are up to date,
+and ends with status 1 where they are not.
 
 The page lists the files of specs/ of each crate, in an order in which each uses only what stands before it, with its lines without
 imports and blank ones; specs/within, whose words no public contract uses, and the crates of tests are left out. It opens with the files
 on which the headline rests: those that the contracts in HEADLINE cite, by their names or by the values that contracts see of the types
-in their signatures, and all that these files import, to the end. A file is listed whole, whatever part of it is used. What the types of
-the sources are is no definition in specs/, so the types and constants that these files use are named apart.
+in their signatures, and all that these files import, to the end. There a file is listed whole, whatever part of it is used. What the
+types of the sources are is no definition in specs/, so the types and constants that these files use are named apart.
+
+Each definition has one of three marks, and its lines count there, with its comment. `believe`: a clause of a public call cites it, or
+what a contract sees of a type, or a law of the headline, or what one of these uses. `consequence`: else, where a clause of a law cites
+it, or the proof that a program or a coding keeps its laws, or what one of these uses. `inner`: all else, as that of the crates in INNER,
+whose calls the house alone makes. A name in a definition's text counts as a use of what the file has or imports under that name.
 """
 
 import re
@@ -14,10 +19,18 @@ import sys
 from collections import defaultdict
 from pathlib import Path
 
+import layers
+import promises
+from words import Part
+
 TOP = Path(__file__).resolve().parent.parent
 CRATES = TOP / "crates"
 PAGE = "docs/DEFINITIONS.md"
-OWN = "## The headline's own reading"
+
+# Crates whose calls other crates of the house make and nobody else: parts of what stands above them.
+INNER = "sha256_lanes tiered_vec parallel_map kept_evidence kept_entries kept_items node_tables sentences known_logs".split()
+
+MARKS = ("believe", "consequence", "inner")
 
 # The contracts that carry the headline, and what stands in their premises (docs/PROMISES.md has the table).
 HEADLINE = [
@@ -163,123 +176,167 @@ class Reading:
                 yield f"`{file.relative_to(CRATES / crate / 'src')}`: {names}"
 
 
-def in_order(page, specs):
-    """The files as the page's tables have them; where one uses what does not stand before it there, what it uses comes first."""
-    order, met = [], set()
+class Words:
+    """The definitions of a file of specs/: of each its lines, and the words that it uses, by file and name."""
 
-    def place(spec):
-        return (spec not in page.rows, page.rows.get(spec, (0,))[0], spec)
+    def __init__(self, spec, path, imports):
+        self.spec, self.lines, self.texts = spec, defaultdict(int), defaultdict(str)
+        name, waiting = None, 0
+        for line in promises.dedented(read(path)):
+            if not line.strip() or re.match(r"(pub )?use ", line):
+                continue
+            if line.startswith(("--", "infix")) or promises.BLOCK.match(line):
+                waiting += 1
+                continue
+            begun = re.match(r"(?:(?:abbrev|unfoldable|pub|record|data) )+(\S+)|(\S+) : ", line)
+            name = (begun[1] or begun[2]) if begun else name
+            self.lines[name] += waiting + 1
+            self.texts[name] += re.sub(r"--.*", "", line) + "\n"
+            waiting = 0
+        if waiting:
+            self.lines[name] += waiting
+        self.here = {here: (use.crate, use.path[0], name) for use in imports if use.path[0] != "declared" for here, name in zip(use.here, use.names or use.here)}
+
+    def uses(self, name):
+        """The words that a definition uses."""
+        words = set(re.findall(r"[A-Za-z_][\w'-]*", self.texts[name])) | {word for word in (*self.here, *self.lines) if not word.isidentifier() and word.strip("◌") in self.texts[name]}
+        return [self.here.get(word) or (*self.spec, word) for word in words if word in self.here or word in self.lines and word != name]
+
+
+class Marks:
+    """The mark of each definition, and how many lines each file has of each."""
+
+    def __init__(self, sources):
+        self.words = {spec: Words(spec, path, sources.uses[spec]) for spec, path in sources.paths.items()}
+        believed, followed = set(), set()
+        for crate in {name for name, _ in sources.paths} | {path.name for path in CRATES.iterdir()}:
+            if crate not in INNER and not crate.endswith("_tests") and (CRATES / crate / "src").is_dir():
+                believed |= self.seen(crate, r"ghost (?!use |lawful = |laws |invariant )")
+                followed |= self.seen(crate, r"ghost lawful = ")
+                for call in promises.Crate(CRATES / crate).calls:
+                    cited = {(owner, file, word) for _, _, found, *_ in call.clauses for owner, file, word in found}
+                    (followed if call.is_law else believed).update(cited)
+        for path, names in HEADLINE:
+            for name in names:
+                believed |= self.named(sources, path, name)
+        self.believed = self.reach(believed)
+        self.followed = self.reach(followed) - self.believed
+
+    def named(self, sources, path, name):
+        """The words that a contract of the headline cites."""
+        text = (CRATES / path).read_text(encoding="utf-8")
+        match = re.search(rf"^pub fn {name}\b.*?^\{{|^pub trait {name}\b.*?^\}}", text, re.M | re.S)
+        return self.cited(text, match[0])
+
+    def cited(self, text, part):
+        """The words that a part of a source cites, by the source's imports."""
+        here = {here: (use.crate, use.path[0], name) for use in uses(text.splitlines()) if use.path[0] != "declared" for here, name in zip(use.here, use.names or use.here)}
+        return {here[word] for word in re.findall(r"[\w'-]+", re.sub(r"//.*", "", part)) if word in here}
+
+    def seen(self, crate, line):
+        """The words that such lines of a crate's sources cite: those by which contracts see the values of its types, what its traits and
+        programs mean, or why they keep their laws."""
+        found = set()
+        for path in (CRATES / crate / "src").rglob("*.rt"):
+            text = path.read_text(encoding="utf-8")
+            found |= self.cited(text, "\n".join(re.findall(rf"^    {line}.*$", text, re.M)))
+        return found
+
+    def reach(self, roots):
+        met, left = set(), [word for word in roots if word[:2] in self.words]
+        while left:
+            word = left.pop()
+            if word not in met:
+                met.add(word)
+                left += [other for other in self.words[word[:2]].uses(word[2]) if other[:2] in self.words]
+        return met
+
+    def of(self, spec):
+        """The lines of a file by mark."""
+        counts = dict.fromkeys(MARKS, 0)
+        for name, lines in self.words[spec].lines.items():
+            word = (*spec, name)
+            counts["believe" if word in self.believed else "consequence" if word in self.followed else "inner"] += lines
+        return counts
+
+
+def in_order(sources, specs):
+    """The files, crates as in crates.txt; within one, what a file uses comes first."""
+    crates = list(layers.read_crates()[1])
+    order, met = [], set()
 
     def put(spec):
         if spec not in met:
             met.add(spec)
-            for other in sorted(page.sources.beneath(spec), key=place):
-                put(other)
+            for other in sorted(sources.beneath(spec)):
+                if other[0] == spec[0] and other in sources.paths:
+                    put(other)
             order.append(spec)
 
-    for spec in sorted(specs, key=place):
+    for spec in sorted(specs):
         put(spec)
-    return order
+    return sorted((spec for spec in order if spec in specs), key=lambda spec: crates.index(spec[0]))
 
 
-def own_lines(page, reading):
-    """The lines that say on what the headline rests."""
-    sources, rows, order = page.sources, defaultdict(list), in_order(page, reading.specs)
+def headline(sources, reading):
+    """The table of what the headline rests on."""
+    rows, order = defaultdict(list), in_order(sources, reading.specs)
     for spec in order:
         rows[spec[0]].append(spec)
+    lines = ["| Crate | Files of `specs/`, and their lines | Lines | Beside them, in `src/` |", "|---|---|---|---|"]
     for crate, specs in rows.items():
         files = ", ".join(f"`{spec[1]}` {sources.lines[spec]}" for spec in specs)
-        beside = "; ".join(reading.beside(crate))
-        yield f"| `{crate}` | {files} | {sum(sources.lines[spec] for spec in specs)} | {beside} |"
-    yield f"These are {len(order)} files of {sum(sources.lines[spec] for spec in order)} lines."
+        lines.append(f"| `{crate}` | {files} | {sum(sources.lines[spec] for spec in specs)} | {'; '.join(reading.beside(crate))} |")
+    lines += ["", f"These are {len(order)} files of {sum(sources.lines[spec] for spec in order)} lines."]
+    return "\n".join(lines) + "\n"
 
 
-class Page:
-    """The page: the lines of its first section that the script looks at, the rows of the others, and the total."""
-
-    def __init__(self, sources):
-        self.sources, self.own, self.rows, self.total, self.faults = sources, [], {}, None, []
-        section, crates = "", []
-        for number, line in enumerate(read(TOP / PAGE), 1):
-            if line.startswith("## "):
-                section, crates = line, re.findall(r"`(\w+)`", line)
-            row = re.match(r"\| (?:`(\w+)`: )?`(\w+)` \| (\d+) \|", line)
-            if section == OWN and (line.startswith("| `") or line.startswith("These are ")):
-                self.own.append((number, line))
-            elif row and crates:
-                self.row((row[1] or crates[0], row[2]), number, line)
-            total = re.match(r"Lines are counted without imports and blank ones: (\d+) in all\.$", line)
-            if total:
-                self.total = (number, int(total[1]))
-
-    def row(self, spec, number, line):
-        if spec in self.rows:
-            self.tell(number, f"{name_of(spec)} has two rows")
-        self.rows[spec] = (number, line)
-
-    def tell(self, number, what):
-        self.faults.append(f"{PAGE}:{number}: {what}")
-
-    def compare_own(self, wanted):
-        stands = [line for _, line in self.own]
-        for number, line in self.own:
-            if line not in wanted:
-                self.tell(number, f"is no line of the headline's reading: {line}")
-        for line in wanted:
-            if line not in stands:
-                self.tell(self.own[0][0] if self.own else 1, f"the headline's reading lacks: {line}")
-        if not self.faults and stands != wanted:
-            self.tell(self.own[0][0], "the headline's reading stands in another order")
-
-    def compare_tables(self):
-        sources = self.sources
-        for spec, (number, line) in self.rows.items():
-            if spec not in sources.paths:
-                self.tell(number, f"there is no {name_of(spec)}")
-            elif line != mended(line, sources.lines[spec]):
-                self.tell(number, f"{name_of(spec)} has {sources.lines[spec]} lines")
-            for other in sources.beneath(spec):
-                if other in self.rows and self.rows[other][0] > number:
-                    self.tell(number, f"{name_of(spec)} stands before {name_of(other)}, which it uses")
-        for spec in sources.paths:
-            if spec not in self.rows:
-                self.tell(1, f"no row for {name_of(spec)}, which has {sources.lines[spec]} lines")
-        total = sum(sources.lines.values())
-        if self.total is None or self.total[1] != total:
-            self.tell(self.total[0] if self.total else 1, f"there are {total} lines in all")
+STANDARD = re.compile(r" ?\(((?:RFC 8554|FIPS 180-4|PeerReview|section|SHA-256)[^)]*)\)")
 
 
-def name_of(spec):
-    return f"crates/{spec[0]}/specs/{spec[1]}.antt"
+def said_of(path):
+    """The first sentence of a file's comment, and the standard that the comment names."""
+    comment = []
+    for line in read(path):
+        if not line.startswith("-- "):
+            break
+        comment.append(line.removeprefix("-- "))
+    text = " ".join(comment).replace("|", "\\|")
+    standard = "; ".join(dict.fromkeys(part.replace("PeerReview, SOSP 2007", "PeerReview") for part in STANDARD.findall(text)))
+    return re.split(r"(?<=\.)\s", STANDARD.sub("", text))[0], standard
 
 
-def mended(row, lines):
-    return re.sub(r"^(\| [^|]*\| )\d+ ", rf"\g<1>{lines} ", row)
-
-
-def write(page, sources, wanted):
-    print(*wanted, sep="\n")
-    for spec in in_order(page, sources.paths):
-        line = page.rows[spec][1] if spec in page.rows else f"| `{spec[0]}`: `{spec[1]}` | 0 |  |  |  |"
-        print(mended(line, sources.lines[spec]))
-    print(f"Lines are counted without imports and blank ones: {sum(sources.lines.values())} in all.")
+def tables(sources, marks):
+    """A table for each layer, and the sums."""
+    order, crates, told = in_order(sources, sources.paths), layers.read_crates()[1], []
+    total, layer = dict.fromkeys(MARKS, 0), None
+    for spec in order:
+        if crates[spec[0]].layer != layer:
+            layer = crates[spec[0]].layer
+            told += ["", f"**{layer}**", "", "| File of `specs/` | Lines | " + " | ".join(MARKS) + " | What it defines | Standard |", "|---|---|---|---|---|---|---|"]
+        counts, (what, standard) = marks.of(spec), said_of(sources.paths[spec])
+        total = {mark: total[mark] + counts[mark] for mark in MARKS}
+        link = f"[`{spec[0]}`: `{spec[1]}`](../crates/{spec[0]}/specs/{spec[1]}.antt)"
+        told.append(f"| {link} | {sources.lines[spec]} | {' | '.join(str(counts[mark] or '') for mark in MARKS)} | {what} | {standard} |")
+    sums = ", ".join(f"{total[mark]} {mark}" for mark in MARKS)
+    return f"{len(order)} files have {sum(sources.lines.values())} lines: {sums}.\n" + "\n".join(told) + "\n", total
 
 
 def main():
     sources = Sources()
-    reading = Reading(sources, HEADLINE)
-    page = Page(sources)
-    wanted = list(own_lines(page, reading))
-    if sys.argv[1:] == ["write"]:
-        return write(page, sources, wanted)
-    page.compare_own(wanted)
-    page.compare_tables()
-    print(*page.faults, sep="\n", end="\n" if page.faults else "")
-    if page.faults:
-        sys.exit(1)
-    lines = sum(sources.lines[spec] for spec in reading.specs)
-    print(f"{PAGE} is up to date: {len(sources.paths)} files, {sum(sources.lines.values())} lines; the headline's {len(reading.specs)}, {lines}")
+    reading, marks = Reading(sources, HEADLINE), Marks(sources)
+    text, total = tables(sources, marks)
+    assert sum(total.values()) == sum(sources.lines.values()), "each line has one mark"
+    write = sys.argv[1:] == ["write"]
+    held = [
+        Part(PAGE, "reference/definitions.py, headline").held_to(headline(sources, reading), write),
+        Part(PAGE, "reference/definitions.py, tables").held_to(text, write),
+    ]
+    if not all(held):
+        return 1
+    print(f"{PAGE} is up to date: {text.splitlines()[0]} The headline's {len(reading.specs)} have {sum(sources.lines[spec] for spec in reading.specs)}.")
+    return 0
 
 
 if __name__ == "__main__":
-    main()
+    sys.exit(main())
