@@ -1,5 +1,7 @@
-//! Containers of two signed statements, as they are and with faults. `pieces` has those that come in pieces.
+//! Containers of two signed statements, as they are and with faults. `decoding` has those that are not checked, `pieces` those that come
+//! in pieces.
 
+mod decoding;
 mod pieces;
 
 use authenticators::{Authenticator, Directory, NodeId, statement_text};

@@ -1,19 +1,21 @@
 -- What passes and histories of an exchange say of the stores that are closed after it.
 use Rattle.std.proofs.Common.{◌≡◌, ◌∙◌, ◌+◌, ◌<◌, ◌==◌, ◌⊎◌, ℕ, zero, suc, Bool, true, false, cond, List, [], ◌∷◌, ◌++◌, ap, arith, drop, filter, get_or, inl, inr, length, map, refl, subst, sym, take}
 use Rattle.std.specs.List.{Contains}
-use Rattle.std.proofs.lemmas.List.Elements.{Contains-append_left, Contains-append_right, Contains-get_or}
+use Rattle.std.proofs.lemmas.List.{append_assoc}
+use Rattle.std.proofs.lemmas.List.Elements.{Contains-append_right, Contains-get_or}
 use Rattle.authenticators.specs.Directory.{Listing}
 use Rattle.replay_verifier.specs.Meaning.{Meaning}
 use Rattle.evidence_set.specs.Exports.{export_of}
-use Rattle.evidence_set.specs.ItemSets.{Has, IsWithin, Items, JoinsAreLeastUpperBounds, SetsAsExpected}
+use Rattle.evidence_set.specs.ItemSets.{Has, IsWithin, Items, JoinsAreLeastUpperBounds, SetsAsExpected, none}
 use Rattle.shared_stores.specs.declared.history.Call.{Call}
 use Rattle.shared_stores.specs.declared.history.Call.TheVariants as call
 use Rattle.shared_stores.specs.declared.history.Given.TheVariants as reply
 use Rattle.shared_stores.specs.declared.history.Recorded.{Recorded}
 use Rattle.shared_stores.specs.Closing.{Agrees}
+use Rattle.shared_stores.specs.HistoryLaws.{OwnCallsAreSeen}
 use Rattle.shared_stores.specs.Histories.{Notes, Replays, after, noted, recorded}
 use Rattle.exchanging.specs.Passes.{Exchanged, others}
-use Rattle.scenario_run.specs.Witnesses.{Exported}
+use Rattle.scenario_run.specs.Witnesses.{Sent}
 
 -- ---- what stands in lists
 
@@ -97,29 +99,42 @@ in_history : (history : List Recorded) (p : Notes) (r : Recorded) → Agrees his
 in_history history p r agrees has = kept_before (λ (r : Recorded). r.caller == p.number) history r (subst (λ (l : List Recorded). Contains l r) (sym agrees) has)
 
 module _ (k : ℕ) (texts : List (List ℕ)) (old new : Notes) (is : Exchanged k texts old new) (history : List Recorded) (agrees : Agrees history new) where
-  abbrev own_text : List ℕ
+  abbrev pub own_text : List ℕ
   own_text = get_or texts k []
 
-  -- its export stands in its history
-  exports : Contains history (recorded old.number call.Export (reply.Bytes own_text))
-  exports =
-      let r = recorded old.number call.Export (reply.Bytes own_text) in
-      let before = Contains-append_right old.calls (r ∷ []) r (at_front r []) in
-      in_history history new r agrees (subst (λ (l : List Recorded). Contains l r) (sym is.merges.growth.calls) (Contains-append_left (old.calls ++ r ∷ []) is.merges.more r before))
+  abbrev pub own_export : Recorded
+  own_export = recorded old.number call.Export (reply.Bytes own_text)
+
+  -- its export stands behind the calls that it had before
+  pub stands : new.calls ≡ old.calls ++ own_export ∷ is.merges.more
+  stands = is.merges.growth.calls ∙ append_assoc old.calls (own_export ∷ []) is.merges.more
 
   -- and a merge of what each other text spells
-  merges : (text : List ℕ) → Contains (others k texts) text → (M : Items) × (export_of M ≡ text) × (r : Recorded) × Contains history r × (r.call ≡ call.Merge M)
+  pub merges : (text : List ℕ) → Contains (others k texts) text → (M : Items) × (export_of M ≡ text) × (r : Recorded) × Contains history r × (r.call ≡ call.Merge M)
   merges text has =
       let (M, here, spells) = comes_of export_of is.sets text (subst (λ (l : List (List ℕ)). Contains l text) (sym is.spelled) has) in
       let (r, there, merge) = comes_of (λ (r : Recorded). r.call) is.merges.more (call.Merge M) (subst (λ (l : List Call). Contains l (call.Merge M)) (sym is.merges.merged) (maps_to call.Merge is.sets M here)) in
       (M, spells, r, in_history history new r agrees (subst (λ (l : List Recorded). Contains l r) (sym is.merges.growth.calls) (Contains-append_right (noted old call.Export (reply.Bytes own_text)).calls is.merges.more r there)), merge)
 
 -- What one exported another has.
-module _ (sets : SetsAsExpected) (joins : JoinsAreLeastUpperBounds) {S : Type 0} (ds : Listing) (program : Meaning S) (texts : List (List ℕ)) (j k : ℕ) (apart : j ≡ k → ⊥) (below : j < length texts) where
-  pub has_other : (old_j new_j old_k new_k : Notes) (history_j history_k : List Recorded) (E F : Items) → Exchanged j texts old_j new_j → Exchanged k texts old_k new_k → Agrees history_j new_j → Agrees history_k new_k → Replays ds program E history_k F
-      → (M : Items) × Exported history_j M × IsWithin M F
-  has_other old_j new_j old_k new_k history_j history_k E F first second agrees_j agrees_k replays =
-      let text = get_or texts j [] in
+module _ {S : Type 0} (sets : SetsAsExpected) (joins : JoinsAreLeastUpperBounds) (seen : OwnCallsAreSeen S) (ds : Listing) (program : Meaning S) (texts : List (List ℕ)) (j k : ℕ) (apart : j ≡ k → ⊥) (below : j < length texts) where
+  pub has_other : (old_j new_j old_k new_k : Notes) (history_j history_k : List Recorded) (D F : Items) → Exchanged j texts old_j new_j → Exchanged k texts old_k new_k → Agrees history_j new_j → Agrees history_k new_k
+      → Replays ds program none history_j D → Replays ds program none history_k F → Sent ds program history_j F
+  has_other old_j new_j old_k new_k history_j history_k D F first second agrees_j agrees_k replays_j replays_k =
+      let text : List ℕ = get_or texts j [] in
       let (M, spells, r, there, merge) = merges k texts old_k new_k second history_k agrees_k text (other_one j k texts [] below apart) in
-      let sent = exports j texts old_j new_j first history_j agrees_j in
-      (M, record { caller = old_j.number; is = subst (λ (t : List ℕ). Contains history_j (recorded old_j.number call.Export (reply.Bytes t))) (sym spells) sent }, merged sets joins ds program history_k E F r M replays there merge)
+      let s = seen ds program none D history_j new_j old_j.calls first.merges.more (own_export j texts old_j new_j first history_j agrees_j) replays_j agrees_j (stands j texts old_j new_j first history_j agrees_j) in
+      record {
+        set = s.at;
+        exported = record {
+          caller = new_j.number;
+          earlier = old_j.calls;
+          export = own_export j texts old_j new_j first history_j agrees_j;
+          is = ap (λ (n : ℕ). recorded n call.Export (reply.Bytes text)) (sym first.merges.growth.number) ∙ ap (λ (t : List ℕ). recorded new_j.number call.Export (reply.Bytes t)) s.answered;
+          seen = s;
+          at = refl;
+        };
+        merged = M;
+        text = spells ∙ s.answered;
+        within = merged sets joins ds program history_k none F r M replays_k there merge;
+      }

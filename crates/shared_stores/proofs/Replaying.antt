@@ -1,6 +1,8 @@
 -- Histories with one call more, in parts, and what later calls see.
-use Rattle.std.proofs.Common.{◌≡◌, ◌+◌, ◌<◌, ℕ, zero, suc, Bool, not, length, get_or, List, [], ◌∷◌, ◌++◌, refl, sym, ap, ◌∙◌, subst, inl, inr, eqb, arith}
+use Rattle.std.proofs.Common.{◌≡◌, ◌+◌, ◌<◌, ℕ, zero, suc, Bool, not, length, get_or, drop, List, [], ◌∷◌, ◌++◌, refl, sym, ap, ◌∙◌, subst, ◌⊎◌, inl, inr, eqb, arith}
 use Rattle.std.specs.List.{Contains, filter}
+use Rattle.std.proofs.lemmas.List.{length-append}
+use Rattle.std.proofs.lemmas.List.Elements.{filter-append}
 use Rattle.authenticators.specs.Directory.{Listing}
 use Rattle.replay_verifier.specs.Meaning.{Meaning}
 use Rattle.item_forms.specs.Pieces.{Piece}
@@ -16,7 +18,7 @@ use Rattle.shared_stores.specs.declared.history.Given.TheVariants as reply
 use Rattle.shared_stores.specs.declared.history.Recorded.{Recorded}
 use Rattle.shared_stores.specs.Histories.{IsAllowed, IsReply, Replays, after, recorded}
 use Rattle.shared_stores.specs.within.Journals.{Journal, stepped}
-use Rattle.shared_stores.specs.HistoryLaws.{HistoriesAsExpected, IsShown, OwnCallsAreSeen}
+use Rattle.shared_stores.specs.HistoryLaws.{HistoriesAsExpected, IsShown, OwnCallsAreSeen, OwnSetsGrow, SeenBefore}
 use Rattle.shared_stores.proofs.Filtering.{WholeCut, filter_from, filter_whole}
 
 -- ---- one call more
@@ -131,6 +133,37 @@ own_calls h ds program E F history p earlier rest later legal agrees is =
           let in_history : Contains c.0 r = filter_from own c.0 r kept in
           shown_by h ds program E parts.0 c.0 in_history.0 r parts.1 in_history.1 in_history.2;
     }
+
+heads : {X : Type 0} {x y : X} {xs ys : List X} → x ∷ xs ≡ y ∷ ys → x ≡ y
+heads {x = x} e = ap (λ l. get_or l 0 x) e
+
+tails : {X : Type 0} {x y : X} {xs ys : List X} → x ∷ xs ≡ y ∷ ys → xs ≡ ys
+tails e = ap (λ l. drop 1 l) e
+
+-- Of two cuts of one list, the one lies behind the other's element, or at or before it.
+behind_or_not : {X : Type 0} (a b rest others : List X) (x y : X) → a ++ x ∷ rest ≡ b ++ y ∷ others → ((mid : List X) × (b ≡ a ++ x ∷ mid)) ⊎ ((mid : List X) × (a ≡ b ++ mid))
+behind_or_not [] [] rest others x y e = inr ([], refl)
+behind_or_not [] (z ∷ b) rest others x y e = inl (b, ap (λ h. h ∷ b) (sym (heads e)))
+behind_or_not (z ∷ a) [] rest others x y e = inr (z ∷ a, refl)
+behind_or_not (z ∷ a) (w ∷ b) rest others x y e = elim (behind_or_not a b rest others x y (tails e)) [
+  | inl p ↦ inl (p.0, ap (λ h. h ∷ b) (sym (heads e)) ∙ ap (λ l. z ∷ l) p.1)
+  | inr p ↦ inr (p.0, ap (λ h. h ∷ a) (heads e) ∙ ap (λ l. w ∷ l) p.1)
+]
+
+pub own_grow : {S : Type 0} → HistoriesAsExpected S → OwnSetsGrow S
+own_grow h ds program E history caller earlier between first later one two =
+    elim (behind_or_not one.before two.before one.rest two.rest first later (sym one.cut ∙ two.cut)) [
+      | inl p ↦
+          let parts = h.parts ds program E two.at one.before (first ∷ p.0) (subst (λ l. Replays ds program E l two.at) p.1 two.led) in
+          let same : parts.0 ≡ one.at = h.one_end ds program E parts.0 one.at one.before parts.1 one.led in
+          λ x has. all_grows h ds program (after parts.0 first.call) two.at p.0 parts.2.2 x (subst (λ A. Has (after A first.call) x) (sym same) has)
+      | inr p ↦
+          let own : Recorded → Bool = λ c. eqb c.caller caller in
+          let kept : earlier ≡ (earlier ++ first ∷ between) ++ filter own p.0 = sym one.own ∙ ap (filter own) p.1 ∙ filter-append own two.before p.0 ∙ ap (λ l. l ++ filter own p.0) two.own in
+          let long = ap length kept ∙ length-append (earlier ++ first ∷ between) (filter own p.0) in
+          let more = length-append earlier (first ∷ between) in
+          absurd (omega (arith, long, more))
+    ]
 
 -- A store that a call changed as one thread does, with the call at the end of the history.
 pub kept_step : {S : Type 0} (program : Meaning S) (E : Items) (old new : Contents) (h room pushed : List Recorded) (r : Recorded) (caller : ℕ) (c : Call) (g : Given) → Replays old.directory program E h old.items

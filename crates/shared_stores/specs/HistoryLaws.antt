@@ -50,6 +50,14 @@ OwnCallsAreSeen S =
     → Replays ds program E history F → Agrees history p → p.calls ≡ earlier ++ later ∷ rest
     → SeenBefore ds program E history p.number earlier later
 
+-- Of two calls of one caller, the earlier one and what it put in are within the set that the later one is answered at. So the later of
+-- two questions is answered by a set that has all that the earlier one was answered by.
+abbrev pub OwnSetsGrow : Type 0 → Type 0
+OwnSetsGrow S =
+    (ds : Listing) (program : Meaning S) (E : Items) (history : List Recorded) (caller : ℕ) (earlier between : List Recorded) (first later : Recorded)
+    → (one : SeenBefore ds program E history caller earlier first) → (two : SeenBefore ds program E history caller (earlier ++ first ∷ between) later)
+    → IsWithin (after one.at first.call) two.at
+
 -- Passes that are handed out agree with a history without calls. Where passes and history agree, the calls of the passes are the
 -- history's, each under its pass's number, and as many.
 pub record PassesShareHistories : Type 0 where

@@ -1,6 +1,6 @@
 //! Laws over the definitions. Each is a function that does nothing: its contract is the law.
 
-ghost use Rattle.shared_stores.specs.HistoryLaws.{HistoriesAsExpected, OwnCallsAreSeen, PassesShareHistories};
+ghost use Rattle.shared_stores.specs.HistoryLaws.{HistoriesAsExpected, OwnCallsAreSeen, OwnSetsGrow, PassesShareHistories};
 
 use evidence_set::laws::{indications_are_one, joins_are_least_upper_bounds, sets_are_as_expected};
 
@@ -16,6 +16,14 @@ pub fn histories_are_as_expected<S>()
 /// Each reply to a caller is given at one set, which has all that the caller's own earlier calls put in or were shown.
 pub fn own_calls_are_seen<S>()
     ensures { OwnCallsAreSeen S }
+{
+    histories_are_as_expected::<S>();
+}
+
+/// The set that a caller's call is answered at, and what the call put in, are within the set that each later call of its own is answered
+/// at.
+pub fn own_sets_grow<S>()
+    ensures { OwnSetsGrow S }
 {
     histories_are_as_expected::<S>();
 }

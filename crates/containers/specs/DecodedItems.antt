@@ -1,0 +1,25 @@
+-- The items of a container as they are read where none is checked: each in its place.
+use Rattle.std.specs.Prelude.{ℕ, ◌≡◌, List, Result, Ok, None}
+use Rattle.std.specs.List.{All}
+use Rattle.outcome.specs.Outcome.{◌>>=◌, told_as}
+use Rattle.authenticators.specs.Directory.{Listing}
+use Rattle.item_forms.specs.declared.forms.Fields.{Fields}
+use Rattle.item_forms.specs.Reading.{item_of}
+use Rattle.evidence_item.specs.Validity.{fault_of}
+use Rattle.containers.specs.declared.fault.Cause.{Cause}
+use Rattle.containers.specs.declared.fault.Cause.TheVariants as cause
+use Rattle.containers.specs.CheckedItems.{checked_of, is_before}
+use Rattle.containers.specs.Container.{import_of, refused_unless}
+use Rattle.containers.specs.Refusals.{of_reading}
+
+-- The item of a text that follows the text of the item before it: it is read, then its place is tested.
+unfoldable pub decoded_of : List ℕ → List ℕ → Result Fields Cause
+decoded_of last text = do
+  item ← told_as of_reading (item_of text)
+  _ ← refused_unless cause.NotAscending (is_before last text)
+  Ok item
+
+-- What is checked is decoded as the same items; and items that are decoded, and are valid each, are what is checked.
+pub record CheckedAreDecoded : Type 0 where
+  pub decoded : (ds : Listing) (magic bytes : List ℕ) (items : List Fields) → import_of magic (checked_of ds) bytes ≡ Ok items → import_of magic decoded_of bytes ≡ Ok items
+  pub valid : (ds : Listing) (magic bytes : List ℕ) (items : List Fields) → import_of magic decoded_of bytes ≡ Ok items → All (λ x. fault_of ds x ≡ None) items → import_of magic (checked_of ds) bytes ≡ Ok items
