@@ -2,8 +2,8 @@
 """Counts the words that were written by hand on each page, and ends with status 1 where a page has more than its budget, has none, or does
 not begin with who reads it and how long that takes.
 
-A word is what stands between blanks and has a letter or a digit; code counts like text. What a script makes does not count: it stands
-between `<!-- made by NAME -->` and `<!-- end -->`. The scripts that make such parts take `Part` from here: each compares what stands on
+A word is what stands between blanks and has a letter or a digit. Blocks of code do not count: commands with what they write, formats and
+programs. Nor does what a script makes: it stands between `<!-- made by NAME -->` and `<!-- end -->`. The scripts that make such parts take `Part` from here: each compares what stands on
 the page with what the sources give, and with the word `write` writes it anew.
 """
 
@@ -13,7 +13,8 @@ from pathlib import Path
 
 TOP = Path(__file__).resolve().parent.parent
 
-# Pages, and the words that they have together at most.
+# Pages, and the words that they have together at most; each other page has OTHER.
+OTHER = 900
 BUDGETS = [
     (1000, ["README.md"]),
     (400, ["docs/README.md"]),
@@ -27,6 +28,7 @@ BUDGETS = [
 ]
 
 MADE = re.compile(r"<!-- made by [^>]*-->\n.*?<!-- end -->\n", re.S)
+CODE = re.compile(r"^```.*?^```$|^    [^\n]*$", re.M | re.S)
 TIME = re.compile(r"^_.*\b(minutes?|hours?|evening)\b.*_$", re.M)
 
 
@@ -54,7 +56,7 @@ class Part:
 
 def words_of(text):
     """How many words were written by hand."""
-    return sum(any(letter.isalnum() for letter in word) for word in MADE.sub("", text).split())
+    return sum(any(letter.isalnum() for letter in word) for word in CODE.sub("", MADE.sub("", text)).split())
 
 
 def faults_of(budget, pages):
@@ -74,14 +76,14 @@ def faults_of(budget, pages):
 
 
 def main():
-    faults = [fault for budget, pages in BUDGETS for fault in faults_of(budget, pages)]
     known = {page for _, pages in BUDGETS for page in pages}
-    pages = [path.relative_to(TOP).as_posix() for path in (*TOP.glob("*.md"), *TOP.glob("docs/*.md"))]
-    faults += [f"{page}: has no budget" for page in sorted(pages) if page not in known]
+    pages = sorted(path.relative_to(TOP).as_posix() for path in (*TOP.glob("*.md"), *TOP.glob("docs/*.md")))
+    budgets = BUDGETS + [(OTHER, [page]) for page in pages if page not in known]
+    faults = [fault for budget, pages in budgets for fault in faults_of(budget, pages)]
     print(*faults, sep="\n", end="\n" if faults else "")
     if not faults:
-        total = sum(words_of((TOP / page).read_text(encoding="utf-8")) for page in sorted(known))
-        print(f"{len(known)} pages have {total} words by hand, of {sum(budget for budget, _ in BUDGETS)} at most")
+        total = sum(words_of((TOP / page).read_text(encoding="utf-8")) for _, pages in budgets for page in pages)
+        print(f"{sum(len(pages) for _, pages in budgets)} pages have {total} words by hand, of {sum(budget for budget, _ in budgets)} at most")
     return 1 if faults else 0
 
 
