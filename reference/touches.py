@@ -4,7 +4,7 @@ KIND one of item-form, container, command, refusal, program; alone it holds the 
 word `write` it writes the table anew.
 
 A file is found by the names that stand in it, comments aside: that of an item form or of a command where most of their siblings stand
-(it tells them apart), that of the others where the example itself does. Tests are left out in the counts and stand in the lists.
+(it tells them apart), that of the others where the example itself does. Tests and proofs stand in the lists and are not counted.
 """
 
 import re
@@ -59,13 +59,11 @@ def beside(walk):
 
 
 def table(crates):
-    lines = ["| `touches.py` | counted by | `src/` and `specs/` | of crates | `proofs/` | crates of tests |", "|---|---|---|---|---|---|"]
+    lines = ["| `touches.py` | counted by | files of `src/` and `specs/` | of crates |", "|---|---|---|---|"]
     for kind, walk in WALKS.items():
-        found = files_of(walk, crates)
-        tests = [name for name in found if crates[name].layer == layers.TESTS]
-        files = [(name, path.relative_to(CRATES / name).parts[0]) for name in found if name not in tests for path in found[name]]
-        code = [name for name, part in files if part != "proofs"]
-        lines.append(f"| `{kind}` | {walk.example} | {len(code)} | {len(set(code))} | {len(files) - len(code)} | {len(tests)} |")
+        found = {name: files for name, files in files_of(walk, crates).items() if crates[name].layer != layers.TESTS}
+        code = [name for name, files in found.items() for path in files if path.relative_to(CRATES / name).parts[0] != "proofs"]
+        lines.append(f"| `{kind}` | {walk.example} | {len(code)} | {len(set(code))} |")
     return "\n".join(lines) + "\n"
 
 
