@@ -15,7 +15,7 @@
 pub use evidence::Evidence;
 pub use fault::{AskFault, NewStoreRefused, TakeRefused, UnknownNode};
 pub use importer::Importer;
-pub use set_text::MAGIC;
+pub use set_text::{MAGIC, magic_of};
 
 mod adding;
 mod evidence;

@@ -25,8 +25,8 @@ pub const MAGIC: [u8; 8] = *b"PRSTORE2";
 /// Those by which it was known before a node had more than one key.
 const OLD_MAGIC: [u8; 8] = *b"PRSTORE1";
 
-/// Those by which the text is read.
-pub(crate) fn magic_of(bytes: &[u8]) -> [u8; 8]
+/// Those by which the text of a set is read: the ones of before where it begins with them. It takes no memory.
+pub fn magic_of(bytes: &[u8]) -> [u8; 8]
     ensures { result ≡ magic_of bytes.now }
 {
     if bytes.starts_with(&OLD_MAGIC) {
