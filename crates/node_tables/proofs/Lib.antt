@@ -19,6 +19,7 @@ pub mod Reserved
 pub mod RowLists
 pub mod Searching
 pub mod Segmented
+pub mod Sendings
 pub mod Spans
 pub mod Stated
 pub mod Stepping

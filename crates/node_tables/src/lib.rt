@@ -36,6 +36,7 @@ mod releasing;
 mod reserving;
 mod row;
 mod segments;
+mod sending;
 mod span;
 mod table;
 mod tables;
