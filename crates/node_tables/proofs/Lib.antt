@@ -15,6 +15,7 @@ pub mod OneMore
 pub mod Opened
 pub mod Places
 pub mod Positioned
+pub mod Receipts
 pub mod Reserved
 pub mod RowLists
 pub mod Searching

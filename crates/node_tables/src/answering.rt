@@ -31,15 +31,6 @@ fn answers_at<P>(items: &[KeptItem<P>], challenge: u32, answer: u32) -> bool
     }
 }
 
-/// Takes away the challenges that the item at a place answers.
-pub(crate) fn close<P>(items: &[KeptItem<P>], unanswered: &mut Vec<u32>, answer: u32)
-    ensures items { unanswered.new.items ≡ filter (λ i. not (answers_at items.now i answer)) unanswered.old.items }
-    ensures len { vec_len unanswered.new ≤ vec_len unanswered.old }
-    ensures capacity { vec_capacity unanswered.new ≡ vec_capacity unanswered.old }
-{
-    unanswered.retain(|challenge| !answers_at(items, *challenge, answer));
-}
-
 /// The sender, the receiver and the number of the message that the item acknowledges, where it acknowledges one.
 fn acknowledged<P>(kept: &KeptItem<P>) -> Option<Sending>
     ensures { result ≡ acknowledged kept.now.item.fields }

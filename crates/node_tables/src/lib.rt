@@ -26,6 +26,7 @@ pub use tables::place_of;
 
 mod answering;
 mod bodies;
+mod closing;
 mod edge;
 mod exposure;
 mod finding;

@@ -1,5 +1,5 @@
 -- Where an item stands beside the send challenges of one sender, receiver and number.
-use Rattle.std.specs.Prelude.{ℕ, Bool, Option, Some, None}
+use Rattle.std.specs.Prelude.{ℕ, zero, suc, Bool, false, ◌||◌, Option, Some, None}
 use Rattle.std.specs.Ordering.{is_eq, is_le, is_lt, nat_cmp, ordering_then}
 use Rattle.std.specs.declared.cmp.Ordering.TheVariants.{Greater}
 use Rattle.std.specs.declared.cmp.Ordering.{Ordering}
@@ -7,7 +7,11 @@ use Rattle.commitment.specs.declared.message.Message.{Message}
 use Rattle.item_forms.specs.Spelling.{tag_of}
 use Rattle.item_forms.specs.declared.forms.Fields.TheVariants as form
 use Rattle.item_forms.specs.declared.forms.Fields.{Fields}
+use Rattle.authenticators.specs.declared.authenticator.Authenticator.{Authenticator}
+use Rattle.evidence_item.specs.declared.findings.Findings.{Findings}
 use Rattle.evidence_item.specs.Checking.{Checked}
+use Rattle.evidence_set.specs.Challenges.{answers_audit}
+use Rattle.kept_items.specs.Positions.{stated_in}
 use Rattle.node_tables.specs.declared.sending.Sending.{Sending}
 
 abbrev pub message_cmp : Sending → Message → Ordering
@@ -44,3 +48,30 @@ acknowledged (form.Ack a) = Some (record { from = a.message.from; to = a.message
 abbrev pub acknowledged_by : Option Checked → Option Sending
 acknowledged_by None = None
 acknowledged_by (Some c) = acknowledged c.item.fields
+
+-- The message that a statement in a log of node j is of.
+abbrev pub received : ℕ → Option Authenticator → Option Sending
+received j None = None
+received j (Some a) = Some (record { from = a.node; to = j; seq = a.seq })
+
+abbrev pub is_among : Option Sending → Option Checked → Bool
+is_among None o = false
+is_among (Some s) o = is_at s o
+
+-- The item challenges to acknowledge a message that one of the first n entries of a segment of node j quotes.
+abbrev pub is_received : ℕ → Fields → Option Findings → ℕ → Option Checked → Bool
+is_received j x f zero o = false
+is_received j x f (suc n) o = is_received j x f n o || is_among (received j (stated_in x f (suc n))) o
+
+-- The item is an audit challenge, and the other one answers it.
+abbrev pub told_audit : Fields → Fields → Bool
+told_audit (form.Auth a) y = false
+told_audit (form.Segment s) y = false
+told_audit (form.Audit c) y = answers_audit c y
+told_audit (form.Send m) y = false
+told_audit (form.Ack a) y = false
+
+abbrev pub audited_by : Option Checked → Option Checked → Bool
+audited_by None d = false
+audited_by (Some c) None = false
+audited_by (Some c) (Some d) = told_audit c.item.fields d.item.fields
