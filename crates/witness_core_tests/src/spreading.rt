@@ -146,7 +146,7 @@ fn spread<S: Evidence<Tally>>(
 }
 
 /// The text of the five items, by `reference/transfers.py`.
-pub(crate) const ALL: &str = "04b9bd37539f3f981b2739e6999f0101c63e9b7f927c3f878a3e50896e70b626";
+pub(crate) const ALL: &str = "8af19b1037cb92115a60db6dc921667c3dfd040908060122c1c5eb1d40f0cc86";
 
 /// Whether all four texts are that of the five items.
 fn is_all(alloc: Global, exports: &Exports) -> Result<bool, Fail> {
