@@ -94,8 +94,13 @@ impl World {
 
     fn audit(&mut self, alloc: Global) -> Result<Box<Item>, Fail> {
         let hash = hash_in_log(alloc, &self.message, 3)?;
-        let sig = self.two.authenticator(alloc, 3, hash, 9)?.sig;
-        let item = Item::audit(NodeId(2), None, Statement { seq: 3, hash, sig })?;
+        let last = self.two.authenticator(alloc, 3, hash, 9)?;
+        let last = Statement {
+            seq: last.seq,
+            hash: last.hash,
+            sig: last.sig,
+        };
+        let item = Item::audit(NodeId(2), None, last)?;
         Ok(Box::new(alloc, item)?)
     }
 
