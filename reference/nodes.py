@@ -14,7 +14,7 @@ import sys
 HEIGHT = 5
 LEAVES = 1 << HEIGHT
 # of a typecode of LM-OTS: the width of a digit in bits, the number of chains, the shift of the checksum
-OTS = {3: (4, 67, 4), 4: (8, 34, 0)}
+OTS = {1: (1, 265, 7), 3: (4, 67, 4), 4: (8, 34, 0)}
 
 
 def sha256(*texts):

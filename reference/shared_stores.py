@@ -23,7 +23,7 @@ def statement(key, byte):
 
 
 def main():
-    key = Key(1, 3)
+    key = Key(1, 1)
     told = sha256(container(b"PRSTORE2", [statement(key, byte) for byte in (1, 2)])).hex()
     with open(TESTS, encoding="utf-8") as file:
         found = told in file.read()

@@ -20,14 +20,15 @@ def text(content):
 
 
 class Keys:
-    """The keys of the nodes 1 and 2 (H5, W4), two of each, and what they sign by those with the present number."""
+    """The keys of the nodes 1 and 2 (H5, W4 or another type of LM-OTS), two of each, and what they sign by those with the present
+    number."""
 
-    def __init__(self):
-        self.number, self.keys = 0, {}
+    def __init__(self, ots_type=3):
+        self.ots_type, self.number, self.keys = ots_type, 0, {}
 
     def key(self, node, number):
         if (node, number) not in self.keys:
-            self.keys[node, number] = Key(node, 3, number)
+            self.keys[node, number] = Key(node, self.ots_type, number)
         return self.keys[node, number]
 
     def sign(self, node, seq, digest, c=9):

@@ -56,8 +56,8 @@ def short_summary(items, told):
 def taken():
     """A directory of the nodes 1 and 2, and the five items that witnesses take in the tests of witness_core, signed in their order: two
     statements of node 1 on entry 5 that differ in their signatures alone, and one that has another hash; node 2's log from its third
-    entry on, and its statement that the fourth has another hash."""
-    keys = Keys()
+    entry on, and its statement that the fourth has another hash. The keys are of W1."""
+    keys = Keys(1)
     listed = b"".join(u32(node) + u8(1) + keys.key(node, 0).public() for node in (1, 2))
     seven, eight = bytes([7]) * 32, bytes([8]) * 32
     items = [

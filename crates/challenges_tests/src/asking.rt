@@ -4,10 +4,10 @@ ghost use Rattle.std.specs.Prelude.{IfOk};
 ghost use Rattle.evidence_item.specs.Checking.{IsChecked};
 ghost use Rattle.ref_programs.specs.TallyMeaning.{tally};
 
-use crate::samples::Signer;
 use challenges::{Answer, answer, audit_challenge};
 use commitment::Node;
 use evidence_item::{Checked, check_item};
+use evidence_samples::Signer;
 use item_forms::{Form, Item};
 use log_chain::{Hash, chain_end};
 use ref_programs::Tally;
@@ -79,9 +79,9 @@ pub(crate) fn audit(
 ) -> Result<Item, Fail> {
     let first = match first {
         None => None,
-        Some((seq, hash)) => Some(two.statement(alloc, seq, hash)?),
+        Some((seq, hash)) => Some(two.authenticator(alloc, seq, hash, 9)?),
     };
     let (seq, hash) = last;
-    let last = two.statement(alloc, seq, hash)?;
+    let last = two.authenticator(alloc, seq, hash, 9)?;
     Ok(audit_challenge(first, last)?)
 }

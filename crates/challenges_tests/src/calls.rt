@@ -2,10 +2,11 @@
 
 use crate::asking::{Part, answered, audit, checked, part_of, refusal};
 use crate::log_hashes::{BASE, FOURTH, SECOND, SIXTH};
-use crate::samples::{ADDS_ONE, Nodes, Signer, ZEROS, make_nodes, node_with_log, receive_up_to};
+use crate::node_two::{ADDS_ONE, node_with_log, receive_up_to};
 use authenticators::{Authenticator, NodeId};
 use challenges::{AnswerFault, ChallengeFault, audit_challenge, send_challenge};
 use commitment::Node;
+use evidence_samples::{Nodes, Signer, ZEROS, make_nodes};
 use item_forms::{Form, Item};
 use log_chain::{ByteString, Hash};
 use ref_programs::Tally;
@@ -39,14 +40,9 @@ fn audit_refusal(
     refusal(alloc, node, item)
 }
 
-/// The refusal of a message to node 2, or to another node.
-fn message_refusal(
-    alloc: Global,
-    node: &mut Node<Tally>,
-    signer: &mut Signer,
-    to: u32,
-) -> Result<u8, Fail> {
-    let message = signer.message(alloc, to, 21, b"X")?;
+/// The refusal of a message of the signer to the other node.
+fn message_refusal(alloc: Global, node: &mut Node<Tally>, signer: &mut Signer) -> Result<u8, Fail> {
+    let message = signer.message(alloc, 21, b"X", 9)?;
     refusal(alloc, node, send_challenge(Box::into_inner(message))?)
 }
 
@@ -56,8 +52,8 @@ fn statement_refusal(
     node: &mut Node<Tally>,
     signer: &mut Signer,
 ) -> Result<u8, Fail> {
-    let statement = signer.statement(alloc, 6, SIXTH)?;
-    refusal(alloc, node, Item::auth(statement)?)
+    let statement = signer.statement(alloc, 6, SIXTH, 9)?;
+    refusal(alloc, node, Box::into_inner(statement))
 }
 
 /// The place in the receiver's log that an acknowledged message has: the number of the RECV entry, and the hash before it.
@@ -104,7 +100,7 @@ fn told_twice(alloc: Global, node: &mut Node<Tally>, item: Box<Item>) -> Result<
 
 /// What answers a message that adds one.
 fn acknowledged(alloc: Global, node: &mut Node<Tally>, one: &mut Signer) -> Result<Told, Fail> {
-    let message = one.message(alloc, 2, 4, &ADDS_ONE)?;
+    let message = one.message(alloc, 4, &ADDS_ONE, 9)?;
     let item = send_challenge(Box::into_inner(message))?;
     told_twice(alloc, node, Box::new(alloc, item)?)
 }
@@ -180,10 +176,10 @@ fn refused_by(
             let first = Some((2, SECOND));
             audit_refusal(alloc, node, &mut nodes.two, first, (seq, hash))
         }
-        Refused::MessageToAnother => message_refusal(alloc, node, &mut nodes.two, 1),
+        Refused::MessageToAnother => message_refusal(alloc, node, &mut nodes.two),
         Refused::MessageWhenSpent => {
             receive_up_to(alloc, &mut nodes.one, node, 21)?;
-            message_refusal(alloc, node, &mut nodes.one, 2)
+            message_refusal(alloc, node, &mut nodes.one)
         }
         Refused::Statement => statement_refusal(alloc, node, &mut nodes.one),
     }

@@ -2,11 +2,10 @@
 
 use crate::asking::{Part, answered, audit, part_of, refusal};
 use crate::log_hashes::{BASE, FIFTH, SECOND};
-use crate::samples::{ADDS_ONE, Nodes, list_next_key, make_nodes, node_with_log, receive_up_to};
-use authenticators::NodeId;
+use crate::node_two::{ADDS_ONE, list_next_key, node_with_log, receive_up_to};
 use challenges::send_challenge;
 use commitment::{Message, Node};
-use evidence_item::check_item;
+use evidence_samples::{Nodes, make_nodes};
 use evidence_set::Indication;
 use evidence_store::{Evidence, IndexedStore, PlainStore};
 use item_forms::{Form, Item};
@@ -14,21 +13,7 @@ use lms_sign::SecretKey;
 use ref_programs::Tally;
 use std::alloc::Global;
 use std::test::Fail;
-
-/// What a store says of both nodes, and how many challenges to node 2 it has that are not answered.
-#[derive(Clone, Copy, Debug, PartialEq, Eq)]
-struct Said {
-    one: Indication,
-    two: Indication,
-    open: usize,
-}
-
-/// Takes the item, which is valid.
-fn take<S: Evidence<Tally>>(alloc: Global, store: &mut S, item: Box<Item>) -> Result<(), Fail> {
-    let checked = check_item(alloc, &Tally, store.directory(), Box::into_inner(item))?;
-    store.take(checked)?;
-    Ok(())
-}
+use store_samples::{Said, new_store, said_by, take};
 
 /// What a store says that has the challenge and its answer alone, under the node's directory.
 fn said_of<S: Evidence<Tally>>(
@@ -37,15 +22,10 @@ fn said_of<S: Evidence<Tally>>(
     challenge: Box<Item>,
     answer: Box<Item>,
 ) -> Result<Said, Fail> {
-    let store = S::new(alloc, node.directory().try_clone()?)?;
-    let mut store = Box::new(alloc, store)?;
+    let mut store: Box<S> = new_store(alloc, node.directory())?;
     take::<S>(alloc, &mut store, challenge)?;
     take::<S>(alloc, &mut store, answer)?;
-    Ok(Said {
-        one: store.indication(NodeId(1))?,
-        two: store.indication(NodeId(2))?,
-        open: store.open_challenges(NodeId(2))?.len(),
-    })
+    said_by::<S>(&store)
 }
 
 /// How many entries the node's log has, how many statements it signed, and how many more it can sign by its key.
@@ -161,8 +141,8 @@ fn heard_of_second<S: Evidence<Tally>>(
 fn heard_of_two<S: Evidence<Tally>>(alloc: Global) -> Result<Heard, Fail> {
     let mut nodes = make_nodes(alloc)?;
     let mut node = node_with_log(alloc, &nodes)?;
-    let first = nodes.one.message(alloc, 2, 4, b"X")?;
-    let second = nodes.one.message(alloc, 2, 4, b"Y")?;
+    let first = nodes.one.message(alloc, 4, b"X", 9)?;
+    let second = nodes.one.message(alloc, 4, b"Y", 9)?;
     node.receive(&first, [0; 32])?;
     heard_of_second::<S>(alloc, &mut node, &first, second)
 }
@@ -255,7 +235,7 @@ fn asked_twice<S: Evidence<Tally>>(
 /// The node uses 31 of the 32 leaves of its key: a message that it does not answer takes one.
 fn use_31_leaves(alloc: Global, nodes: &mut Nodes, node: &mut Node<Tally>) -> Result<(), Fail> {
     receive_up_to(alloc, &mut nodes.one, node, 20)?;
-    let message = nodes.one.message(alloc, 2, 20, b"X")?;
+    let message = nodes.one.message(alloc, 20, b"X", 9)?;
     node.receive(&message, [0; 32])?;
     Ok(())
 }
@@ -265,7 +245,7 @@ fn asked_around_next_key<S: Evidence<Tally>>(alloc: Global) -> Result<Rekeyed, F
     let key = list_next_key(alloc, &mut nodes)?;
     let mut node = node_with_log(alloc, &nodes)?;
     use_31_leaves(alloc, &mut nodes, &mut node)?;
-    let message = nodes.one.message(alloc, 2, 21, &ADDS_ONE)?;
+    let message = nodes.one.message(alloc, 21, &ADDS_ONE, 9)?;
     let challenge = send_challenge(Box::into_inner(message))?;
     asked_twice::<S>(alloc, &mut node, key, Box::new(alloc, challenge)?)
 }

@@ -10,4 +10,4 @@ mod closing;
 #[cfg(test)]
 mod log_hashes;
 #[cfg(test)]
-mod samples;
+mod node_two;

@@ -1,14 +1,18 @@
 //! Checking: each fault, and a valid item of each form, under the directory of the nodes 1 and 2.
 
-use crate::samples::{
-    Idle, Nodes, ZEROS, make_nodes, no_bytes, valid_ack, valid_audit, valid_auth, valid_send,
-};
+use crate::idle::Idle;
+use crate::valid_items::{valid_ack, valid_auth, valid_send};
 use authenticators::{Authenticator, Directory, NodeId};
 use commitment::Message;
 use evidence_item::{Item, ItemFault, Statement, check_item};
-use log_chain::{Entry, Hash, base_hash, kind};
+use evidence_samples::{Nodes, ZEROS, entry, make_nodes};
+use log_chain::{ByteString, Hash, base_hash, kind};
 use std::alloc::Global;
 use std::test::Fail;
+
+fn no_bytes(alloc: Global) -> ByteString {
+    ByteString::from_vec(Vec::new(alloc))
+}
 
 /// Why the item is refused, if it is.
 fn fault_in(alloc: Global, directory: &Directory, item: Item) -> Option<ItemFault> {
@@ -56,11 +60,7 @@ fn segment_fault(
 ) -> Result<Option<ItemFault>, Fail> {
     let mut entries = Vec::new(alloc);
     for kind in kinds {
-        entries.push(Entry {
-            seq: 1,
-            kind: *kind,
-            content: no_bytes(alloc),
-        })?;
+        entries.push(entry(alloc, 1, *kind, &[])?)?;
     }
     let item = Item::segment(NodeId(1), prev, entries, no_bytes(alloc))?;
     Ok(fault_in(alloc, directory, item))
@@ -152,7 +152,7 @@ fn an_audit_challenge_has_a_range(rt: HostRuntime) -> Result<(), Fail> {
 fn faults_of_signed(alloc: Global, nodes: &mut Nodes) -> Result<[Option<ItemFault>; 4], Fail> {
     let item = valid_auth(alloc, nodes)?;
     let of_auth = fault_in(alloc, &nodes.directory, Box::into_inner(item));
-    let item = valid_audit(alloc, nodes)?;
+    let item = nodes.one.audit(alloc, Some(5))?;
     let of_audit = fault_in(alloc, &nodes.directory, Box::into_inner(item));
     let item = valid_send(alloc, nodes)?;
     let of_send = fault_in(alloc, &nodes.directory, Box::into_inner(item));

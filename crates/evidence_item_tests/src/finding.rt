@@ -4,21 +4,21 @@ ghost use Rattle.std.specs.Prelude.{IfOk};
 ghost use Rattle.evidence_item.specs.Checking.{IsChecked};
 ghost use Rattle.evidence_item_tests.specs.Idling.{idling};
 
-use crate::samples::{
-    Idle, Nodes, make_nodes, segment_of, unsigned_message, valid_ack, valid_auth, valid_send,
-};
+use crate::idle::Idle;
+use crate::valid_items::{valid_ack, valid_auth, valid_segment, valid_send};
 use authenticators::Directory;
 use evidence_item::{Checked, Findings, Form, Item, check_item};
+use evidence_samples::{Nodes, make_nodes};
 use log_chain::Hash;
 use replay_verifier::{Reason, Verdict};
 use std::alloc::Global;
 use std::test::Fail;
 
-/// The hash of the SEND entry of node 1's message.
-fn sent_hash(alloc: Global) -> Result<Hash, Fail> {
-    let message = unsigned_message(alloc)?;
-    Ok(message.signed_hash())
-}
+/// The hash of the SEND entry of node 1's message, as a program in Python over its `hashlib` has it.
+const SENT: Hash = Hash([
+    0x9b, 0x5f, 0xeb, 0x1b, 0x21, 0xf1, 0x93, 0xfc, 0xfe, 0x97, 0x93, 0x17, 0x15, 0xe3, 0x18, 0x0d,
+    0xd7, 0xcc, 0x4d, 0x0e, 0x02, 0x48, 0x46, 0x75, 0xdd, 0xec, 0x39, 0x91, 0x41, 0x9b, 0x3c, 0x91,
+]);
 
 /// What checking told of a segment: the verdict, how many hashes, and what three entries quote genuinely.
 #[derive(Clone, Copy, Debug, PartialEq, Eq)]
@@ -43,17 +43,14 @@ fn told_of(checked: &Checked<Idle>) -> Option<Told> {
 }
 
 /// What is to be told of node 2's segment.
-fn expected(alloc: Global) -> Result<Told, Fail> {
-    let verdict = Verdict::Deviates {
+const EXPECTED: Told = Told {
+    verdict: Some(Verdict::Deviates {
         at: 1,
         reason: Reason::BadReceipt,
-    };
-    Ok(Told {
-        verdict: Some(verdict),
-        hashes: 3,
-        quotes: [None, None, Some(sent_hash(alloc)?)],
-    })
-}
+    }),
+    hashes: 3,
+    quotes: [None, None, Some(SENT)],
+};
 
 /// The item, which is valid.
 fn checked(
@@ -89,22 +86,21 @@ fn told_of_copy(alloc: Global, checked: &Checked<Idle>) -> Result<Option<Told>, 
 
 /// What checking tells of node 2's segment, and what a copy tells.
 fn told_twice(alloc: Global, nodes: &mut Nodes) -> Result<[Option<Told>; 2], Fail> {
-    let item = segment_of(alloc, nodes)?;
+    let item = valid_segment(alloc, nodes)?;
     let checked = checked(alloc, &nodes.directory, item)?;
     Ok([told_of(&checked), told_of_copy(alloc, &checked)?])
 }
 
 #[test]
 fn a_segment_that_deviates_is_valid(rt: HostRuntime) -> Result<(), Fail> {
-    let expected = expected(rt.alloc())?;
     let mut nodes = make_nodes(rt.alloc())?;
-    assert_eq!(rt; told_twice(rt.alloc(), &mut nodes)?, [Some(expected); 2]);
+    assert_eq!(rt; told_twice(rt.alloc(), &mut nodes)?, [Some(EXPECTED); 2]);
     Ok(())
 }
 
 /// What is found again, where only item and verdict are left.
 fn found_again(alloc: Global, nodes: &mut Nodes) -> Result<Option<Told>, Fail> {
-    let item = segment_of(alloc, nodes)?;
+    let item = valid_segment(alloc, nodes)?;
     let checked = checked(alloc, &nodes.directory, item)?;
     let found = completed(alloc, &nodes.directory, checked)?;
     Ok(told_of(&found))
@@ -112,9 +108,8 @@ fn found_again(alloc: Global, nodes: &mut Nodes) -> Result<Option<Told>, Fail> {
 
 #[test]
 fn what_is_missing_is_found_again(rt: HostRuntime) -> Result<(), Fail> {
-    let expected = expected(rt.alloc())?;
     let mut nodes = make_nodes(rt.alloc())?;
-    assert_eq!(rt; found_again(rt.alloc(), &mut nodes)?, Some(expected));
+    assert_eq!(rt; found_again(rt.alloc(), &mut nodes)?, Some(EXPECTED));
     Ok(())
 }
 
@@ -163,7 +158,7 @@ fn received_hash(item: &Item) -> Option<Hash> {
 fn the_statement_of_a_message_is_found(rt: HostRuntime) -> Result<(), Fail> {
     let alloc = rt.alloc();
     let hashes = Hashes {
-        sent: sent_hash(alloc)?,
+        sent: SENT,
         received: None,
     };
     let mut nodes = make_nodes(alloc)?;
@@ -178,13 +173,18 @@ fn the_statement_of_a_message_is_found(rt: HostRuntime) -> Result<(), Fail> {
 #[test]
 fn both_statements_of_an_acknowledged_message_are_found(rt: HostRuntime) -> Result<(), Fail> {
     let alloc = rt.alloc();
-    let sent = sent_hash(alloc)?;
     let mut nodes = make_nodes(alloc)?;
     let item = valid_ack(alloc, &mut nodes)?;
     let received = received_hash(&item);
     let found = found_twice(alloc, &nodes.directory, item)?;
     assert!(rt; received.is_some());
-    assert_eq!(rt; found, [Some(Hashes { sent, received }); 2]);
+    assert_eq!(rt;
+        found,
+        [Some(Hashes {
+            sent: SENT,
+            received
+        }); 2]
+    );
     Ok(())
 }
 

@@ -6,8 +6,10 @@ mod checking;
 #[cfg(test)]
 mod finding;
 #[cfg(test)]
+mod idle;
+#[cfg(test)]
 mod receipts;
 #[cfg(test)]
-mod samples;
-#[cfg(test)]
 mod second_key;
+#[cfg(test)]
+mod valid_items;

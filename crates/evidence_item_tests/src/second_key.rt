@@ -1,29 +1,13 @@
 //! Statements of a node with two keys: an LMS signature by the first stands as it is, and one by the second behind the byte 1.
 
-use crate::samples::ZEROS;
 use authenticators::{Authenticator, Directory, NodeId, statement_text};
 use evidence_item::{Item, ItemFault, check_item};
-use lms_sign::{LmsType, OtsType, SecretKey};
+use evidence_samples::{ZEROS, key_of, next_key_of};
+use lms_sign::SecretKey;
 use log_chain::ByteString;
 use ref_programs::Tally;
 use std::alloc::Global;
 use std::test::Fail;
-
-/// The key (H5, W8) of node 1 whose identifier and seed end in the node's number, and have this byte before it.
-fn key_of(alloc: Global, byte: u8) -> Result<Box<SecretKey>, Fail> {
-    let mut id = [byte; 16];
-    id[12] = 0;
-    id[13] = 0;
-    id[14] = 0;
-    id[15] = 1;
-    let mut seed = [byte; 32];
-    seed[28] = 0;
-    seed[29] = 0;
-    seed[30] = 0;
-    seed[31] = 1;
-    let key = SecretKey::make(alloc, LmsType::H5, OtsType::W8, id, seed)?;
-    Ok(Box::new(alloc, key)?)
-}
 
 /// Node 1 with two keys, and its signatures of the number 5 and zeros by each.
 #[derive(Drop)]
@@ -38,8 +22,8 @@ fn sign(alloc: Global, key: &mut SecretKey) -> Result<Vec<u8>, Fail> {
 }
 
 fn make_signed(alloc: Global) -> Result<Signed, Fail> {
-    let mut first = key_of(alloc, 0)?;
-    let mut second = key_of(alloc, 1)?;
+    let mut first = key_of(alloc, 1)?;
+    let mut second = next_key_of(alloc, 1)?;
     let mut directory = Box::new(alloc, Directory::new(alloc))?;
     directory.add(NodeId(1), first.public_key())?;
     directory.add_key(NodeId(1), second.public_key())?;
@@ -129,7 +113,7 @@ fn a_signature_names_its_key(rt: HostRuntime) -> Result<(), Fail> {
     let signed = make_signed(rt.alloc())?;
     let bad = Some(ItemFault::BadSignature);
     let expected = Told {
-        len: 1293,
+        len: 8685,
         second: [None, bad, bad, bad, bad],
         first: [None, bad],
     };

@@ -39,6 +39,15 @@ pub fn receipt(alloc: Global, seq: u64, message: &Message) -> Result<Entry, Fail
     })
 }
 
+/// The bytes, of which the last is another one.
+pub fn turned(bytes: ByteString) -> ByteString {
+    let mut bytes = bytes.into_vec();
+    if let Some(last) = bytes.last_mut() {
+        *last ^= 1;
+    }
+    ByteString::from_vec(bytes)
+}
+
 /// An entry of node 2's log.
 #[derive(Clone, Copy)]
 struct Logged {

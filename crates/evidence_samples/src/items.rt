@@ -28,8 +28,33 @@ fn beginning(alloc: Global, start: Start) -> Result<(Hash, Entry), Fail> {
     }
 }
 
+/// The other one of the nodes 1 and 2.
+fn other(node: NodeId) -> NodeId {
+    if node == NodeId(1) {
+        NodeId(2)
+    } else {
+        NodeId(1)
+    }
+}
+
 impl Signer {
     /// The statement that the entry with this number has this hash. Its signature has a C of one byte 32 times over.
+    pub fn authenticator(
+        &mut self,
+        alloc: Global,
+        seq: u64,
+        hash: Hash,
+        c: u8,
+    ) -> Result<Authenticator, Fail> {
+        Ok(Authenticator {
+            node: self.node,
+            seq,
+            hash,
+            sig: self.sign(alloc, seq, hash, c)?,
+        })
+    }
+
+    /// The item of that statement.
     pub fn statement(
         &mut self,
         alloc: Global,
@@ -37,12 +62,7 @@ impl Signer {
         hash: Hash,
         c: u8,
     ) -> Result<Box<Item>, Fail> {
-        let item = Item::auth(Authenticator {
-            node: self.node,
-            seq,
-            hash,
-            sig: self.sign(alloc, seq, hash, c)?,
-        })?;
+        let item = Item::auth(self.authenticator(alloc, seq, hash, c)?)?;
         Ok(Box::new(alloc, item)?)
     }
 
@@ -67,7 +87,7 @@ impl Signer {
         Ok(Box::new(alloc, item)?)
     }
 
-    /// The message to node 2 with this number, after 32 zero bytes. Its signature has a C of one byte 32 times over.
+    /// The message to the other node with this number, after 32 zero bytes. Its signature has a C of one byte 32 times over.
     pub fn message(
         &mut self,
         alloc: Global,
@@ -78,7 +98,7 @@ impl Signer {
         let payload = ByteString::from_slice(alloc, payload)?;
         let message = Message {
             from: self.node,
-            to: NodeId(2),
+            to: other(self.node),
             seq,
             prev: ZEROS,
             sig: ByteString::from_vec(Vec::new(alloc)),

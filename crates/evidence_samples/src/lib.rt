@@ -7,6 +7,6 @@ mod entries;
 mod items;
 mod nodes;
 
-pub use entries::{ZEROS, entry, receipt};
+pub use entries::{ZEROS, entry, receipt, turned};
 pub use items::Start;
-pub use nodes::{Nodes, Signer, key_of, make_nodes};
+pub use nodes::{Nodes, Signer, key_of, make_nodes, next_key_of};

@@ -24,14 +24,24 @@ pub struct Nodes {
     pub two: Signer,
 }
 
-/// The key (H5, W1) whose identifier and seed end in the number.
-pub fn key_of(alloc: Global, node: u8) -> Result<Box<SecretKey>, Fail> {
-    let mut id = [0; 16];
-    id[15] = node;
-    let mut seed = [0; 32];
-    seed[31] = node;
+/// The key (H5, W1) whose identifier and seed have the key's number in each byte, and end in the node's number in 4 bytes.
+fn make_key(alloc: Global, node: u8, number: u8) -> Result<Box<SecretKey>, Fail> {
+    let mut id = [number; 16];
+    id[12..].copy_from_slice(&[0, 0, 0, node]);
+    let mut seed = [number; 32];
+    seed[28..].copy_from_slice(&[0, 0, 0, node]);
     let key = SecretKey::make(alloc, LmsType::H5, OtsType::W1, id, seed)?;
     Ok(Box::new(alloc, key)?)
+}
+
+/// The node's key 0, which the directory lists.
+pub fn key_of(alloc: Global, node: u8) -> Result<Box<SecretKey>, Fail> {
+    make_key(alloc, node, 0)
+}
+
+/// The node's key 1, which the directory does not list yet.
+pub fn next_key_of(alloc: Global, node: u8) -> Result<Box<SecretKey>, Fail> {
+    make_key(alloc, node, 1)
 }
 
 fn make_signer(alloc: Global, node: u8) -> Result<Signer, Fail> {

@@ -1,14 +1,14 @@
 //! A demand to acknowledge a message, and items beside it, which answer it or do not.
 
-use crate::samples::{Said, new_store, said_by, take, turned};
 use commitment::Message;
 use evidence_item::Item;
-use evidence_samples::{Nodes, Signer, Start, make_nodes};
+use evidence_samples::{Nodes, Signer, Start, make_nodes, turned};
 use evidence_set::Indication;
 use evidence_store::{Evidence, IndexedStore, PlainStore};
 use ref_programs::Tally;
 use std::alloc::Global;
 use std::test::Fail;
+use store_samples::{Said, new_store, said_by, take};
 
 /// A message of node 1 to node 2, by its number, its payload, and the byte of which the C of its signature is made.
 #[derive(Clone, Copy)]

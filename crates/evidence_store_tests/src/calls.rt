@@ -1,12 +1,12 @@
 //! A store without items, under a directory whose keys nobody has.
 
-use crate::samples::new_store;
 use authenticators::{Directory, NodeId};
 use evidence_set::Indication;
 use evidence_store::{AskFault, Evidence, IndexedStore, PlainStore, UnknownNode};
 use ref_programs::Tally;
 use std::alloc::Global;
 use std::test::Fail;
+use store_samples::new_store;
 
 /// The directory of the nodes 1 and 2, as it was written before nodes had second keys.
 fn old_directory(alloc: Global) -> Result<Box<Directory>, Fail> {

@@ -1,6 +1,5 @@
 //! The demands to node 2 that are open, item by item, while their answers come.
 
-use crate::samples::{new_store, take_copy};
 use authenticators::NodeId;
 use evidence_item::Item;
 use evidence_samples::{Nodes, Signer, make_nodes};
@@ -8,6 +7,7 @@ use evidence_store::{Evidence, IndexedStore, PlainStore};
 use ref_programs::Tally;
 use std::alloc::Global;
 use std::test::Fail;
+use store_samples::{new_store, take_copy};
 
 /// Four demands to node 2, in the order of their spellings, and what answers all of them but the last.
 #[derive(Drop)]

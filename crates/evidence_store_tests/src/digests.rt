@@ -1,6 +1,5 @@
 //! The digests of a store's items, and which items it has.
 
-use crate::samples::{new_store, take};
 use evidence_item::Item;
 use evidence_samples::{Nodes, ZEROS, make_nodes};
 use evidence_store::{Evidence, IndexedStore, PlainStore};
@@ -9,6 +8,7 @@ use ref_programs::Tally;
 use sha2::{Digest, Sha256};
 use std::alloc::Global;
 use std::test::Fail;
+use store_samples::{new_store, take};
 
 /// Takes a statement of node 1, node 2's log, and a demand to show it.
 fn fill<S: Evidence<Tally>>(alloc: Global, nodes: &mut Nodes, store: &mut S) -> Result<(), Fail> {

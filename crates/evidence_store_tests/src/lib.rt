@@ -18,8 +18,6 @@ mod programs;
 #[cfg(test)]
 mod receipts;
 #[cfg(test)]
-mod samples;
-#[cfg(test)]
 mod segments;
 #[cfg(test)]
 mod statements;

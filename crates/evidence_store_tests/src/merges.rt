@@ -1,6 +1,5 @@
 //! Three witnesses of the same items, which came in three orders, or to one of them each and crosswise to the others.
 
-use crate::samples::{new_store, take_some};
 use evidence_item::Item;
 use evidence_samples::{Nodes, ZEROS, make_nodes};
 use evidence_store::{Evidence, IndexedStore, PlainStore};
@@ -8,6 +7,7 @@ use log_chain::Hash;
 use ref_programs::Tally;
 use std::alloc::Global;
 use std::test::Fail;
+use store_samples::{new_store, take_some};
 
 /// How many items of the second store are new to the first, which then has them.
 fn merge<S: Evidence<Tally>>(first: &mut S, second: &S) -> Result<u64, Fail> {

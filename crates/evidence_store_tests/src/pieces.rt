@@ -2,12 +2,12 @@
 
 ghost use Rattle.std.specs.Prelude.{◌≡◌};
 
-use crate::samples::new_store;
 use crate::texts::{Text, text_of_two};
 use evidence_store::{Evidence, Importer, IndexedStore, PlainStore};
 use ref_programs::Tally;
 use std::alloc::Global;
 use std::test::Fail;
+use store_samples::new_store;
 
 /// What an importer and a store without items make of a text in pieces: the number of the refusal of a piece, or 0; that of one more
 /// piece after a refusal, or 0; that of the end, or 0; how many items the store then has; and whether it exports the text.

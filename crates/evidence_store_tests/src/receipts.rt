@@ -1,10 +1,9 @@
 //! What node 1 sends as a node does, in node 2's log: as it was sent, and otherwise.
 
-use crate::samples::{new_store, said_by, take_copy, turned};
 use authenticators::NodeId;
 use commitment::{Message, Node};
 use evidence_item::{Item, Reason, Verdict, check_item};
-use evidence_samples::{Nodes, Start, entry, key_of, make_nodes, receipt};
+use evidence_samples::{Nodes, Start, entry, key_of, make_nodes, receipt, turned};
 use evidence_set::Indication;
 use evidence_store::{Evidence, IndexedStore, PlainStore};
 use log_chain::kind::{SEND, TIMER};
@@ -12,6 +11,7 @@ use log_chain::{Entry, Hash};
 use ref_programs::Tally;
 use std::alloc::Global;
 use std::test::Fail;
+use store_samples::{new_store, said_by, take_copy};
 
 /// Node 1 under Tally, whose log begins with the number 1.
 fn node_one(alloc: Global, nodes: &Nodes) -> Result<Box<Node<Tally>>, Fail> {

@@ -1,6 +1,5 @@
 //! Segments of two logs of node 2, which come in both orders.
 
-use crate::samples::{Said, new_store, said_by, take_some};
 use containers::write_all;
 use evidence_item::Item;
 use evidence_samples::{Nodes, Signer, Start, entry, make_nodes};
@@ -10,6 +9,7 @@ use log_chain::kind::TIMER;
 use ref_programs::Tally;
 use std::alloc::Global;
 use std::test::Fail;
+use store_samples::{Said, new_store, said_by, take_some};
 
 /// Two segments as they ascend, and the directory under which they are valid.
 #[derive(Drop)]

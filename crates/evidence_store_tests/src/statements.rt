@@ -1,6 +1,5 @@
 //! Two statements of node 1 on one entry, and the first of them once more.
 
-use crate::samples::{Said, new_store, said_by, take_copy};
 use authenticators::NodeId;
 use evidence_item::Item;
 use evidence_samples::{Nodes, ZEROS, make_nodes};
@@ -11,6 +10,7 @@ use proofs::{Parts, check_proof};
 use ref_programs::Tally;
 use std::alloc::Global;
 use std::test::Fail;
+use store_samples::{Said, new_store, said_by, take_copy};
 
 /// Two statements on entry 5.
 #[derive(Drop)]

@@ -1,6 +1,5 @@
 //! The text of two items, which is read under the magic of today and under the one of before.
 
-use crate::samples::{new_store, take};
 use authenticators::Directory;
 use evidence_samples::{Nodes, make_nodes};
 use evidence_store::{Evidence, IndexedStore, PlainStore};
@@ -8,6 +7,7 @@ use log_chain::Hash;
 use ref_programs::Tally;
 use std::alloc::Global;
 use std::test::Fail;
+use store_samples::{new_store, take};
 
 /// The text of two items, and the directory under which they are valid.
 #[derive(Drop)]

@@ -1,6 +1,6 @@
 //! What is told of challenges that are open, and of trust.
 
-use crate::samples::told_of_items;
+use crate::told::told_of_items;
 use evidence_item::Item;
 use evidence_samples::{Nodes, make_nodes};
 use std::alloc::Global;

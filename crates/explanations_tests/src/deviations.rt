@@ -1,6 +1,6 @@
 //! What is told of a segment that deviates.
 
-use crate::samples::{told_of_items, told_of_proof};
+use crate::told::{told_of_items, told_of_proof};
 use authenticators::NodeId;
 use evidence_item::Item;
 use evidence_samples::{Nodes, entry, make_nodes};

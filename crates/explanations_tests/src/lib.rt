@@ -8,4 +8,4 @@ mod contradictions;
 #[cfg(test)]
 mod deviations;
 #[cfg(test)]
-mod samples;
+mod told;

@@ -1,7 +1,9 @@
 //! What answers a challenge, and what contradicts a segment.
 
-use crate::samples::{Kept, ZEROS, hash_in_log, keep_all};
+use crate::keeping::{Kept, keep_all};
+use crate::seven_items::hash_in_log;
 use authenticators::NodeId;
+use evidence_samples::ZEROS;
 use kept_items::{KeptItem, Said};
 use log_chain::Hash;
 use ref_programs::Tally;

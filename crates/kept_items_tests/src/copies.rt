@@ -1,8 +1,7 @@
 //! What is kept is given back, copied and shared as it was.
 
-use crate::samples::{
-    Kept, SAMPLES, Sample, World, hash_in_log, keep, keep_all, log_of, make_world,
-};
+use crate::keeping::{Kept, keep, keep_all};
+use crate::seven_items::{SAMPLES, Sample, World, hash_in_log, log_of, make_world};
 use evidence_item::{Checked, Findings};
 use kept_entries::EntryPool;
 use kept_items::KeptItem;

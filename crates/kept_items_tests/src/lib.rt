@@ -6,8 +6,10 @@ mod answers;
 #[cfg(test)]
 mod copies;
 #[cfg(test)]
+mod keeping;
+#[cfg(test)]
 mod orders;
 #[cfg(test)]
-mod samples;
+mod seven_items;
 #[cfg(test)]
 mod statements;

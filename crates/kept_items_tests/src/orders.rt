@@ -1,6 +1,6 @@
 //! The order of kept items, their digests and their container, beside those of the items.
 
-use crate::samples::{Kept, keep_all};
+use crate::keeping::{Kept, keep_all};
 use authenticators::NodeId;
 use commitment::Message;
 use containers::write_all;

@@ -1,7 +1,9 @@
 //! The statements of kept items by their positions, and what an item tells of its node.
 
-use crate::samples::{Kept, ZEROS, hash_in_log, keep_all};
+use crate::keeping::{Kept, keep_all};
+use crate::seven_items::hash_in_log;
 use authenticators::NodeId;
+use evidence_samples::ZEROS;
 use kept_items::{KeptItem, Said, compare_said};
 use log_chain::Hash;
 use ref_programs::Tally;

@@ -1,8 +1,10 @@
 //! What events answer, and events that are refused.
 
-use crate::testing::{Signer, copy_of, make_signer, make_world, statement, take, tell};
+use crate::testing::{copy_of, make_world, take, tell};
 use authenticators::{Directory, NodeId};
+use evidence_samples::make_nodes;
 use evidence_store::{Evidence, IndexedStore, PlainStore};
+use log_chain::Hash;
 use ref_programs::Tally;
 use std::alloc::Global;
 use std::test::Fail;
@@ -39,21 +41,12 @@ fn refusals_have_numbers_names_and_lines(rt: HostRuntime) -> Result<(), Fail> {
     Ok(())
 }
 
-/// A world of so many witnesses without items.
-fn world_of<S: Evidence<Tally>>(
-    alloc: Global,
-    signer: &Signer,
-    count: u64,
-) -> Result<Box<World<Tally, S>>, Fail> {
-    make_world(alloc, &signer.directory, count)
-}
-
 /// The replies to a statement that one witness takes twice, to another one's summary, to the pack of all that the first has against
 /// it, to that pack's delivery at the other, twice, to a question, and to an export.
 fn replies_to_one_statement<S: Evidence<Tally>>(alloc: Global) -> Result<[(u8, u64); 8], Fail> {
-    let mut signer = make_signer(alloc)?;
-    let mut world: Box<World<Tally, S>> = world_of(alloc, &signer, 2)?;
-    let item = statement(alloc, &mut signer, 5, 7)?;
+    let mut nodes = make_nodes(alloc)?;
+    let mut world: Box<World<Tally, S>> = make_world(alloc, &nodes.directory, 2)?;
+    let item = nodes.one.statement(alloc, 5, Hash([7; 32]), 9)?;
     let again = copy_of(alloc, &item)?;
     let world = &mut world;
     let node = NodeId(1);
@@ -90,7 +83,7 @@ fn replies_to_one_statement<S: Evidence<Tally>>(alloc: Global) -> Result<[(u8, u
     ])
 }
 
-/// A statement under W4 and H5 has 2,397 bytes: one for the form, four for the node, eight for the number, 32 for the hash and 2,352
+/// A statement under W1 and H5 has 8,733 bytes: one for the form, four for the node, eight for the number, 32 for the hash and 8,688
 /// for the signature and its length. Its store has 20 more.
 #[test]
 fn each_event_has_its_reply(rt: HostRuntime) -> Result<(), Fail> {
@@ -102,7 +95,7 @@ fn each_event_has_its_reply(rt: HostRuntime) -> Result<(), Fail> {
         (4, 1),
         (4, 0),
         (5, 0),
-        (6, 2417),
+        (6, 8753),
     ];
     assert!(rt; replies_to_one_statement::<PlainStore<Tally>>(rt.alloc())? == expected);
     assert!(rt; replies_to_one_statement::<IndexedStore<Tally>>(rt.alloc())? == expected);
@@ -112,9 +105,9 @@ fn each_event_has_its_reply(rt: HostRuntime) -> Result<(), Fail> {
 /// Two witnesses of whom the first has one statement: what is told of the first one's outline, of the second one's outline, of the second
 /// one's short summary against each, of the first one's packs against both summaries, and of their deliveries at the second.
 fn replies_to_outlines<S: Evidence<Tally>>(alloc: Global) -> Result<[(u8, u64); 8], Fail> {
-    let mut signer = make_signer(alloc)?;
-    let mut world: Box<World<Tally, S>> = world_of(alloc, &signer, 2)?;
-    let item = statement(alloc, &mut signer, 5, 7)?;
+    let mut nodes = make_nodes(alloc)?;
+    let mut world: Box<World<Tally, S>> = make_world(alloc, &nodes.directory, 2)?;
+    let item = nodes.one.statement(alloc, 5, Hash([7; 32]), 9)?;
     let world = &mut world;
     take(alloc, &Tally, world, 0, item)?;
     let told = [
@@ -183,10 +176,10 @@ fn outlines_and_short_summaries_have_numbers(rt: HostRuntime) -> Result<(), Fail
 
 /// What a witness with two statements of one number says of their node.
 fn says_of_two_statements<S: Evidence<Tally>>(alloc: Global) -> Result<(u8, u64), Fail> {
-    let mut signer = make_signer(alloc)?;
-    let mut world: Box<World<Tally, S>> = world_of(alloc, &signer, 1)?;
-    let one = statement(alloc, &mut signer, 5, 7)?;
-    let other = statement(alloc, &mut signer, 5, 8)?;
+    let mut nodes = make_nodes(alloc)?;
+    let mut world: Box<World<Tally, S>> = make_world(alloc, &nodes.directory, 1)?;
+    let one = nodes.one.statement(alloc, 5, Hash([7; 32]), 9)?;
+    let other = nodes.one.statement(alloc, 5, Hash([8; 32]), 9)?;
     take(alloc, &Tally, &mut world, 0, one)?;
     take(alloc, &Tally, &mut world, 0, other)?;
     let event = Event::Ask {
@@ -205,9 +198,9 @@ fn two_statements_expose(rt: HostRuntime) -> Result<(), Fail> {
 
 /// What pack 0 brings to its own maker, twice.
 fn delivered_at_home<S: Evidence<Tally>>(alloc: Global) -> Result<[(u8, u64); 2], Fail> {
-    let mut signer = make_signer(alloc)?;
-    let mut world: Box<World<Tally, S>> = world_of(alloc, &signer, 1)?;
-    let item = statement(alloc, &mut signer, 5, 7)?;
+    let mut nodes = make_nodes(alloc)?;
+    let mut world: Box<World<Tally, S>> = make_world(alloc, &nodes.directory, 1)?;
+    let item = nodes.one.statement(alloc, 5, Hash([7; 32]), 9)?;
     let world = &mut world;
     tell(alloc, world, Event::Summarise { witness: 0 });
     take(alloc, &Tally, world, 0, item)?;
@@ -248,8 +241,8 @@ fn a_pack_at_its_maker_brings_nothing(rt: HostRuntime) -> Result<(), Fail> {
 
 /// The refusals of events in a world of one witness that made one summary, after which it makes another one.
 fn refusals_in_a_small_world<S: Evidence<Tally>>(alloc: Global) -> Result<[(u8, u64); 8], Fail> {
-    let signer = make_signer(alloc)?;
-    let mut world: Box<World<Tally, S>> = world_of(alloc, &signer, 1)?;
+    let nodes = make_nodes(alloc)?;
+    let mut world: Box<World<Tally, S>> = make_world(alloc, &nodes.directory, 1)?;
     let world = &mut world;
     let node = NodeId(3);
     tell(alloc, world, Event::Summarise { witness: 0 });
@@ -305,8 +298,8 @@ fn refusals_come_in_their_order(rt: HostRuntime) -> Result<(), Fail> {
 
 /// Of two summaries and a pack against a third: how many events are done, how many replies there are, and the refusal's number.
 fn refused_pack<S: Evidence<Tally>>(alloc: Global) -> Result<(u64, u64, u8), Fail> {
-    let signer = make_signer(alloc)?;
-    let mut world: Box<World<Tally, S>> = world_of(alloc, &signer, 1)?;
+    let nodes = make_nodes(alloc)?;
+    let mut world: Box<World<Tally, S>> = make_world(alloc, &nodes.directory, 1)?;
     let events = [
         Event::Summarise { witness: 0 },
         Event::Summarise { witness: 0 },

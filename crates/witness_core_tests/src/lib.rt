@@ -4,7 +4,7 @@
 #[cfg(test)]
 mod answers;
 #[cfg(test)]
-mod samples;
+mod five_items;
 #[cfg(test)]
 mod spreading;
 #[cfg(test)]

@@ -1,7 +1,7 @@
 //! Evidence spreads through three witnesses by packs that are lost, doubled and crossed, in three orders and against summaries of both
 //! kinds.
 
-use crate::samples::make_sample;
+use crate::five_items::make_items;
 use crate::testing::{copy_of, make_world, take, tell};
 use evidence_item::Item;
 use evidence_store::{Evidence, IndexedStore, PlainStore};
@@ -17,7 +17,7 @@ use witness_core::{Event, World};
 fn give<S: Evidence<Tally>>(
     alloc: Global,
     world: &mut World<Tally, S>,
-    items: &[Box<Item>; 5],
+    items: &[Item],
     pairs: &[(u64, usize)],
 ) -> Result<(), Fail> {
     for (witness, place) in pairs {
@@ -131,9 +131,9 @@ fn spread<S: Evidence<Tally>>(
     pairs: &[(u64, usize)],
     deliveries: &[(u64, u64)],
 ) -> Result<Exports, Fail> {
-    let sample = make_sample(alloc)?;
-    let mut world: Box<World<Tally, S>> = make_world(alloc, &sample.directory, 3)?;
-    give::<S>(alloc, &mut world, &sample.items, pairs)?;
+    let five = make_items(alloc)?;
+    let mut world: Box<World<Tally, S>> = make_world(alloc, &five.directory, 3)?;
+    give::<S>(alloc, &mut world, &five.items, pairs)?;
     let together = Hash(Sha256::digest(&merged::<Tally, S>(alloc, &world)?));
     make_packs::<S>(alloc, &mut world, kind);
     deliver::<S>(alloc, &mut world, deliveries);
@@ -146,7 +146,7 @@ fn spread<S: Evidence<Tally>>(
 }
 
 /// The text of the five items, by `reference/transfers.py`.
-pub(crate) const ALL: &str = "04b9bd37539f3f981b2739e6999f0101c63e9b7f927c3f878a3e50896e70b626";
+pub(crate) const ALL: &str = "8af19b1037cb92115a60db6dc921667c3dfd040908060122c1c5eb1d40f0cc86";
 
 /// Whether all four texts are that of the five items.
 fn is_all(alloc: Global, exports: &Exports) -> Result<bool, Fail> {

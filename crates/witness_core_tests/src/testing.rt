@@ -1,75 +1,18 @@
-//! What the tests share: statements of one node, and worlds of witnesses that take them.
+//! What the tests share: worlds of witnesses, and what their events are answered.
 
 ghost use Rattle.std.specs.Prelude.{◌≡◌, IfOk, map};
 ghost use Rattle.std.specs.List.{All};
 ghost use Rattle.evidence.specs.Contents.{Contents};
 ghost use Rattle.witness_core.specs.Answering.{IsCheckedFor};
 
-use authenticators::{Authenticator, Directory, NodeId, statement_text};
+use authenticators::Directory;
 use evidence_item::{Item, check_item};
 use evidence_set::Indication;
 use evidence_store::Evidence;
-use lms_sign::{LmsType, OtsType, SecretKey};
-use log_chain::{ByteString, Hash};
 use replay_verifier::Program;
 use std::alloc::Global;
 use std::test::Fail;
 use witness_core::{Event, Reply, World, run};
-
-/// The key of node 1 and the directory that lists it.
-#[derive(Drop)]
-pub(crate) struct Signer {
-    pub(crate) directory: Box<Directory>,
-    pub(crate) key: Box<SecretKey>,
-}
-
-/// The key of a node, which makes short work of signing: its identifier and its seed end in the node's number.
-pub(crate) fn make_key(alloc: Global, node: u8) -> Result<Box<SecretKey>, Fail> {
-    let mut id = [0; 16];
-    let mut seed = [0; 32];
-    id[15] = node;
-    seed[31] = node;
-    let key = SecretKey::make(alloc, LmsType::H5, OtsType::W4, id, seed)?;
-    Ok(Box::new(alloc, key)?)
-}
-
-/// Node 1 alone, with its key.
-pub(crate) fn make_signer(alloc: Global) -> Result<Signer, Fail> {
-    let key = make_key(alloc, 1)?;
-    let mut directory = Box::new(alloc, Directory::new(alloc))?;
-    directory.add(NodeId(1), key.public_key())?;
-    Ok(Signer { directory, key })
-}
-
-/// The key's signature on the statement that entry `seq` has this hash, under a random value of one byte 32 times over.
-pub(crate) fn sign(
-    alloc: Global,
-    key: &mut SecretKey,
-    seq: u64,
-    hash: Hash,
-    random: u8,
-) -> Result<ByteString, Fail> {
-    let sig = key.sign(alloc, &statement_text(seq, hash), [random; 32])?;
-    Ok(ByteString::from_vec(sig))
-}
-
-/// A statement of node 1 on entry `seq` with a hash of 32 bytes `byte`.
-pub(crate) fn statement(
-    alloc: Global,
-    signer: &mut Signer,
-    seq: u64,
-    byte: u8,
-) -> Result<Box<Item>, Fail> {
-    let hash = Hash([byte; 32]);
-    let sig = sign(alloc, &mut signer.key, seq, hash, 9)?;
-    let item = Item::auth(Authenticator {
-        node: NodeId(1),
-        seq,
-        hash,
-        sig,
-    })?;
-    Ok(Box::new(alloc, item)?)
-}
 
 /// A copy of the item.
 pub(crate) fn copy_of(alloc: Global, item: &Item) -> Result<Box<Item>, Fail> {

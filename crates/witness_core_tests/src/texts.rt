@@ -1,44 +1,25 @@
 //! The same items spread by texts alone: outlines, short summaries and packs are written and read. And texts that are cut off.
 
-use crate::samples::{Sample, make_sample};
+use crate::five_items::{FiveItems, make_items};
 use crate::spreading::ALL;
-use crate::testing::copy_of;
 use authenticators::Directory;
-use evidence_item::{Item, check_item};
 use evidence_store::{Evidence, IndexedStore, PlainStore};
 use log_chain::Hash;
 use ref_programs::Tally;
 use sha2::{Digest, Sha256};
 use std::alloc::Global;
 use std::test::Fail;
+use store_samples::{new_store, take_some};
 use transfer::{Outline, Pack, Summary, apply, outline, pack, short_summary};
 
-/// A store under the directory, without items.
-fn new_store<S: Evidence<Tally>>(alloc: Global, directory: &Directory) -> Result<Box<S>, Fail> {
-    let store = S::new(alloc, directory.try_clone()?)?;
-    Ok(Box::new(alloc, store)?)
-}
-
-/// The store takes a copy of the item.
-fn take<S: Evidence<Tally>>(alloc: Global, store: &mut S, item: &Item) -> Result<(), Fail> {
-    let copy = copy_of(alloc, item)?;
-    let checked = check_item(alloc, &Tally, store.directory(), Box::into_inner(copy))?;
-    store.take(checked)?;
-    Ok(())
-}
-
-/// A store that has the items at these places of the sample.
+/// A store that has the items at these places of the five.
 fn store_with<S: Evidence<Tally>>(
     alloc: Global,
-    sample: &Sample,
+    five: &FiveItems,
     places: &[usize],
 ) -> Result<Box<S>, Fail> {
-    let mut store: Box<S> = new_store(alloc, &sample.directory)?;
-    for place in places {
-        if let Some(item) = sample.items.get(*place) {
-            take::<S>(alloc, &mut store, item)?;
-        }
-    }
+    let mut store: Box<S> = new_store(alloc, &five.directory)?;
+    take_some::<S>(alloc, &mut store, &five.items, places)?;
     Ok(store)
 }
 
@@ -79,7 +60,7 @@ fn deliver<S: Evidence<Tally>>(alloc: Global, store: &mut S, text: &[u8]) -> Res
     Ok(())
 }
 
-/// Three stores of the sample's items.
+/// Three stores of the five items.
 #[derive(Drop)]
 struct Three<S: Drop> {
     first: Box<S>,
@@ -88,11 +69,11 @@ struct Three<S: Drop> {
 }
 
 fn three_stores<S: Evidence<Tally>>(alloc: Global) -> Result<Three<S>, Fail> {
-    let sample = make_sample(alloc)?;
+    let five = make_items(alloc)?;
     Ok(Three {
-        first: store_with(alloc, &sample, &[0, 1])?,
-        second: store_with(alloc, &sample, &[1, 2, 3])?,
-        third: store_with(alloc, &sample, &[3, 4, 0])?,
+        first: store_with(alloc, &five, &[0, 1])?,
+        second: store_with(alloc, &five, &[1, 2, 3])?,
+        third: store_with(alloc, &five, &[3, 4, 0])?,
     })
 }
 

@@ -1,19 +1,18 @@
 //! Stores that two callers share at once.
 
-use crate::samples::{
-    Sharing, close_both, make_key, merge_nothing, new_store, share, statement, take_item,
-};
+use crate::sharing::{Sharing, close_both, merge_nothing, share, statement, take_item};
 use authenticators::NodeId;
-use evidence_item::{Item, check_item};
+use evidence_item::Item;
+use evidence_samples::{Signer, make_nodes};
 use evidence_set::Indication;
 use evidence_store::{Evidence, IndexedStore, PlainStore};
-use lms_sign::SecretKey;
 use ref_programs::Tally;
 use std::alloc::Global;
 use std::sync::Wait;
 use std::test::Fail;
 use std::thread;
 use std::thread::Threads;
+use store_samples::{new_store, take};
 use witness_workers::{Closed, Pass, SharedStore};
 
 /// Takes the items, merges a store without items, asks for node 1 and exports, as far as nothing is refused.
@@ -46,25 +45,12 @@ struct Left {
 }
 
 /// The statements of these hashes on entry 5.
-fn statements(alloc: Global, key: &mut SecretKey, hashes: &[u8]) -> Result<Vec<Box<Item>>, Fail> {
+fn statements(alloc: Global, one: &mut Signer, hashes: &[u8]) -> Result<Vec<Box<Item>>, Fail> {
     let mut items = Vec::new(alloc);
     for hash in hashes {
-        items.push(statement(alloc, key, 5, *hash, 0)?)?;
+        items.push(statement(alloc, one, *hash, 0)?)?;
     }
     Ok(items)
-}
-
-/// Takes the items, which are checked under the store's directory.
-fn take_all<S: Evidence<Tally>>(
-    alloc: Global,
-    store: &mut S,
-    items: Vec<Box<Item>>,
-) -> Result<(), Fail> {
-    for item in items {
-        let checked = check_item(alloc, &Tally, store.directory(), Box::into_inner(item))?;
-        store.take(checked)?;
-    }
-    Ok(())
 }
 
 /// Two callers in threads of their own, with the items that each takes.
@@ -106,24 +92,25 @@ fn two_at_once<S: Evidence<Tally> + Send, R: Threads + Wait + Sync>(
     alloc: Global,
 ) -> Result<Box<Closed<S>>, Fail> {
     let Sharing {
-        mut key,
+        mut nodes,
         shared,
         first,
         second,
         ..
     } = share::<S>(alloc)?;
-    let ours = statements(alloc, &mut key, &[1, 2])?;
-    let theirs = statements(alloc, &mut key, &[3, 4])?;
+    let ours = statements(alloc, &mut nodes.one, &[1, 2])?;
+    let theirs = statements(alloc, &mut nodes.one, &[3, 4])?;
     let passes = call_both(rt, alloc, &shared, (first, second), (ours, theirs));
     close_both(alloc, shared, passes)
 }
 
 /// A store that took the same items alone.
 fn one_alone<S: Evidence<Tally>>(alloc: Global) -> Result<Box<S>, Fail> {
-    let mut key = make_key(alloc)?;
-    let mut store: Box<S> = new_store(alloc, &key)?;
-    let items = statements(alloc, &mut key, &[1, 2, 3, 4])?;
-    take_all::<S>(alloc, &mut store, items)?;
+    let mut nodes = make_nodes(alloc)?;
+    let mut store: Box<S> = new_store(alloc, &nodes.directory)?;
+    for item in statements(alloc, &mut nodes.one, &[1, 2, 3, 4])? {
+        take::<S>(alloc, &mut store, item)?;
+    }
     Ok(store)
 }
 
@@ -184,14 +171,14 @@ fn asked_while_merged<S: Evidence<Tally> + Send, R: Threads + Wait + Sync>(
     alloc: Global,
 ) -> Result<(Option<Indication>, Option<u64>), Fail> {
     let Sharing {
-        mut key,
+        mut nodes,
         shared,
         first,
         second,
         ..
     } = share::<S>(alloc)?;
-    let one = statement(alloc, &mut key, 5, 1, 0)?;
-    let two = statement(alloc, &mut key, 5, 2, 0)?;
+    let one = statement(alloc, &mut nodes.one, 1, 0)?;
+    let two = statement(alloc, &mut nodes.one, 2, 0)?;
     let done = ask_and_merge(rt, alloc, &shared, (first, second), (one, two));
     Ok(done)
 }

@@ -1,7 +1,7 @@
 //! Stores that callers share, one after the other, and how they are closed.
 
-use crate::samples::{
-    Sharing, close_both, merge_nothing, new_store, share, share_among_most, statement, take_item,
+use crate::sharing::{
+    Sharing, close_both, merge_nothing, share, share_among_most, statement, take_item,
 };
 use authenticators::NodeId;
 use evidence_item::{Item, check_item};
@@ -13,6 +13,7 @@ use sha2::{Digest, Sha256};
 use std::alloc::Global;
 use std::sync::Wait;
 use std::test::Fail;
+use store_samples::new_store;
 use witness_workers::{
     Call, CallFault, CheckAllFault, CloseFault, Pass, QuestionFault, Recorded, SharedStore,
 };
@@ -66,9 +67,9 @@ fn first_calls<S: Evidence<Tally>, R: Wait>(
     alloc: Global,
     on: &mut Sharing<S>,
 ) -> Result<(Option<bool>, Option<bool>, Indication), Fail> {
-    let one = statement(alloc, &mut on.key, 5, 1, 0)?;
+    let one = statement(alloc, &mut on.nodes.one, 1, 0)?;
     let took_one = take_item(rt, alloc, &on.shared, &mut on.first, one);
-    let two = statement(alloc, &mut on.key, 5, 2, 0)?;
+    let two = statement(alloc, &mut on.nodes.one, 2, 0)?;
     let took_two = take_item(rt, alloc, &on.shared, &mut on.first, two);
     let told = on.shared.ask(rt, &mut on.first, NodeId(1))?;
     Ok((took_one, took_two, told))
@@ -120,7 +121,7 @@ fn is_shown_as(alloc: Global, hash: Hash, want: &str) -> Result<bool, Fail> {
 }
 
 /// The SHA-256 value of the text, by `reference/shared_stores.py`.
-const TEXT: &str = "60250af824ede25285f66a16f5795241be9068843d9efbaaabecb4c22101485a";
+const TEXT: &str = "6622c0fa4345faec1513002bd9240ab939b3c556c2332d1a90eca3f50d50aba1";
 
 /// Whether the callers were told so: each item is new, both expose node 1, nothing is merged, and the text has this value.
 fn is_as_told(alloc: Global, seen: &Seen) -> Result<bool, Fail> {
@@ -183,7 +184,7 @@ fn an_unused_pass<S: Evidence<Tally>, R: Wait>(rt: &R, alloc: Global) -> Result<
 /// Closing a store of one caller that was asked with the second pass of another one.
 fn a_foreign_call<S: Evidence<Tally>, R: Wait>(rt: &R, alloc: Global) -> Result<u8, Fail> {
     let mut other: Sharing<S> = share(alloc)?;
-    let store: Box<S> = new_store(alloc, &other.key)?;
+    let store: Box<S> = new_store(alloc, &other.nodes.directory)?;
     let (shared, passes) = SharedStore::open(alloc, Box::into_inner(store), 1)?;
     let shared = Box::new(alloc, shared)?;
     shared.ask(rt, &mut other.second, NodeId(1))?;
@@ -272,7 +273,7 @@ fn merge_one<S: Evidence<Tally>, R: Wait>(
     alloc: Global,
     on: &mut Sharing<S>,
 ) -> Result<Box<Item>, Fail> {
-    let item = statement(alloc, &mut on.key, 5, 1, 0)?;
+    let item = statement(alloc, &mut on.nodes.one, 1, 0)?;
     let directory = on.shared.directory().try_clone()?;
     let mut other: S = S::new(alloc, directory)?;
     let checked = check_item(alloc, &Tally, other.directory(), item.try_clone(alloc)?)?;

@@ -1,8 +1,10 @@
 //! Checking by several workers.
 
-use crate::samples::{make_directory, make_key, statement, unsigned};
-use authenticators::Directory;
+use crate::sharing::statement;
+use authenticators::{Authenticator, Directory, NodeId};
 use evidence_item::{Checked, Item, ItemFault};
+use evidence_samples::{ZEROS, make_nodes};
+use log_chain::ByteString;
 use ref_programs::Tally;
 use std::alloc::Global;
 use std::sync::atomic::{AtomicBool, AtomicU64, Ordering};
@@ -10,16 +12,25 @@ use std::test::Fail;
 use std::thread::Threads;
 use witness_workers::{CheckAllFault, Gate, MOST_WORKERS, OpenGate, check_again, check_all};
 
+/// A statement of node 1 with an empty signature.
+fn unsigned(alloc: Global) -> Result<Item, Fail> {
+    Ok(Item::auth(Authenticator {
+        node: NodeId(1),
+        seq: 5,
+        hash: ZEROS,
+        sig: ByteString::from_vec(Vec::new(alloc)),
+    })?)
+}
+
 /// Two valid statements of one hash, one of another hash, and one without a signature; and their directory.
 pub(crate) fn items_and_directory(alloc: Global) -> Result<(Vec<Item>, Box<Directory>), Fail> {
-    let mut key = make_key(alloc)?;
+    let mut nodes = make_nodes(alloc)?;
     let mut items = Vec::new(alloc);
     for (hash, c) in [(1, 0), (1, 1), (2, 0)] {
-        items.push(Box::into_inner(statement(alloc, &mut key, 5, hash, c)?))?;
+        items.push(Box::into_inner(statement(alloc, &mut nodes.one, hash, c)?))?;
     }
-    items.push(Box::into_inner(unsigned(alloc)?))?;
-    let directory = make_directory(alloc, &key)?;
-    Ok((items, directory))
+    items.push(unsigned(alloc)?)?;
+    Ok((items, nodes.directory))
 }
 
 /// What a check gives.

@@ -10,4 +10,4 @@ mod checking;
 #[cfg(test)]
 mod refused;
 #[cfg(test)]
-mod samples;
+mod sharing;

@@ -1,78 +1,32 @@
-//! For the tests: the key of node 1, statements that it signs, a store under its directory, and calls at one that is shared.
+//! Stores that are shared under the directory of the nodes 1 and 2, and calls at them.
 
 ghost use Rattle.std.specs.Prelude.{◌<◌, length};
 
-use authenticators::{Authenticator, Directory, NodeId, statement_text};
 use evidence_item::{Item, check_item};
+use evidence_samples::{Nodes, Signer, make_nodes};
 use evidence_store::Evidence;
-use lms_sign::{LmsType, OtsType, SecretKey};
-use log_chain::{ByteString, Hash};
+use log_chain::Hash;
 use ref_programs::Tally;
 use std::alloc::Global;
 use std::sync::Wait;
 use std::test::Fail;
+use store_samples::new_store;
 use witness_workers::{Closed, MOST_WORKERS, Pass, SharedStore};
 
-/// The key (H5, W4) of node 1, whose identifier and seed end in the number.
-pub(crate) fn make_key(alloc: Global) -> Result<Box<SecretKey>, Fail> {
-    let mut id = [0; 16];
-    let mut seed = [0; 32];
-    id[15] = 1;
-    seed[31] = 1;
-    let key = SecretKey::make(alloc, LmsType::H5, OtsType::W4, id, seed)?;
-    Ok(Box::new(alloc, key)?)
-}
-
-/// A directory of node 1 alone.
-pub(crate) fn make_directory(alloc: Global, key: &SecretKey) -> Result<Box<Directory>, Fail> {
-    let mut directory = Box::new(alloc, Directory::new(alloc))?;
-    directory.add(NodeId(1), key.public_key())?;
-    Ok(directory)
-}
-
-/// A store under that directory, without items.
-pub(crate) fn new_store<S: Evidence<Tally>>(
-    alloc: Global,
-    key: &SecretKey,
-) -> Result<Box<S>, Fail> {
-    let directory = make_directory(alloc, key)?;
-    let store = S::new(alloc, Box::into_inner(directory))?;
-    Ok(Box::new(alloc, store)?)
-}
-
-fn auth_of(alloc: Global, seq: u64, hash: Hash, sig: Vec<u8>) -> Result<Box<Item>, Fail> {
-    let item = Item::auth(Authenticator {
-        node: NodeId(1),
-        seq,
-        hash,
-        sig: ByteString::from_vec(sig),
-    })?;
-    Ok(Box::new(alloc, item)?)
-}
-
-/// A statement of node 1 on the entry with this number and a hash of one byte 32 times over. The key signs it with a C of one byte
-/// 32 times over.
+/// The node's statement on entry 5 and a hash of one byte 32 times over. Its signature has a C of one byte 32 times over.
 pub(crate) fn statement(
     alloc: Global,
-    key: &mut SecretKey,
-    seq: u64,
+    node: &mut Signer,
     hash: u8,
     c: u8,
 ) -> Result<Box<Item>, Fail> {
-    let hash = Hash([hash; 32]);
-    let sig = key.sign(alloc, &statement_text(seq, hash), [c; 32])?;
-    auth_of(alloc, seq, hash, sig)
+    node.statement(alloc, 5, Hash([hash; 32]), c)
 }
 
-/// A statement of node 1 with an empty signature.
-pub(crate) fn unsigned(alloc: Global) -> Result<Box<Item>, Fail> {
-    auth_of(alloc, 5, Hash([0; 32]), Vec::new(alloc))
-}
-
-/// A store that is shared, with the passes of the first two callers and those of all others, and the key of node 1.
+/// A store that is shared, with the passes of the first two callers and those of all others, and the nodes.
 #[derive(Drop)]
 pub(crate) struct Sharing<S: Evidence<Tally>> {
-    pub(crate) key: Box<SecretKey>,
+    pub(crate) nodes: Nodes,
     pub(crate) shared: Box<SharedStore<Tally, S>>,
     pub(crate) first: Pass,
     pub(crate) second: Pass,
@@ -82,7 +36,7 @@ pub(crate) struct Sharing<S: Evidence<Tally>> {
 /// The same of a store with its passes.
 fn sharing_of<S: Evidence<Tally>>(
     alloc: Global,
-    key: Box<SecretKey>,
+    nodes: Nodes,
     shared: SharedStore<Tally, S>,
     mut passes: Vec<Pass>,
 ) -> Result<Sharing<S>, Fail>
@@ -94,7 +48,7 @@ fn sharing_of<S: Evidence<Tally>>(
         unreachable!();
     };
     Ok(Sharing {
-        key,
+        nodes,
         shared,
         first,
         second,
@@ -104,18 +58,18 @@ fn sharing_of<S: Evidence<Tally>>(
 
 /// A store that two callers share.
 pub(crate) fn share<S: Evidence<Tally>>(alloc: Global) -> Result<Sharing<S>, Fail> {
-    let key = make_key(alloc)?;
-    let store: Box<S> = new_store(alloc, &key)?;
+    let nodes = make_nodes(alloc)?;
+    let store: Box<S> = new_store(alloc, &nodes.directory)?;
     let (shared, passes) = SharedStore::open(alloc, Box::into_inner(store), 2)?;
-    sharing_of(alloc, key, shared, passes)
+    sharing_of(alloc, nodes, shared, passes)
 }
 
 /// A store that as many callers share as may share one.
 pub(crate) fn share_among_most<S: Evidence<Tally>>(alloc: Global) -> Result<Sharing<S>, Fail> {
-    let key = make_key(alloc)?;
-    let store: Box<S> = new_store(alloc, &key)?;
+    let nodes = make_nodes(alloc)?;
+    let store: Box<S> = new_store(alloc, &nodes.directory)?;
     let (shared, passes) = SharedStore::open(alloc, Box::into_inner(store), MOST_WORKERS)?;
-    sharing_of(alloc, key, shared, passes)
+    sharing_of(alloc, nodes, shared, passes)
 }
 
 /// Checks the item under the store's directory, and takes it: whether it was new, where nothing is refused.

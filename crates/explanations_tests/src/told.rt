@@ -1,12 +1,13 @@
 //! For the tests: what is told of items and of proofs.
 
 use authenticators::{Directory, NodeId};
-use evidence_item::{Item, check_item};
+use evidence_item::Item;
 use evidence_store::{Evidence, IndexedStore};
 use explanations::{explain_proof, explain_store, text_of};
 use ref_programs::Tally;
 use std::alloc::Global;
 use std::test::Fail;
+use store_samples::{new_store, take};
 
 /// A store under the directory, of these items, which are valid.
 fn store_of(
@@ -14,11 +15,9 @@ fn store_of(
     directory: &Directory,
     items: Vec<Item>,
 ) -> Result<Box<IndexedStore<Tally>>, Fail> {
-    let store = IndexedStore::new(alloc, directory.try_clone()?)?;
-    let mut store = Box::new(alloc, store)?;
+    let mut store: Box<IndexedStore<Tally>> = new_store(alloc, directory)?;
     for item in items {
-        let checked = check_item(alloc, &Tally, store.directory(), item)?;
-        store.take(checked)?;
+        take::<IndexedStore<Tally>>(alloc, &mut store, Box::new(alloc, item)?)?;
     }
     Ok(store)
 }

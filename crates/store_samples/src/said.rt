@@ -1,0 +1,27 @@
+//! What a store says of both nodes.
+
+use authenticators::NodeId;
+use evidence_set::Indication;
+use evidence_store::Evidence;
+use ref_programs::Tally;
+use std::test::Fail;
+
+/// What a store says of the nodes 1 and 2.
+#[derive(Clone, Copy, Debug, PartialEq, Eq)]
+pub struct Said {
+    /// Of node 1.
+    pub one: Indication,
+    /// Of node 2.
+    pub two: Indication,
+    /// How many challenges to node 2 no item answers.
+    pub open: usize,
+}
+
+/// What the store says, whose directory lists both nodes.
+pub fn said_by<S: Evidence<Tally>>(store: &S) -> Result<Said, Fail> {
+    Ok(Said {
+        one: store.indication(NodeId(1))?,
+        two: store.indication(NodeId(2))?,
+        open: store.open_challenges(NodeId(2))?.len(),
+    })
+}
