@@ -134,8 +134,8 @@ module _ (items : List Checked) (j place : ℕ) (x : Checked) (here : slice_get 
             inl (one_suffices (λ (p : Span). answers_at items place p.item) spans stands.0 stands.1 (ap (answers_at items place) stands.2 ∙ answered_at items place i x d here at ∙ h))
         by_answerer d i at has h (acknowledgement m is group own) = inr (has_acknowledgement x.item.fields m is (d, has, group))
 
-    -- So two look-ups tell whether the challenge is answered.
-    pub answered_is : (b : Bool) → list_any (λ (p : Span). answers_at items place p.item) spans ≡ false → IsTrue b ↔ HasAcknowledgement items x.item.fields → b ≡ is_answered items x.item.fields
-    answered_is b none ack = same_test b (is_answered items x.item.fields)
-        (λ h. by_acknowledgement (ack.0 h))
-        (λ h. ⊎_elim (λ some. absurd (cc (some, none))) (λ a. ack.1 a) (answered_so h))
+    -- So where no acknowledgement was found the segments tell whether the challenge is answered.
+    pub answered_by_spans : (HasAcknowledgement items x.item.fields → ⊥) → list_any (λ (p : Span). answers_at items place p.item) spans ≡ is_answered items x.item.fields
+    answered_by_spans none = same_test (list_any (λ (p : Span). answers_at items place p.item) spans) (is_answered items x.item.fields)
+        (λ h. by_segment h)
+        (λ h. ⊎_elim (λ some. some) (λ a. absurd (none a)) (answered_so h))

@@ -15,10 +15,12 @@ pub mod OneMore
 pub mod Opened
 pub mod Places
 pub mod Positioned
+pub mod Receipts
 pub mod Reserved
 pub mod RowLists
 pub mod Searching
 pub mod Segmented
+pub mod Sendings
 pub mod Spans
 pub mod Stated
 pub mod Stepping

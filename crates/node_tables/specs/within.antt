@@ -2,3 +2,4 @@
 pub mod Bringing
 pub mod Placing
 pub mod Promising
+pub mod Sendings

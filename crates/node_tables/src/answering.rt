@@ -5,10 +5,12 @@ ghost use Rattle.std.specs.List.{filter, list_any};
 ghost use Rattle.evidence_set.specs.Challenges.{is_against};
 ghost use Rattle.kept_evidence.specs.Telling.{is_answered};
 ghost use Rattle.node_tables.specs.declared.span.Span.{Span as TheSpan};
-ghost use Rattle.node_tables.specs.Places.{IsAcknowledged, IsOrder};
-ghost use Rattle.node_tables.specs.within.Placing.{AreOthers, HasAcknowledgement, answers_at};
+ghost use Rattle.node_tables.specs.Places.{AscendBySpelling, IsAcknowledged, IsOrder};
+ghost use Rattle.node_tables.specs.within.Placing.{AreOthers, HasAcknowledgement, IsAckAt, answers_at};
+ghost use Rattle.node_tables.specs.within.Sendings.{acknowledged, acknowledged_by};
 
 use crate::order::GroupProbe;
+use crate::sending::{Sending, take_sending};
 use crate::span::Span;
 use authenticators::NodeId;
 use evidence_item::{Form, Message};
@@ -29,13 +31,44 @@ fn answers_at<P>(items: &[KeptItem<P>], challenge: u32, answer: u32) -> bool
     }
 }
 
-/// Takes away the challenges that the item at a place answers.
-pub(crate) fn close<P>(items: &[KeptItem<P>], unanswered: &mut Vec<u32>, answer: u32)
+/// The sender, the receiver and the number of the message that the item acknowledges, where it acknowledges one.
+fn acknowledged<P>(kept: &KeptItem<P>) -> Option<Sending>
+    ensures { result ≡ acknowledged kept.now.item.fields }
+{
+    let Some(item) = kept.as_item() else {
+        return None;
+    };
+    match item.form() {
+        Form::Auth(_) | Form::Segment(_) | Form::Audit(_) | Form::Send(_) => None,
+        Form::Ack(ack) => Some(Sending {
+            from: ack.message.from,
+            to: ack.message.to,
+            seq: ack.message.seq,
+        }),
+    }
+}
+
+/// The same of the item at a place.
+fn acknowledged_at<P>(items: &[KeptItem<P>], place: u32) -> Option<Sending>
+    ensures { result ≡ acknowledged_by (slice_get items.now place) }
+{
+    match items.get(place as usize) {
+        None => None,
+        Some(kept) => acknowledged(kept),
+    }
+}
+
+/// Takes away the challenges that the acknowledgement at a place answers. They are looked up.
+pub(crate) fn close_acknowledged<P>(items: &[KeptItem<P>], unanswered: &mut Vec<u32>, answer: u32)
+    requires here { IsAckAt items.now answer }
+    requires asked { AscendBySpelling items.now unanswered.old.items }
     ensures items { unanswered.new.items ≡ filter (λ i. not (answers_at items.now i answer)) unanswered.old.items }
     ensures len { vec_len unanswered.new ≤ vec_len unanswered.old }
     ensures capacity { vec_capacity unanswered.new ≡ vec_capacity unanswered.old }
 {
-    unanswered.retain(|challenge| !answers_at(items, *challenge, answer));
+    if let Some(sending) = acknowledged_at(items, answer) {
+        take_sending(items, unanswered, &sending);
+    }
 }
 
 /// Whether one of the segments answers the challenge at a place.
@@ -81,8 +114,8 @@ fn has_acknowledgement<P>(
     }
 }
 
-/// Whether some item answers the challenge against the node at the place. It looks at the node's segments, which are those that are
-/// given.
+/// Whether some item answers the challenge against the node at the place. It looks an acknowledgement up, and only where there is none
+/// at the node's segments, which are those that are given.
 pub(crate) fn is_answered<P>(
     items: &[KeptItem<P>],
     order: &TieredVec<u32>,
@@ -97,8 +130,8 @@ pub(crate) fn is_answered<P>(
     requires others { AreOthers items.now node place spans.now }
     ensures { result ≡ is_answered items.now challenge.now.item.fields }
 {
-    if one_answers(items, spans, place) {
+    if has_acknowledgement(items, order, challenge) {
         return true;
     }
-    has_acknowledgement(items, order, challenge)
+    one_answers(items, spans, place)
 }

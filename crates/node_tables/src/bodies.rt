@@ -11,7 +11,8 @@ ghost use Rattle.node_tables.specs.Steps.{AllTables, AscendByNode, EachBecomes};
 ghost use Rattle.node_tables.specs.Tables.{IsSegmentAt, IsTold};
 ghost use Rattle.node_tables.specs.within.Placing.{AreAgainst, AreOthers, BodyRooms, BodyRoomsOf, BodyStep, IsAckAt, IsNewAmong, subject_by};
 
-use crate::answering::{close, is_answered};
+use crate::answering::{close_acknowledged, is_answered};
+use crate::closing::close_by_segment;
 use crate::order::compare_kept_at;
 use crate::segments::put_segment;
 use crate::table::Table;
@@ -33,7 +34,7 @@ fn put_whole_segment<P>(items: &[KeptItem<P>], table: &mut Table, place: u32)
     ensures counts { KeepsPromises table.old table.new }
 {
     put_segment(items, table, place);
-    close(items, &mut table.unanswered, place);
+    close_by_segment(items, &mut table.unanswered, table.node, place);
 }
 
 /// Puts an acknowledgement: it answers challenges.
@@ -47,7 +48,7 @@ fn put_acknowledgement<P>(items: &[KeptItem<P>], table: &mut Table, place: u32)
     ensures rooms { BodyRooms table.old table.new }
     ensures counts { KeepsPromises table.old table.new }
 {
-    close(items, &mut table.unanswered, place);
+    close_acknowledged(items, &mut table.unanswered, place);
 }
 
 /// Where the item at a place, which is a new one, would stand among places that ascend by spelling.

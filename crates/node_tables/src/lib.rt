@@ -26,6 +26,7 @@ pub use tables::place_of;
 
 mod answering;
 mod bodies;
+mod closing;
 mod edge;
 mod exposure;
 mod finding;
@@ -36,6 +37,7 @@ mod releasing;
 mod reserving;
 mod row;
 mod segments;
+mod sending;
 mod span;
 mod table;
 mod tables;

@@ -3,3 +3,5 @@ pub mod Filled
 pub mod Grown
 pub mod Narrowed
 pub mod Whole
+mod Products
+mod Widened

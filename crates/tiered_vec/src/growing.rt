@@ -3,7 +3,7 @@
 ghost use Rattle.std.specs.Prelude.{◌≡◌, ◌*◌, ◌<◌, ◌≤◌, ℕ, OnOk, length, slice_index};
 ghost use Rattle.tiered_vec.specs.within.Tiering.{AreFilled, HaveRoom, capacities, items_of, lengths};
 
-use crate::tier::{TIER, grow};
+use crate::tier::grow;
 use outcome::Memory;
 use std::alloc::Global;
 use std::collections::VecDeque;
@@ -12,14 +12,17 @@ use std::collections::VecDeque;
 pub(crate) fn add_tiers<T: Drop>(
     tiers: &mut Vec<VecDeque<T>>,
     alloc: Global,
+    size: usize,
     most: usize,
 ) -> Result<(), Memory>
+    requires some { 0 < size }
     ensures items { items_of tiers.new.items ≡ items_of tiers.old.items }
-    ensures filled { AreFilled (lengths tiers.old.items) (length (items_of tiers.old.items)) → AreFilled (lengths tiers.new.items) (length (items_of tiers.old.items)) }
-    ensures room { (n : ℕ) → HaveRoom (capacities tiers.old.items) n → HaveRoom (capacities tiers.new.items) n }
-    ensures enough { OnOk result (most ≤ TIER * length tiers.new.items) }
+    ensures filled { AreFilled size (lengths tiers.old.items) (length (items_of tiers.old.items)) → AreFilled size (lengths tiers.new.items) (length (items_of tiers.old.items)) }
+    ensures room { (n : ℕ) → HaveRoom size (capacities tiers.old.items) n → HaveRoom size (capacities tiers.new.items) n }
+    ensures enough { OnOk result (most ≤ size * length tiers.new.items) }
 {
-    while tiers.len().saturating_mul(TIER) < most {
+    let count = most.div_ceil(size);
+    while tiers.len() < count {
         tiers.push(VecDeque::new(alloc))?;
     }
     Ok(())
@@ -28,20 +31,21 @@ pub(crate) fn add_tiers<T: Drop>(
 /// Makes room for so many elements in all in the tiers from one on; those before it are full.
 pub(crate) fn grow_tiers<T: Drop>(
     tiers: &mut [VecDeque<T>],
+    size: usize,
     first: usize,
     most: usize,
 ) -> Result<(), Memory>
-    requires enough { most ≤ TIER * length tiers.old }
+    requires enough { most ≤ size * length tiers.old }
     requires within { first ≤ length tiers.old }
-    requires full { (k : ℕ) → k < first → TIER ≤ slice_index (lengths tiers.old) k }
+    requires full { (k : ℕ) → k < first → size ≤ slice_index (lengths tiers.old) k }
     ensures items { items_of tiers.new ≡ items_of tiers.old }
     ensures lengths { lengths tiers.new ≡ lengths tiers.old }
-    ensures room { (n : ℕ) → HaveRoom (capacities tiers.old) n → HaveRoom (capacities tiers.new) n }
-    ensures grown { OnOk result (HaveRoom (capacities tiers.new) most) }
+    ensures room { (n : ℕ) → HaveRoom size (capacities tiers.old) n → HaveRoom size (capacities tiers.new) n }
+    ensures grown { OnOk result (HaveRoom size (capacities tiers.new) most) }
 {
     for tier in first..tiers.len() {
-        let full = tier.saturating_mul(TIER);
-        grow(&mut tiers[tier], most.saturating_sub(full).min(TIER))?;
+        let full = tier.saturating_mul(size);
+        grow(&mut tiers[tier], size, most.saturating_sub(full).min(size))?;
     }
     Ok(())
 }

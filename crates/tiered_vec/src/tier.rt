@@ -1,4 +1,4 @@
-//! One tier, a ring of at most `TIER` elements.
+//! One tier, a ring of at most so many elements as each tier of its list.
 
 ghost use Rattle.std.specs.Prelude.{◌≡◌, ◌↔◌, ◌+◌, ◌<◌, ◌≤◌, ◌++◌, IsSome, OnOk, min};
 ghost use Rattle.std.specs.List.{insert};
@@ -8,8 +8,22 @@ ghost use Rattle.std.specs.VecDeque.{deque_capacity, deque_len};
 use outcome::Memory;
 use std::collections::VecDeque;
 
-/// How many elements a full tier has.
-pub(crate) const TIER: usize = 1024;
+/// How many elements a full tier of a short list has.
+pub(crate) const LEAST: usize = 1024;
+
+/// How many a full tier has at most.
+const GREATEST: usize = 1 << 20;
+
+/// How many elements a full tier has in a list of so many: four times as many as there are tiers, or more.
+pub(crate) fn size_for(most: usize) -> usize
+    ensures { LEAST ≤ result }
+{
+    let mut size = LEAST;
+    while size < GREATEST && size.saturating_mul(size / 4) < most {
+        size *= 2;
+    }
+    size
+}
 
 /// Puts an element at a place of a tier that has room for it.
 fn put_at<T: Drop>(tier: &mut VecDeque<T>, place: usize, x: T)
@@ -29,17 +43,17 @@ fn put_at<T: Drop>(tier: &mut VecDeque<T>, place: usize, x: T)
 }
 
 /// Puts an element at a place of a tier. Out of a full one the last element drops, and is handed back.
-pub(crate) fn put<T: Drop>(tier: &mut VecDeque<T>, place: usize, x: T) -> Option<T>
+pub(crate) fn put<T: Drop>(tier: &mut VecDeque<T>, size: usize, place: usize, x: T) -> Option<T>
     requires inside { place ≤ deque_len tier.old }
-    requires below { place < TIER }
-    requires size { deque_len tier.old ≤ TIER }
-    requires room { deque_len tier.old < TIER → deque_len tier.old < deque_capacity tier.old }
+    requires below { place < size }
+    requires most { deque_len tier.old ≤ size }
+    requires room { deque_len tier.old < size → deque_len tier.old < deque_capacity tier.old }
     ensures items { tier.new.items ++ option_to_list result ≡ insert tier.old.items place x }
-    ensures len { deque_len tier.new ≡ min TIER (deque_len tier.old + 1) }
-    ensures full { IsSome result ↔ (deque_len tier.old ≡ TIER) }
+    ensures len { deque_len tier.new ≡ min size (deque_len tier.old + 1) }
+    ensures full { IsSome result ↔ (deque_len tier.old ≡ size) }
     ensures capacity { deque_capacity tier.old ≤ deque_capacity tier.new }
 {
-    if tier.len() < TIER {
+    if tier.len() < size {
         put_at(tier, place, x);
         return None;
     }
@@ -53,8 +67,8 @@ pub(crate) fn put<T: Drop>(tier: &mut VecDeque<T>, place: usize, x: T) -> Option
 }
 
 /// Makes room for so many elements in all, at most those of a full tier. It grows as a `Vec` does, up to a full tier.
-pub(crate) fn grow<T>(tier: &mut VecDeque<T>, most: usize) -> Result<(), Memory>
-    requires { most ≤ TIER }
+pub(crate) fn grow<T>(tier: &mut VecDeque<T>, size: usize, most: usize) -> Result<(), Memory>
+    requires { most ≤ size }
     ensures items { tier.new.items ≡ tier.old.items }
     ensures len { deque_len tier.new ≡ deque_len tier.old }
     ensures capacity { deque_capacity tier.old ≤ deque_capacity tier.new }
@@ -63,8 +77,8 @@ pub(crate) fn grow<T>(tier: &mut VecDeque<T>, most: usize) -> Result<(), Memory>
     if most <= tier.capacity() {
         return Ok(());
     }
-    if most > TIER / 2 {
-        return tier.reserve_exact(TIER - tier.len());
+    if most > size / 2 {
+        return tier.reserve_exact(size - tier.len());
     }
     tier.reserve(most - tier.len())
 }

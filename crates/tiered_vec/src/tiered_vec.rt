@@ -7,12 +7,14 @@ ghost use Rattle.std.specs.List.Sorted.{IsBinarySearchResult, IsSearchInRange};
 use crate::growing::{add_tiers, grow_tiers};
 use crate::probe::Probe;
 use crate::putting::put_in;
-use crate::tier::TIER;
+use crate::tier::{LEAST, size_for};
+use crate::widening::append_all;
 use outcome::Memory;
 use std::alloc::{AllocError, Global};
 use std::cmp::Ordering;
 use std::collections::VecDeque;
 use std::marker::Model;
+use std::mem;
 
 /// A list into which elements are put at any place. A contract sees the elements, and for how many more room was made.
 #[derive(Drop)]
@@ -20,6 +22,8 @@ pub struct TieredVec<T> {
     alloc: Global,
     /// All full but the last; behind that one there may be empty ones.
     tiers: Vec<VecDeque<T>>,
+    /// How many elements a full tier has.
+    size: usize,
     len: usize,
     /// How many elements there is room for in all.
     most: usize,
@@ -37,7 +41,7 @@ impl<T> Model for TieredVec<T> {
 
     ghost view = { λ v. record { items = items_of v.tiers.items; room = v.most - v.len } };
 
-    ghost invariant = { λ v. AreTiers v.tiers.items v.len v.most };
+    ghost invariant = { λ v. AreTiers v.size v.tiers.items v.len v.most };
 }
 
 impl<T: Drop> TieredVec<T> {
@@ -45,9 +49,19 @@ impl<T: Drop> TieredVec<T> {
     pub fn new(alloc: Global) -> TieredVec<T>
         ensures { result.items ≡ [] }
     {
+        TieredVec::of_size(alloc, LEAST)
+    }
+
+    /// An empty list of tiers of so many elements.
+    fn of_size(alloc: Global, size: usize) -> TieredVec<T>
+        requires { 0 < size }
+        ensures items { result.items ≡ [] }
+        ensures room { result.room ≡ 0 }
+    {
         TieredVec {
             alloc,
             tiers: Vec::new(alloc),
+            size,
             len: 0,
             most: 0,
         }
@@ -71,7 +85,8 @@ impl<T: Drop> TieredVec<T> {
         }
     }
 
-    /// Makes room for so many more elements. Where memory ends, the elements and the room are as before.
+    /// Makes room for so many more elements. Where memory ends, the elements and the room are as before. Now and then it moves all
+    /// elements into wider tiers, and has room for both meanwhile: each time the list is four times as long.
     pub fn reserve(&mut self, more: usize) -> Result<(), Memory>
         ensures same { self.new.items ≡ self.old.items }
         ensures kept { self.old.room ≤ self.new.room }
@@ -83,9 +98,39 @@ impl<T: Drop> TieredVec<T> {
         if most <= self.most {
             return Ok(());
         }
-        add_tiers(&mut self.tiers, self.alloc, most)?;
-        grow_tiers(&mut self.tiers, self.len / TIER, most)?;
+        let size = size_for(most);
+        if size > self.size {
+            return self.widen(size, most);
+        }
+        self.make_room(most)
+    }
+
+    /// Makes room for so many elements in all, in tiers of the size that they have.
+    fn make_room(&mut self, most: usize) -> Result<(), Memory>
+        requires { length self.old.items + self.old.room ≤ most }
+        ensures same { self.new.items ≡ self.old.items }
+        ensures kept { self.old.room ≤ self.new.room }
+        ensures room { OnOk result (most ≤ length self.new.items + self.new.room) }
+    {
+        add_tiers(&mut self.tiers, self.alloc, self.size, most)?;
+        grow_tiers(&mut self.tiers, self.size, self.len / self.size, most)?;
         self.most = most;
+        Ok(())
+    }
+
+    /// The same in tiers of another size, into which all elements are moved.
+    fn widen(&mut self, size: usize, most: usize) -> Result<(), Memory>
+        requires some { 0 < size }
+        requires more { length self.old.items + self.old.room ≤ most }
+        ensures same { self.new.items ≡ self.old.items }
+        ensures kept { self.old.room ≤ self.new.room }
+        ensures room { OnOk result (most ≤ length self.new.items + self.new.room) }
+    {
+        let mut wide = TieredVec::of_size(self.alloc, size);
+        wide.make_room(most)?;
+        let tiers = mem::replace(&mut self.tiers, Vec::new(self.alloc));
+        append_all(&mut wide, tiers);
+        *self = wide;
         Ok(())
     }
 
@@ -97,7 +142,7 @@ impl<T: Drop> TieredVec<T> {
         ensures items { self.new.items ≡ insert self.old.items place x }
         ensures room { self.old.room ≤ self.new.room + 1 }
     {
-        put_in(&mut self.tiers, place, x);
+        put_in(&mut self.tiers, self.size, place, x);
         self.len += 1;
     }
 
@@ -106,7 +151,7 @@ impl<T: Drop> TieredVec<T> {
         requires { place < length self.now.items }
         ensures { result.now ≡ slice_index_or self.now.items place result.now }
     {
-        &self.tiers[place / TIER][place % TIER]
+        &self.tiers[place / self.size][place % self.size]
     }
 
     /// Where what is looked for lies: `Ok` of its place, or, where the elements ascend and it is not there, `Err` of the place where

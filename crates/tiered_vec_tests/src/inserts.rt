@@ -71,3 +71,74 @@ fn inserts_are_those_of_a_vec(rt: HostRuntime) -> Result<(), Fail> {
     }
     Ok(())
 }
+
+/// More elements than there is room for in tiers of the first size.
+const WIDER: usize = 300_000;
+
+/// Where the number of so many goes that comes next, in an order of arrival.
+#[derive(Clone, Copy, Debug)]
+enum Arrival {
+    Ascending,
+    Falling,
+    /// At the front and at the end in turn.
+    InTurn,
+}
+
+impl Arrival {
+    fn place(self, n: usize, len: usize) -> usize {
+        match self {
+            Arrival::Ascending => len,
+            Arrival::Falling => 0,
+            Arrival::InTurn => { if n % 2 == 0 { 0 } else { len } }
+        }
+    }
+
+    /// The number that stands at a place of so many.
+    fn at(self, place: usize, count: usize) -> usize {
+        let half = count.div_ceil(2);
+        match self {
+            Arrival::Ascending => place,
+            Arrival::Falling => count.saturating_sub(place).saturating_sub(1),
+            Arrival::InTurn => {
+                if place < half {
+                    half.saturating_sub(place)
+                        .saturating_sub(1)
+                        .saturating_mul(2)
+                } else {
+                    place
+                        .saturating_sub(half)
+                        .saturating_mul(2)
+                        .saturating_add(1)
+                }
+            }
+        }
+    }
+}
+
+/// Half of the elements come before the tiers are made wider, half behind that.
+fn arrived(alloc: Global, count: usize, arrival: Arrival) -> Result<TieredVec<usize>, Memory> {
+    let mut list = TieredVec::new(alloc);
+    for n in 0..count {
+        if n == count / 2 {
+            list.reserve(WIDER)?;
+        }
+        let place = arrival.place(n, list.len());
+        put(&mut list, place, n)?;
+    }
+    Ok(list)
+}
+
+/// Whether each number stands where it should, once so many have come.
+fn arrive_as_told(alloc: Global, count: usize, arrival: Arrival) -> Result<bool, Memory> {
+    let list = arrived(alloc, count, arrival)?;
+    let there = (0..count).all(|place| list.get(place) == Some(&arrival.at(place, count)));
+    Ok(there && list.len() == count)
+}
+
+#[test]
+fn elements_stand_where_they_were_put_in_wider_tiers_too(rt: HostRuntime) -> Result<(), Fail> {
+    for arrival in [Arrival::Ascending, Arrival::Falling, Arrival::InTurn] {
+        assert!(rt; arrive_as_told(rt.alloc(), 10_000, arrival)?, "{arrival:?}");
+    }
+    Ok(())
+}

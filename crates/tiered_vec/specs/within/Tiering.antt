@@ -3,7 +3,6 @@ use Rattle.std.specs.Prelude.{◌≡◌, ℕ, ◌*◌, ◌-◌, ◌<◌, ◌≤�
 use Rattle.std.specs.List.{flat_map}
 use Rattle.std.specs.VecDeque.{deque_capacity, deque_items, deque_len}
 use Rattle.std.specs.declared.collections.VecDeque.{VecDeque}
-use Rattle.tiered_vec.specs.declared.tier.TheConstants.{TIER}
 
 module _ {X Z : Type 0} where
   -- The elements of all tiers, those of one after those of the other.
@@ -18,18 +17,19 @@ module _ {X Z : Type 0} where
   abbrev pub capacities : List (VecDeque X Z) → List ℕ
   capacities tiers = map (λ (t : VecDeque X Z). deque_capacity t) tiers
 
--- Of n elements each tier has those that are left by the full ones before it, as many as it can.
-pub record AreFilled (lengths : List ℕ) (n : ℕ) : Type 0 where
-  pub each : (k : ℕ) → k < length lengths → slice_index lengths k ≡ min TIER (n - TIER * k)
+-- Of n elements each tier of so many at most has those that are left by the full ones before it, as many as it can.
+pub record AreFilled (size : ℕ) (lengths : List ℕ) (n : ℕ) : Type 0 where
+  pub each : (k : ℕ) → k < length lengths → slice_index lengths k ≡ min size (n - size * k)
 
 -- The tiers have room for n elements that are kept so.
-pub record HaveRoom (capacities : List ℕ) (n : ℕ) : Type 0 where
-  pub each : (k : ℕ) → k < length capacities → min TIER (n - TIER * k) ≤ slice_index capacities k
-  pub enough : n ≤ TIER * length capacities
+pub record HaveRoom (size : ℕ) (capacities : List ℕ) (n : ℕ) : Type 0 where
+  pub each : (k : ℕ) → k < length capacities → min size (n - size * k) ≤ slice_index capacities k
+  pub enough : n ≤ size * length capacities
 
 -- The tiers hold n elements, and have room for as many as `most`.
-pub record AreTiers {X Z : Type 0} (tiers : List (VecDeque X Z)) (n most : ℕ) : Type 0 where
+pub record AreTiers {X Z : Type 0} (size : ℕ) (tiers : List (VecDeque X Z)) (n most : ℕ) : Type 0 where
   pub total : length (items_of tiers) ≡ n
-  pub filled : AreFilled (lengths tiers) n
-  pub room : HaveRoom (capacities tiers) most
+  pub filled : AreFilled size (lengths tiers) n
+  pub room : HaveRoom size (capacities tiers) most
   pub within : n ≤ most
+  pub some : 0 < size

@@ -1,10 +1,11 @@
 use Rattle.std.proofs.Common.{sym, ◌∙◌}
-use Rattle.node_tables.proofs.Answerers.{answered_is, by_segment}
+use Rattle.node_tables.proofs.Answerers.{answered_by_spans, by_acknowledgement}
 use Rattle.node_tables.proofs.answering.is_answered.Goals as goal
 
-pub returns-then-one_answers : goal.returns-then-one_answers
-returns-then-one_answers g c = sym (by_segment c.args.items.now c.args.node c.args.place c.args.challenge.now c.requires.here c.args.spans.now (sym c.one_answers.ensures ∙ c.if-one_answers.true))
+pub returns-then-has_acknowledgement : goal.returns-then-has_acknowledgement
+returns-then-has_acknowledgement g c = sym (by_acknowledgement c.args.items.now c.args.node c.args.place c.args.challenge.now c.requires.here c.args.spans.now (c.has_acknowledgement.ensures.0 c.if-has_acknowledgement.true))
 
 pub returns : goal.returns
-returns g c = answered_is c.args.items.now c.args.node c.args.place c.args.challenge.now c.requires.here c.args.spans.now c.requires.against c.requires.others c.has_acknowledgement.result
-    (sym c.one_answers.ensures ∙ c.if-one_answers.false) c.has_acknowledgement.ensures
+returns g c =
+    c.one_answers.ensures ∙ answered_by_spans c.args.items.now c.args.node c.args.place c.args.challenge.now c.requires.here c.args.spans.now c.requires.against c.requires.others
+    (λ h. let yes = c.has_acknowledgement.ensures.1 h in let no = c.if-has_acknowledgement.false in cc (yes, no))

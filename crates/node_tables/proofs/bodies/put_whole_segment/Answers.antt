@@ -1,5 +1,6 @@
 use Rattle.std.proofs.Common.{refl, sym, subst}
 use Rattle.node_tables.specs.Places.{AscendBySpelling}
+use Rattle.node_tables.specs.Tables.{IsSegmentAt}
 use Rattle.node_tables.proofs.Asked.{asked_closed}
 use Rattle.node_tables.proofs.Bodied.{segment_closes}
 use Rattle.node_tables.proofs.bodies.put_whole_segment.Goals as goal
@@ -7,11 +8,14 @@ use Rattle.node_tables.proofs.bodies.put_whole_segment.Goals as goal
 pub returns-clause-step : goal.returns-clause-step
 returns-clause-step g c =
     let v = c.put_segment.new.table in
-    segment_closes c.args.items.now c.args.place c.args.table.now (record { node = v.node; rows = v.rows; spans = v.spans; unanswered = c.close.new.unanswered; exposure = v.exposure; promised = v.promised; bodies = v.bodies }) v
-    c.put_segment.ensures.step c.requires.segment refl refl refl c.close.ensures.items
+    segment_closes c.args.items.now c.args.place c.args.table.now (record { node = v.node; rows = v.rows; spans = v.spans; unanswered = c.close_by_segment.new.unanswered; exposure = v.exposure; promised = v.promised; bodies = v.bodies }) v
+    c.put_segment.ensures.step c.requires.segment refl refl refl c.close_by_segment.ensures.items
 
 pub returns-clause-asked : goal.returns-clause-asked
 returns-clause-asked g c =
     let v = c.put_segment.new.table in
-    asked_closed c.args.items.now c.args.place v.unanswered.items c.close.new.unanswered.items c.close.ensures.items
+    asked_closed c.args.items.now c.args.place v.unanswered.items c.close_by_segment.new.unanswered.items c.close_by_segment.ensures.items
     (subst (λ w. AscendBySpelling c.args.items.now w.items) (sym c.put_segment.ensures.step.unanswered) c.requires.asked)
+
+pub close_by_segment-requires-clause-segment : goal.close_by_segment-requires-clause-segment
+close_by_segment-requires-clause-segment g c = subst (λ n. IsSegmentAt c.args.items.now n c.args.place) (sym c.put_segment.ensures.step.node) c.requires.segment

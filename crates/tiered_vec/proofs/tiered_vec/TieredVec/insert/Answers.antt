@@ -12,4 +12,4 @@ invariant_of-self g c =
     let inside = c.requires.inside in
     let roomy = c.requires.room in
     let put = c.put_in.ensures in
-    tiers_put v.tiers.items c.deref_mut.result.now c.put_in.new.tiers v.tiers.len v.len v.most c.args.place c.args.x c.self.invariant c.deref_mut.ensures.value v.tiers.ok.0 c.put_in.auto.tiers (omega arith) (omega arith) put.items put.filled put.room
+    tiers_put v.size v.tiers.items c.deref_mut.result.now c.put_in.new.tiers v.tiers.len v.len v.most c.args.place c.args.x c.self.invariant c.deref_mut.ensures.value v.tiers.ok.0 c.put_in.auto.tiers (omega arith) (omega arith) put.items put.filled put.room

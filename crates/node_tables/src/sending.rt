@@ -1,0 +1,120 @@
+//! Send challenges of one sender, receiver and number, which stand together among challenges and are answered together.
+
+ghost use Rattle.std.specs.Prelude.{◌≡◌, ◌≤◌, length, not, slice_get, true, false, vec_capacity, vec_len};
+ghost use Rattle.std.specs.List.{filter, remove_range};
+ghost use Rattle.std.specs.List.Sorted.{IsPartitionPoint};
+ghost use Rattle.node_tables.specs.Places.{AscendBySpelling};
+ghost use Rattle.node_tables.specs.within.Sendings.{is_at, is_before, is_up_to, message_cmp, sending_cmp, sending_order_by};
+
+use authenticators::NodeId;
+use evidence_item::{Form, Message};
+use kept_items::KeptItem;
+use std::cmp::Ordering;
+use std::ops::Range;
+
+/// What messages are told apart by: their sender, their receiver and their number.
+#[derive(Clone, Copy, Debug)]
+pub(crate) struct Sending {
+    pub(crate) from: NodeId,
+    pub(crate) to: NodeId,
+    pub(crate) seq: u64,
+}
+
+fn compare_message(message: &Message, sending: &Sending) -> Ordering
+    ensures { result ≡ message_cmp sending.now message.now }
+{
+    message
+        .from
+        .0
+        .cmp(&sending.from.0)
+        .then_with(|| message.to.0.cmp(&sending.to.0))
+        .then_with(|| message.seq.cmp(&sending.seq))
+}
+
+/// Whether an item stands before, in or behind the send challenges of the sending.
+fn compare_sending<P>(kept: &KeptItem<P>, sending: &Sending) -> Ordering
+    ensures { result ≡ sending_cmp sending.now kept.now.item.fields }
+{
+    let Some(item) = kept.as_item() else {
+        return Ordering::Less;
+    };
+    match item.form() {
+        Form::Auth(_) | Form::Segment(_) | Form::Audit(_) => Ordering::Less,
+        Form::Send(message) => compare_message(message, sending),
+        Form::Ack(_) => Ordering::Greater,
+    }
+}
+
+/// The same of the item at a place.
+fn compare_at<P>(items: &[KeptItem<P>], place: u32, sending: &Sending) -> Ordering
+    ensures { result ≡ sending_order_by sending.now (slice_get items.now place) }
+{
+    match items.get(place as usize) {
+        None => Ordering::Greater,
+        Some(kept) => compare_sending(kept, sending),
+    }
+}
+
+fn is_before<P>(items: &[KeptItem<P>], place: u32, sending: &Sending) -> bool
+    ensures { result ≡ is_before sending.now (slice_get items.now place) }
+{
+    compare_at(items, place, sending).is_lt()
+}
+
+fn is_up_to<P>(items: &[KeptItem<P>], place: u32, sending: &Sending) -> bool
+    ensures { result ≡ is_up_to sending.now (slice_get items.now place) }
+{
+    compare_at(items, place, sending).is_le()
+}
+
+/// The edge of the places whose items stand before the send challenges of the sending.
+fn edge_before<P>(items: &[KeptItem<P>], places: &[u32], sending: &Sending) -> usize
+    requires { AscendBySpelling items.now places.now }
+    ensures inside { result ≤ length places.now }
+    ensures edge { IsPartitionPoint (λ i. is_before sending.now (slice_get items.now i) ≡ true) (λ i. is_before sending.now (slice_get items.now i) ≡ false) places.now result }
+{
+    places.partition_point(|place| is_before(items, *place, sending))
+}
+
+/// The edge of the places whose items do not stand behind them.
+fn edge_up_to<P>(items: &[KeptItem<P>], places: &[u32], sending: &Sending) -> usize
+    requires { AscendBySpelling items.now places.now }
+    ensures inside { result ≤ length places.now }
+    ensures edge { IsPartitionPoint (λ i. is_up_to sending.now (slice_get items.now i) ≡ true) (λ i. is_up_to sending.now (slice_get items.now i) ≡ false) places.now result }
+{
+    places.partition_point(|place| is_up_to(items, *place, sending))
+}
+
+/// Where the send challenges of the sending stand among places that ascend by spelling. They are looked up by binary search.
+fn places_of<P>(items: &[KeptItem<P>], places: &[u32], sending: &Sending) -> Range<usize>
+    requires { AscendBySpelling items.now places.now }
+    ensures order { result.start ≤ result.end }
+    ensures inside { result.end ≤ length places.now }
+    ensures others { remove_range places.now result.start result.end ≡ filter (λ i. not (is_at sending.now (slice_get items.now i))) places.now }
+{
+    let start = edge_before(items, places, sending);
+    let end = edge_up_to(items, places, sending);
+    start..end
+}
+
+/// Takes away what stands there.
+fn take_away(places: &mut Vec<u32>, near: Range<usize>)
+    requires order { near.start ≤ near.end }
+    requires inside { near.end ≤ vec_len places.old }
+    ensures items { places.new.items ≡ remove_range places.old.items near.start near.end }
+    ensures len { vec_len places.new ≤ vec_len places.old }
+    ensures capacity { vec_capacity places.new ≡ vec_capacity places.old }
+{
+    places.drain(near.start..near.end);
+}
+
+/// Takes away the send challenges of the sending.
+pub(crate) fn take_sending<P>(items: &[KeptItem<P>], places: &mut Vec<u32>, sending: &Sending)
+    requires { AscendBySpelling items.now places.old.items }
+    ensures items { places.new.items ≡ filter (λ i. not (is_at sending.now (slice_get items.now i))) places.old.items }
+    ensures len { vec_len places.new ≤ vec_len places.old }
+    ensures capacity { vec_capacity places.new ≡ vec_capacity places.old }
+{
+    let near = places_of(items, places, sending);
+    take_away(places, near);
+}
