@@ -145,13 +145,13 @@ fn add_new<P: Program>(
     add(directory, items, order, tables, gap, item);
 }
 
-/// Puts each of the items in its place, where it is not there yet. There is room for all of them.
+/// Puts each of the items in its place, the first one first, where it is not there yet. There is room for all of them.
 fn add_each<P: Program>(
     directory: &Directory,
     items: &mut Vec<KeptItem<P>>,
     order: &mut TieredVec<u32>,
     tables: &mut [Table],
-    mut more: Vec<KeptItem<P>>,
+    more: Vec<KeptItem<P>>,
 )
     requires store { IsIndexed directory.now P.means items.old.items order.old.items tables.old }
     requires whole { (c : TheChecked) → Contains more.items c → IsWhole directory.now P.means c }
@@ -163,7 +163,7 @@ fn add_each<P: Program>(
     ensures joined { set_of items.new.items ≡ Join (set_of items.old.items) (set_of more.items) }
     ensures grows { length order.old.items ≤ length order.new.items }
 {
-    while let Some(item) = more.pop() {
+    for item in more {
         add_new(directory, items, order, tables, item);
     }
 }
