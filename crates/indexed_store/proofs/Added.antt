@@ -1,5 +1,5 @@
 -- A store with the items of a list more, from the first on.
-use Rattle.std.proofs.Common.{◌≡◌, ◌≤◌, List, [], ◌∷◌, length, refl, sym, ap, subst, ◌∙◌, inl, inr, ⊎_elim, arith}
+use Rattle.std.proofs.Common.{◌≡◌, ◌≤◌, List, [], ◌∷◌, refl, sym, ap, subst, ◌∙◌, inl, inr, ⊎_elim, arith}
 use Rattle.std.specs.List.{Contains}
 use Rattle.authenticators.proofs.AscendingLists.{cons_has, in_cons}
 use Rattle.evidence_item.specs.Checking.{Checked}

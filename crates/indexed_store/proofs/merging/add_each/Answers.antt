@@ -1,4 +1,4 @@
-use Rattle.std.proofs.Common.{◌≡◌, ◌≤◌, ◌∷◌, List, length, refl, subst, sym, ap, arith, rules}
+use Rattle.std.proofs.Common.{◌≡◌, ◌∷◌, List, length, subst, sym, ap, arith, rules}
 use Rattle.std.specs.List.{Contains}
 use Rattle.std.specs.Vec.Iter.{into_iter_items}
 use Rattle.evidence_item.specs.Checking.{Checked}
