@@ -10,6 +10,8 @@ mod demands;
 #[cfg(test)]
 mod digests;
 #[cfg(test)]
+mod lookups;
+#[cfg(test)]
 mod merges;
 #[cfg(test)]
 mod pieces;

@@ -8,6 +8,7 @@ pub mod Bodied
 pub mod Edges
 pub mod Grown
 pub mod Joined
+pub mod Lates
 pub mod Lookup
 pub mod Many
 pub mod Meant

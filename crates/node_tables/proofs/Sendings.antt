@@ -33,7 +33,7 @@ use Rattle.node_tables.proofs.RowLists.{named_at, same_length}
 
 -- ---- a list without what stands between two places
 
-all_stay : {X : Type 0} (p : X → Bool) (xs : List X) → ((k : ℕ) (d : X) → k < length xs → p (get_or xs k d) ≡ false) → xs ≡ filter (λ x. not (p x)) xs
+pub all_stay : {X : Type 0} (p : X → Bool) (xs : List X) → ((k : ℕ) (d : X) → k < length xs → p (get_or xs k d) ≡ false) → xs ≡ filter (λ x. not (p x)) xs
 all_stay p [] h = refl
 all_stay p (x ∷ xs) h =
     let rest : xs ≡ filter (λ y. not (p y)) xs = all_stay p xs (λ k d lt. h (suc k) d (omega (arith, lt))) in
@@ -124,7 +124,7 @@ no_part Less h k = cc
 no_part Equal h k = cc
 no_part Greater h k = cc
 
-some_of : {X : Type 0} (xs : List X) (j : ℕ) → j < length xs → X
+pub some_of : {X : Type 0} (xs : List X) (j : ℕ) → j < length xs → X
 some_of [] j inside = absurd (omega (arith, inside))
 some_of (x ∷ xs) j inside = x
 

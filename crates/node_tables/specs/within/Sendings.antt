@@ -1,5 +1,5 @@
 -- Where an item stands beside the send challenges of one sender, receiver and number.
-use Rattle.std.specs.Prelude.{ℕ, zero, suc, Bool, false, ◌||◌, Option, Some, None}
+use Rattle.std.specs.Prelude.{ℕ, zero, suc, Bool, false, true, ◌||◌, Option, Some, None}
 use Rattle.std.specs.Ordering.{is_eq, is_le, is_lt, nat_cmp, ordering_then}
 use Rattle.std.specs.declared.cmp.Ordering.TheVariants.{Greater}
 use Rattle.std.specs.declared.cmp.Ordering.{Ordering}
@@ -75,3 +75,15 @@ abbrev pub audited_by : Option Checked → Option Checked → Bool
 audited_by None d = false
 audited_by (Some c) None = false
 audited_by (Some c) (Some d) = told_audit c.item.fields d.item.fields
+
+-- The item is of a form that stands behind all audit challenges.
+abbrev pub is_late : Fields → Bool
+is_late (form.Auth a) = false
+is_late (form.Segment s) = false
+is_late (form.Audit c) = false
+is_late (form.Send m) = true
+is_late (form.Ack a) = true
+
+abbrev pub is_late_by : Option Checked → Bool
+is_late_by None = false
+is_late_by (Some c) = is_late c.item.fields

@@ -1,8 +1,13 @@
-use Rattle.std.proofs.Common.{ℕ, rules, not}
+use Rattle.std.proofs.Common.{◌≡◌, ℕ, List, length, false, not, subst, sym, arith}
 use Rattle.std.specs.Prelude.{slice_get}
-use Rattle.std.proofs.lemmas.Fn.{filter_same}
+use Rattle.std.specs.List.{AllWithin}
+use Rattle.node_tables.specs.Places.{AscendBySpelling}
 use Rattle.node_tables.specs.within.Sendings.{audited_by}
+use Rattle.node_tables.proofs.Lates.{none_answered}
 use Rattle.node_tables.proofs.closing.close_audits.Goals as goal
 
-pub returns-clause-items : goal.returns-clause-items
-returns-clause-items g c = filter_same _ (λ (i : ℕ). not (audited_by (slice_get c.args.items.now i) (slice_get c.args.items.now c.args.answer))) _ (λ x b f' k. search rules) _ _ c.retain.ensures.filtered
+pub answers_one-requires : goal.answers_one-requires
+answers_one-requires g c = subst (AscendBySpelling c.args.items.now) (sym c.deref.ensures.value) c.requires
+
+pub returns-else-answers_one-clause-items : goal.returns-else-answers_one-clause-items
+returns-else-answers_one-clause-items g c = none_answered c.args.items.now c.args.answer c.args.unanswered.now.items c.deref.result.now c.deref.ensures.value (c.answers_one.ensures c.if-answers_one.false)
