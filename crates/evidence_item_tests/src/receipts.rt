@@ -29,7 +29,7 @@ fn sender(alloc: Global, nodes: &Nodes) -> Result<Box<Node<Tally>>, Fail> {
 }
 
 /// What node 1 sends to node 2 at its timer: `A` and the moment, which is 5.
-fn sent(alloc: Global, node: &mut Node<Tally>) -> Result<Box<Message>, Fail> {
+fn send_at_timer(alloc: Global, node: &mut Node<Tally>) -> Result<Box<Message>, Fail> {
     let mut messages = node.timer(5, [0; 32])?;
     match messages.pop() {
         Some(message) => Ok(Box::new(alloc, message)?),
@@ -40,7 +40,7 @@ fn sent(alloc: Global, node: &mut Node<Tally>) -> Result<Box<Message>, Fail> {
 fn send_one(alloc: Global) -> Result<Sent, Fail> {
     let nodes = make_nodes(alloc)?;
     let mut node = sender(alloc, &nodes)?;
-    let message = sent(alloc, &mut node)?;
+    let message = send_at_timer(alloc, &mut node)?;
     Ok(Sent { nodes, message })
 }
 

@@ -1,6 +1,5 @@
 //! Demands to acknowledge messages, beside each other: an answer closes those of its number, whatever came first.
 
-use crate::samples::{new_store, take_copy};
 use authenticators::NodeId;
 use commitment::Message;
 use evidence_item::Item;
@@ -9,6 +8,7 @@ use evidence_store::{Evidence, IndexedStore, PlainStore};
 use ref_programs::Tally;
 use std::alloc::Global;
 use std::test::Fail;
+use store_samples::{new_store, take_copy};
 
 /// The demands, and what answers those of node 1's message with the number 7.
 #[derive(Drop)]
