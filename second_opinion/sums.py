@@ -16,7 +16,7 @@ import sys
 
 sys.dont_write_bytecode = True
 
-from fields import sha256
+from check import sha256
 
 TOP = os.path.dirname(os.path.dirname(os.path.abspath(__file__)))
 BUILDS = [f"crates/{name}/out/{name}{ending}" for name in ("node_sim", "mailbox_sim", "explain") for ending in ("", ".by-rattle")]
