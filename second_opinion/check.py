@@ -629,25 +629,24 @@ def texts_of(files, least, most):
             raise Refused(103, name) from None
     return texts
 
-def of_proof(name, directory, proof, why):
-    """The node that a proof convicts, and the sentences, where they are asked for. Directory and proof come with their names."""
+def of_proof(name, directory, proof):
+    """The node that a proof convicts, under which program and directory, and the sentences. Directory and proof come with their names."""
     with at(directory[0]):
         listed = read_directory(directory[1])
     with at(proof[0]):
         parts = read_proof(proof[1])
         node = convicted(listed, PROGRAMS[name], parts)
-    return node, list(sentences(listed, PROGRAMS[name], parts)) if why else []
+    return node, [f"program {name}", f"directory {sha256(directory[1]).hex()}"], sentences(listed, PROGRAMS[name], parts)
 
 def of_bundle(name, bundle, why):
-    """Whom the proof of a bundle convicts, under which program and directory, and where the bundle says otherwise."""
+    """Whom the proof of a bundle convicts, and where the bundle says otherwise."""
     program, said, directory, proof = bundle
     name = name or program
     if name not in PROGRAMS:
         raise Refused(109)
-    node, why = of_proof(name, ("directory", directory), ("proof", proof), why)
-    told = [f"exposes {node}", f"program {name}", f"directory {sha256(directory).hex()}"]
-    told += [f"disagrees: the bundle says that it exposes {said}"] * (node != said)
-    return told + [f"disagrees: the bundle names the program {program}"] * (name != program) + why
+    node, under, verified = of_proof(name, ("directory", directory), ("proof", proof))
+    told = [f"exposes {node}", *under] + [f"disagrees: the bundle says that it exposes {said}"] * (node != said)
+    return told + [f"disagrees: the bundle names the program {program}"] * (name != program) + (list(verified) if why else [])
 
 def of_stores(name, directory, *stores):
     """What the items of all stores say of each node of the directory."""
@@ -666,8 +665,8 @@ def answer(words, files):
     if len(files) == 1 and files[0][1].startswith(b"bulwynef"):
         with at(files[0][0]):
             return of_bundle(words.program, read_bundle(files[0][1]), words.why)
-    node, why = of_proof(words.program or "tally", *texts_of(files, 2, 2), words.why)
-    return [f"exposes {node}"] + why
+    node, under, verified = of_proof(words.program or "tally", *texts_of(files, 2, 2))
+    return [f"exposes {node}"] + ([*under, *verified] if words.why else [])
 
 def read_words():
     parser = argparse.ArgumentParser(description=__doc__, formatter_class=argparse.RawDescriptionHelpFormatter, allow_abbrev=False)

@@ -1,7 +1,7 @@
 #!/usr/bin/env python3
 """Holds check.py to what is stored, to mutated inputs, and to a built program.
 
-    compare.py [PROGRAM] [--seconds S] [--seed N] [--cases FOLDER]
+    compare.py [PROGRAM] [--seconds S] [--seed N] [--cases FOLDER] [--first]
 
 Without words: what the repository has stored, what is signed and bundled here, and some mutated inputs beside fuzz/answers.py, which
 reads the formats by other code. The gate runs it so, and it wants no build. With a PROGRAM, a build of node_sim, the mutated inputs of
@@ -17,6 +17,7 @@ import collections
 import itertools
 import os
 import random
+import re
 import subprocess
 import sys
 import tempfile
@@ -58,8 +59,8 @@ def opinion(words, text):
 class Tried:
     """How many cases agree, by source, and how many differ."""
 
-    def __init__(self):
-        self.agreed, self.differ = collections.Counter(), 0
+    def __init__(self, ends_at_first=False):
+        self.agreed, self.differ, self.ends_at_first = collections.Counter(), 0, ends_at_first
 
     def hold(self, source, name, found, wanted):
         self.agreed[source] += found == wanted
@@ -67,6 +68,8 @@ class Tried:
             self.differ += 1
             if self.differ <= 20:
                 print(f"DIFFERS {source}, {name}: wanted {wanted!r}, and here it is {found!r}")
+            if self.ends_at_first:
+                sys.exit(1)
 
     def case(self, case):
         self.hold(case.source, case.name, opinion(case.words, case.text()), case.wanted)
@@ -78,6 +81,7 @@ class Tried:
 def hold_stored(tried):
     """All that is stored, and what is signed and bundled here."""
     tried.hold("file", "lines of check.py", len(stored.read("second_opinion/check.py").splitlines()) <= MOST_LINES, True)
+    hold_example(tried)
     tried.hold("file", "what it imports", imported(stored.read("second_opinion/check.py")), STANDARD)
     sources = stored.tours, stored.mailbox, stored.explained, stored.page, stored.refusals, stored.vector_cases, *boundaries.SOURCES
     for case in itertools.chain(*(cases() for cases in sources)):
@@ -92,6 +96,14 @@ def hold_stored(tried):
     for case in [*stored.tours(), *stored.mailbox()]:
         if case.words[0] == "check":
             hold_bundle(tried, case)
+
+
+def hold_example(tried):
+    """The bundle of `examples/` is that of the tour's proof, but for what it was made by."""
+    directory, proof = next(case.lines for case in stored.tours() if case.name == "wrong_output, proof")
+    wanted = "".join(f"{line}\n" for line in make_bundle.bundle("tally", directory, proof))
+    found = stored.read("examples/wrong_output.bundle").decode()
+    tried.hold("file", "examples/wrong_output.bundle", *(re.sub("# Made with .*", "", text) for text in (found, wanted)))
 
 
 STANDARD = {"argparse", "binascii", "contextlib", "functools", "hashlib", "re", "sys", "collections"}
@@ -318,9 +330,10 @@ def main():
     parser.add_argument("--seconds", type=int, help="how long mutated inputs are tried (60 with a program, else as long as 200 take)")
     parser.add_argument("--seed", type=int, default=1, help="what mutated inputs are made from (1)")
     parser.add_argument("--cases", type=os.path.abspath, help="a folder of inputs with what is wanted")
+    parser.add_argument("--first", action="store_true", help="end at the first answer that differs")
     options = parser.parse_args()
     options.seconds = options.seconds if options.seconds is not None else 60 if options.program else 0
-    tried, sources = Tried(), set(LEAST) - {"program", "cases", "mutated"}
+    tried, sources = Tried(options.first), set(LEAST) - {"program", "cases", "mutated"}
     hold_stored(tried)
     hold_mutated(tried, options, LEAST["mutated"])
     sources.add("program" if options.program else "mutated")

@@ -14,7 +14,6 @@ sys.dont_write_bytecode = True
 
 import check
 from check import sha256
-from sums import sum_of_sources
 
 FLAGS = {"tally": "node_sim check", "relay": "node_sim check --relay", "mailbox": "mailbox_sim check"}
 
@@ -23,7 +22,6 @@ def sentences(program, node, verified):
     """What stands in a bundle for people: how to check it, what was verified, and by what."""
     with open(check.__file__, "rb") as file:
         own = sha256(file.read()).hex()
-    sources = sum_of_sources()
     return [
         f"Node {node} is exposed, where it was to follow the program {program}.",
         "Believe no sentence of this file. Get the directory's sum and the name of the program, which stand below, by another way than",
@@ -32,14 +30,13 @@ def sentences(program, node, verified):
         f"  tail -n 2 BUNDLE | {FLAGS[program]}",
         "What was verified:",
         *(f"  {line}" for line in verified),
-        f"Made with Python {platform.python_version()} by check.py, whose SHA-256 value is {own},",
-        f"of sources with the sum {sources[0]} of {sources[1]} files." if sources else "of sources whose sum is not known.",
+        f"Made with Python {platform.python_version()} by the check.py that has the SHA-256 value {own}",
     ]
 
 
 def bundle(program, directory, proof):
     """The lines of the bundle, of the bytes of a directory and of a proof."""
-    node, verified = check.of_proof(program, ("directory", directory), ("proof", proof), True)
+    node, _, verified = check.of_proof(program, ("directory", directory), ("proof", proof))
     lines = [check.FIRST, *(f"# {line}" for line in sentences(program, node, verified)), f"program {program}", f"exposes {node}"]
     lines += [f"{name} {len(text)} {sha256(text).hex()}" for name, text in (("directory", directory), ("proof", proof))]
     return [*lines, directory.hex(), proof.hex()]
