@@ -94,6 +94,7 @@ BREAKS = (
     ("!= (int(length), digest):", "!= (int(length), sha256(body).hex()):"),
     ("    if name not in PROGRAMS:\n        raise Refused(109)\n", ""),
     ("* (node != said)", "* 0"),
+    ("* (directory[1] != own)", "* 0"),
     ("if not least <= len(texts) <= most:", "if False:"),
     ("return 1 if lines is None else 3 if", "return 1 if lines is None else 1 if"),
 )

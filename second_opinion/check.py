@@ -2,7 +2,7 @@
 """A second opinion on evidence: whom a proof convicts, and what stores say of each node.
 
     check.py [--program NAME] [--why] DIRECTORY PROOF       exposes ID, or the refusal
-    check.py [--program NAME] [--why] BUNDLE                the same, and under which program and which directory
+    check.py [--program NAME] [--why] [DIRECTORY] BUNDLE    the same, and under which program and which directory
     check.py [--program NAME] --store DIRECTORY STORE..     a line for each node: trusted, suspected or exposed
 
 NAME is the program that the nodes were to follow: tally, relay or mailbox; without it tally, or the one that the bundle names. A file is
@@ -119,7 +119,7 @@ def verifies(key, message, signature):
     height, path_at = HEIGHTS[key.lms_type], 44 + 32 * ONE_TIME[key.ots_type][1]
     if len(signature) != path_at + 32 * height:
         return False
-    q, ots_type, lms_type = leaf_of(signature), signature[4:8], signature[path_at - 4 : path_at]
+    q, ots_type, lms_type = int.from_bytes(signature[:4], "big"), signature[4:8], signature[path_at - 4 : path_at]
     if ots_type != u32(key.ots_type) or lms_type != u32(key.lms_type) or q >= 2**height:
         return False
     r = 2**height + q
@@ -131,10 +131,6 @@ def verifies(key, message, signature):
         r //= 2
         value = sha256(key.identifier, u32(r), D_INTR, left, right)
     return value == key.root
-
-def leaf_of(signature):
-    """q: by which leaf of its key a signature is made."""
-    return int.from_bytes(signature[:4], "big")
 
 # ---- directories, and who signed what: "Directory", "A node's keys, and the text of a signature by one of them", "Signed statement"
 MOST_NODES, MOST_KEYS, LONGEST_SIGNATURE = 1024, 8, 9325
@@ -540,7 +536,7 @@ KINDS = {INIT: "INIT", SEND: "SEND", RECV: "RECV", TIMER: "TIMER", CHECKPOINT: "
 
 def by(signature):
     key, lms = split_signature(signature)
-    return f"by leaf {leaf_of(lms)} of its key {key}"
+    return f"by leaf {int.from_bytes(lms[:4], 'big')} of its key {key}"
 
 def of_send(content):
     if len(content) < 4:
@@ -638,15 +634,17 @@ def of_proof(name, directory, proof):
         node = convicted(listed, PROGRAMS[name], parts)
     return node, [f"program {name}", f"directory {sha256(directory[1]).hex()}"], sentences(listed, PROGRAMS[name], parts)
 
-def of_bundle(name, bundle, why):
-    """Whom the proof of a bundle convicts, and where the bundle says otherwise."""
-    program, said, directory, proof = bundle
-    name = name or program
+def of_bundle(name, place, bundle, directory, why):
+    """Whom the proof of a bundle convicts under this program and directory, or else its own; and where the bundle says otherwise."""
+    program, said, own, proof = bundle
+    name, directory = name or program, directory or (f"{place}, directory", own)
     if name not in PROGRAMS:
-        raise Refused(109)
-    node, under, verified = of_proof(name, ("directory", directory), ("proof", proof))
+        raise Refused(109, place)
+    node, under, verified = of_proof(name, directory, (f"{place}, proof", proof))
     told = [f"exposes {node}", *under] + [f"disagrees: the bundle says that it exposes {said}"] * (node != said)
-    return told + [f"disagrees: the bundle names the program {program}"] * (name != program) + (list(verified) if why else [])
+    told += [f"disagrees: the bundle names the program {program}"] * (name != program)
+    told += [f"disagrees: the bundle has the directory {sha256(own).hex()}"] * (directory[1] != own)
+    return told + (list(verified) if why else [])
 
 def of_stores(name, directory, *stores):
     """What the items of all stores say of each node of the directory."""
@@ -662,9 +660,11 @@ def answer(words, files):
     """The lines of the answer."""
     if words.store:
         return of_stores(words.program or "tally", *texts_of(files, 2, 1024))
-    if len(files) == 1 and files[0][1].startswith(b"bulwynef"):
-        with at(files[0][0]):
-            return of_bundle(words.program, read_bundle(files[0][1]), words.why)
+    if files[-1][1].startswith(b"bulwynef"):
+        place, data = files[-1]
+        with at(place):
+            bundle = read_bundle(data)
+        return of_bundle(words.program, place, bundle, *(texts_of(files[:-1], 0, 1) or [None]), words.why)
     node, under, verified = of_proof(words.program or "tally", *texts_of(files, 2, 2))
     return [f"exposes {node}"] + ([*under, *verified] if words.why else [])
 

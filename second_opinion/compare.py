@@ -35,7 +35,7 @@ HERE = os.path.dirname(os.path.abspath(__file__))
 sys.path.append(f"{stored.TOP}/fuzz")
 # How many cases each source has at least
 LEAST = {"tour": 13, "mailbox": 7, "explained": 10, "page": 11, "refusals": 34, "boundaries": 237, "vectors": 363, "cuts": 9640}
-LEAST.update({"verdicts": 83, "proofs": 264, "falling": 201, "bundles": 140, "process": 24, "why": 200, "program": 1, "cases": 1})
+LEAST.update({"verdicts": 83, "proofs": 264, "falling": 201, "bundles": 140, "process": 28, "why": 200, "program": 1, "cases": 1})
 LEAST["mutated"] = 200
 MOST_LINES = 700
 DIGITS = b"0123456789abcdefABCDEF\n"
@@ -224,11 +224,13 @@ def hold_process(tried):
         os.chdir(folder)
         files = {"directory": good.lines[0], "store": good.lines[1], "proof": proof.lines[1], "digits": good.lines[1].hex().encode() + b"\n"}
         files.update({"both": proof.text(), "empty": b"", "odd": good.text()[:-2], "returns": good.text().replace(b"\n", b"\r\n")})
+        files["two"] = b"PRDIREC2" + u32(2) + files["directory"][12:246]
         files["bundle"] = "".join(f"{line}\n" for line in make_bundle.bundle("tally", *proof.lines)).encode()
         for name, data in files.items():
             with open(name, "wb") as file:
                 file.write(data)
         told = f"program tally\ndirectory {sha256(files['directory']).hex()}\n"
+        of_two = f"{proof.wanted}program tally\ndirectory {sha256(files['two']).hex()}\n"
         for words, output, status, wanted in (
             *((words, None, 2, "") for words in ("", "--store", "--why --store directory store", "directory proof proof", "--program x both")),
             ("--store directory store", None, 3, good.wanted),
@@ -240,6 +242,10 @@ def hold_process(tried):
             ("both", None, 0, proof.wanted),
             ("bundle", None, 0, proof.wanted + told),
             ("- < bundle", None, 0, proof.wanted + told),
+            ("directory bundle", None, 0, proof.wanted + told),
+            ("two bundle", None, 0, of_two + f"disagrees: the bundle has the {told.splitlines()[1]}\n"),
+            ("proof bundle", None, 1, refused % "23 BadMagic: proof"),
+            ("both bundle", None, 1, refused % "104 LineCount"),
             ("--program relay bundle", None, 0, None),
             ("proof directory", None, 1, refused % "23 BadMagic: proof"),
             ("directory store", None, 1, refused % "41 BadTag: store"),
