@@ -92,7 +92,7 @@ BREAKS = (
     ("(0|[1-9][0-9]{0,9})", "([0-9]{1,10})"),
     (", (front + len(FIELDS), None)]", "]"),
     ("!= (int(length), digest):", "!= (int(length), sha256(body).hex()):"),
-    ("    if name not in PROGRAMS:\n        raise Refused(109)\n", ""),
+    ("    if name not in PROGRAMS:\n        raise Refused(109, place)\n", ""),
     ("* (node != said)", "* 0"),
     ("* (directory[1] != own)", "* 0"),
     ("if not least <= len(texts) <= most:", "if False:"),
