@@ -90,7 +90,8 @@ BREAKS = (
     # bundles, files and words
     ("\"#[ -~]*\"", "\"#.*\""),
     ("(0|[1-9][0-9]{0,9})", "([0-9]{1,10})"),
-    (", (front + len(FIELDS), None)]", "]"),
+    ("if len(lines) > front + len(FIELDS):", "if False:"),
+    (" or (wanted == DIGITS and len(lines[place]) % 2)", ""),
     ("!= (int(length), digest):", "!= (int(length), sha256(body).hex()):"),
     ("    if name not in PROGRAMS:\n        raise Refused(109, place)\n", ""),
     ("* (node != said)", "* 0"),

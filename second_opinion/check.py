@@ -574,7 +574,7 @@ def of_replay(directory, program, segment):
                 yield "  logged is " + (f"a SEND {of_send(entry.content)}" if entry.kind == SEND else f"the state {entry.content.hex()}")
 
 # ---- bundles: "Bundle"
-NUMBER, SUM, DIGITS = "(0|[1-9][0-9]{0,9})", "([0-9a-f]{64})", "((?:[0-9a-f]{2})*)"
+NUMBER, SUM, DIGITS = "(0|[1-9][0-9]{0,9})", "([0-9a-f]{64})", "([0-9a-f]*)"
 FIRST = "bulwynef bundle 1"
 FIELDS = ["program ([a-z0-9_]{1,32})", f"exposes {NUMBER}", f"directory {NUMBER} {SUM}", f"proof {NUMBER} {SUM}", DIGITS, DIGITS]
 
@@ -584,12 +584,14 @@ def read_bundle(text):
     lines += [open_line + "\n"] if open_line else []
     front = next((place for place, line in enumerate(lines) if place and not re.fullmatch("#[ -~]*", line)), len(lines))
     found = []
-    for place, wanted in [(0, FIRST), *enumerate(FIELDS, front), (front + len(FIELDS), None)]:
-        match = re.fullmatch(wanted, lines[place]) if wanted and place < len(lines) else None
-        if match is None and (wanted or place < len(lines)):
+    for place, wanted in [(0, FIRST), *enumerate(FIELDS, front)]:
+        match = re.fullmatch(wanted, lines[place]) if place < len(lines) else None
+        if match is None or (wanted == DIGITS and len(lines[place]) % 2):
             raise Refused(106, f"line {place + 1}")
-        found.append(match and match.groups())
-    _, (program,), (node,), *told, directory, proof, _ = found
+        found.append(match.groups())
+    if len(lines) > front + len(FIELDS):
+        raise Refused(106, f"line {front + len(FIELDS) + 1}")
+    _, (program,), (node,), *told, directory, proof = found
     texts = [bytes.fromhex(digits) for digits, in (directory, proof)]
     for place, (body, (length, digest)) in enumerate(zip(texts, told), front + 3):
         if (len(body), sha256(body).hex()) != (int(length), digest):
@@ -661,10 +663,9 @@ def answer(words, files):
     if words.store:
         return of_stores(words.program or "tally", *texts_of(files, 2, 1024))
     if files[-1][1].startswith(b"bulwynef"):
-        place, data = files[-1]
-        with at(place):
-            bundle = read_bundle(data)
-        return of_bundle(words.program, place, bundle, *(texts_of(files[:-1], 0, 1) or [None]), words.why)
+        with at(files[-1][0]):
+            bundle = read_bundle(files[-1][1])
+        return of_bundle(words.program, files[-1][0], bundle, *(texts_of(files[:-1], 0, 1) or [None]), words.why)
     node, under, verified = of_proof(words.program or "tally", *texts_of(files, 2, 2))
     return [f"exposes {node}"] + ([*under, *verified] if words.why else [])
 

@@ -208,6 +208,7 @@ def hold_bundle(tried, case):
         (107, 5, short[4].replace(f" {len(proof)} ", f" {len(proof) + 1} ")),
         (108, 5, short[4][:-65] + other),
         (106, 6, short[5].replace("\n", "0\n")),
+        (106, 7, short[6].replace("\n", "0\n")),
         (106, 6, short[5].upper()),
         (106, 7, short[6][:-1]),
         (106, 8, "# no sentence\n"),
