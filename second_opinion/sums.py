@@ -6,8 +6,8 @@ in the order of their names' bytes:
 
     git ls-files -z | LC_ALL=C sort -z | xargs -0 sha256sum | sha256sum
 
-Behind it stands what `sha256sum` writes of each program that `rt ci` or `rt run` has left here. Whether builds of the same sources by the
-same kit repeat byte for byte is not shown yet: equal sums say that two builds are one, other sums say nothing.
+Behind it stands what `sha256sum` writes of each program that `rt ci` or `rt run` has left here. Builds of the same sources by the same
+kit were the same bytes wherever they were compared (README.md): so who proved a program can tell others by its sum which one it is.
 """
 
 import os
