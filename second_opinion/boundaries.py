@@ -6,7 +6,7 @@ They are signed here, by keys of `reference/nodes.py`, which sign more than once
 
 import sys
 
-from fields import sha256, u8, u32, u64
+from check import sha256, sized, u8, u32, u64
 from stored import TOP, Case, proof_of, store_of
 
 sys.path.append(f"{TOP}/reference")
@@ -155,8 +155,57 @@ LOGS = (
 )
 
 
+def held(clock, draft, *mails):
+    """A CHECKPOINT of Mailbox. A mail is its sender, its receiver, the clock when it came, and its text."""
+    listed = (u32(sender) + u32(to) + u64(at) + sized(text) for sender, to, at, text in mails)
+    return 5, u64(clock) + sized(draft) + u32(len(mails)) + b"".join(listed)
+
+
+def moment(first, rest):
+    """A wish: its first byte, and seven others."""
+    return 4, u8(first) + rest
+
+
+A_MAIL, FULL = (2, LAST, 9, b"b"), 16 * [(1, 2, 0, b"")]
+MAILBOX = (
+    (1, BASE, [INIT, received(1, b"D" + u32(9) + b"hi"), sent(2, b"S"), held(0, b"", (2, 9, 0, b"hi"))]),
+    (1, BASE, [INIT, received(1, b"D" + u32(2)), sent(2, b"S"), held(0, b"", (2, 2, 0, b""))]),
+    (1, BASE, [INIT, received(1, b"D" + u32(2) + bytes(256)), sent(2, b"S")]),
+    (1, BASE, [INIT, received(1, b"D" + u32(2) + bytes(257)), sent(2, b"L"), held(0, b"")]),
+    (1, EARLIER, [held(0, b"", *FULL[1:]), received(1, b"D" + u32(2)), sent(2, b"S")]),
+    (1, EARLIER, [held(0, b"", *FULL), received(1, b"D" + u32(2)), sent(2, b"X"), held(0, b"", *FULL)]),
+    (1, EARLIER, [held(0, b"", *FULL), received(1, b"D" + u32(2) + bytes(257)), sent(2, b"L")]),
+    (1, EARLIER, [held(9, b"d", (1, 2, 7, b"a"), A_MAIL, (LAST, 2, 8, b"")), received(1, b"F"), sent(2, b"M\0\0\0\1a"),
+                  sent(2, b"M" + u32(LAST)), held(9, b"d", A_MAIL)]),
+    (1, EARLIER, [held(9, b"", A_MAIL), received(1, b"F"), held(9, b"", A_MAIL)]),
+    *((1, BASE, [INIT, received(1, payload), sent(2, b"?"), held(0, b"")]) for payload in (b"", b"D\0\0\0", b"FF", b"f", b"\0M")),
+    *((1, BASE, [INIT, received(1, payload), held(0, b"")]) for payload in (b"M", b"S", b"L", b"X", b"?", b"?hi", b"MM")),
+    (2, EARLIER, [held(9, b"", A_MAIL), (4, u64(1009)), held(1009, b"", A_MAIL)]),
+    (2, EARLIER, [held(9, b"", A_MAIL), (4, u64(1010)), held(1010, b"")]),
+    (2, EARLIER, [held(1010, b"", A_MAIL, (1, 1, 2000, b"")), (4, u64(3)), held(1010, b"", (1, 1, 2000, b""))]),
+    (2, BASE, [(1, u32(2)), (4, u64(2**63 - 1)), held(2**63 - 1, b"")]),
+    (2, EARLIER, [held(5, b"hi"), moment(0x81, b"abcdefg"), moment(0x83, b"ABCDEFG"), held(5, b"higEFG")]),
+    (2, EARLIER, [held(5, b"hi"), moment(0x88, b"abc" + u32(LAST)), sent(1, b"D" + u32(LAST) + b"hi"), held(5, b"")]),
+    (2, EARLIER, [held(5, b"hi"), moment(0x80, b"abcdefg"), sent(1, b"F"), held(5, b"hi")]),
+    (1, BASE, [INIT, moment(0x80, bytes(7)), moment(0x88, bytes(7)), held(0, b"")]),
+    *((2, EARLIER, [held(5, b"hi"), moment(first, bytes(7)), held(5, b"hi")]) for first in (0x89, 0xFF)),
+    (2, EARLIER, [held(5, bytes(250)), moment(0x87, b"abcdefg"), moment(0x86, b"abcdefg"), held(5, bytes(250) + b"bcdefg")]),
+)
+# Contents of a first CHECKPOINT of Mailbox, and whether one is a state
+STATES = (
+    (held(0, bytes(256), *FULL)[1], True),
+    (held(0, b"", (1, 2, 0, bytes(256)))[1], True),
+    (held(0, bytes(257))[1], False),
+    (held(0, b"", (1, 2, 0, bytes(257)))[1], False),
+    (held(0, b"", *FULL, A_MAIL)[1], False),
+    (held(0, b"", A_MAIL)[1] + b"\0", False),
+    (held(0, b"", A_MAIL)[1][:-1], False),
+    (b"", False),
+)
+
+
 def logs():
-    for flag, node, before, entries in LOGS:
+    for flag, node, before, entries in (*LOGS, *((["--program", "mailbox"], *log) for log in MAILBOX)):
         kind, content = entries[-1]
         other = [*entries[:-1], (kind, content[:-1] + u8(content[-1] ^ 1))]
         for these, wanted in ((entries, "refused 51 Conforms\n"), (other, f"exposes {node}\n")):
@@ -165,4 +214,10 @@ def logs():
             yield Case("boundaries", f"log of node {node}", ["check", *flag], lines, wanted)
 
 
-SOURCES = statements, challenges, signatures, logs
+def states():
+    for content, is_state in STATES:
+        lines = [DIRECTORY, proof_of(3, segment_of(1, EARLIER, [(1, 5, content)]))]
+        yield Case("boundaries", content.hex(), ["check", "--program", "mailbox"], lines, "refused 51 Conforms\n" if is_state else "exposes 1\n")
+
+
+SOURCES = statements, challenges, signatures, logs, states

@@ -1,53 +1,66 @@
 #!/usr/bin/env python3
-"""Holds the second opinion to what is stored, and to a built program.
+"""Holds check.py to what is stored, to mutated inputs, and to a built program.
 
-    compare.py                                     beside what the repository has stored: the gate runs it, and it wants no build
-    compare.py PROGRAM [--seconds S] [--seed N]    then beside node_sim, on the inputs of fuzz/run.py, for so many seconds (60)
+    compare.py [PROGRAM] [--seconds S] [--seed N] [--cases FOLDER] [--first]
+
+Without words: what the repository has stored, what is signed and bundled here, and some mutated inputs beside fuzz/answers.py, which
+reads the formats by other code. The gate runs it so, and it wants no build. With a PROGRAM, a build of node_sim, the mutated inputs of
+fuzz/run.py are handed to it and to check.py, for so many seconds (60); without one fuzz/answers.py is asked for so many. A FOLDER has
+inputs NNN.args and NNN.stdin with what is wanted, NNN.stdout and NNN.stderr.
 
 Ends with 1 where an answer differs, and where fewer cases were found than a source must have.
 """
 
 import argparse
+import ast
 import collections
 import itertools
 import os
 import random
+import re
 import subprocess
 import sys
+import tempfile
 import time
 
 sys.dont_write_bytecode = True
 
 import boundaries
+import check
+import make_bundle
 import stored
-from check import answer
-from containers import read_store
-from directories import read_directory
-from fields import Refused, sha256, u32, u64
-from indications import Evidence
-from items import read_item
-from programs import PROGRAMS
-from replay import deviation, reads_of
+from check import Refused, sha256, u32, u64
 
 HERE = os.path.dirname(os.path.abspath(__file__))
+sys.path.append(f"{stored.TOP}/fuzz")
 # How many cases each source has at least
-LEAST = {"tour": 13, "explained": 13, "page": 11, "refusals": 34, "boundaries": 165, "vectors": 363, "cuts": 9640}
-LEAST.update({"verdicts": 83, "proofs": 264, "falling": 201, "bundles": 88, "process": 13, "why": 200})
+LEAST = {"tour": 13, "mailbox": 7, "explained": 10, "page": 11, "refusals": 34, "boundaries": 237, "vectors": 363, "cuts": 9640}
+LEAST.update({"verdicts": 83, "proofs": 264, "falling": 201, "bundles": 140, "process": 28, "why": 200, "program": 1, "cases": 1})
+LEAST["mutated"] = 200
+MOST_LINES = 700
+DIGITS = b"0123456789abcdefABCDEF\n"
+
+
+def words_of(words):
+    """The words of node_sim's commands, as those of check.py."""
+    program = "relay" if "--relay" in words else words[2] if "--program" in words else "tally"
+    return argparse.Namespace(program=program, store=words[0] == "status", why=words[0] == "why")
 
 
 def opinion(words, text):
-    """What the second opinion writes, as an answer or a refusal."""
+    """What the second opinion writes, as an answer or a refusal without its place."""
     try:
-        return answer(words, text)
+        return "".join(f"{line}\n" for line in check.answer(words_of(words), [("input", text)]))
     except Refused as refused:
+        refused.places.clear()
         return f"{refused}\n"
 
 
 class Tried:
     """How many cases agree, by source, and how many differ."""
 
-    def __init__(self):
-        self.agreed, self.differ = collections.Counter(), 0
+    def __init__(self, ends_at_first=False):
+        self.agreed, self.differ, self.ends_at_first = collections.Counter(), 0, ends_at_first
 
     def hold(self, source, name, found, wanted):
         self.agreed[source] += found == wanted
@@ -55,7 +68,8 @@ class Tried:
             self.differ += 1
             if self.differ <= 20:
                 print(f"DIFFERS {source}, {name}: wanted {wanted!r}, and here it is {found!r}")
-
+            if self.ends_at_first:
+                sys.exit(1)
 
     def case(self, case):
         self.hold(case.source, case.name, opinion(case.words, case.text()), case.wanted)
@@ -66,9 +80,12 @@ class Tried:
 
 def hold_stored(tried):
     """All that is stored, and what is signed and bundled here."""
-    for cases in (stored.tours, stored.explained, stored.page, stored.refusals, stored.vector_cases, *boundaries.SOURCES):
-        for case in cases():
-            tried.case(case)
+    tried.hold("file", "lines of check.py", len(stored.read("second_opinion/check.py").splitlines()) <= MOST_LINES, True)
+    hold_example(tried)
+    tried.hold("file", "what it imports", imported(stored.read("second_opinion/check.py")), STANDARD)
+    sources = stored.tours, stored.mailbox, stored.explained, stored.page, stored.refusals, stored.vector_cases, *boundaries.SOURCES
+    for case in itertools.chain(*(cases() for cases in sources)):
+        tried.case(case)
     for vector in stored.vectors():
         if vector.kind == "store":
             hold_store(tried, vector)
@@ -76,24 +93,45 @@ def hold_stored(tried):
             hold_verdict(tried, vector)
     hold_falling(tried)
     hold_process(tried)
-    for case in stored.tours():
-        if case.words == ["check"]:
+    for case in [*stored.tours(), *stored.mailbox()]:
+        if case.words[0] == "check":
             hold_bundle(tried, case)
+
+
+def hold_example(tried):
+    """The bundle of `examples/` is that of the tour's proof, but for what it was made by."""
+    directory, proof = next(case.lines for case in stored.tours() if case.name == "wrong_output, proof")
+    wanted = "".join(f"{line}\n" for line in make_bundle.bundle("tally", directory, proof))
+    found = stored.read("examples/wrong_output.bundle").decode()
+    tried.hold("file", "examples/wrong_output.bundle", *(re.sub("# Made with .*", "", text) for text in (found, wanted)))
+
+
+STANDARD = {"argparse", "binascii", "contextlib", "functools", "hashlib", "re", "sys", "collections"}
+
+
+def imported(source):
+    """What a text of Python 3.9 imports."""
+    found = set()
+    for node in ast.walk(ast.parse(source, feature_version=(3, 9))):
+        found.update(it.name for it in getattr(node, "names", []) if isinstance(node, ast.Import))
+        found.update([node.module] if isinstance(node, ast.ImportFrom) else [])
+    return found
 
 
 def hold_verdict(tried, vector):
     """The verdict on a segment, with the place and the reason."""
-    directory, segment = read_directory(vector.directory), read_item(stored.item_in(vector.words[0]))
-    found = deviation(directory, PROGRAMS[vector.kind], segment, reads_of(directory, segment))
-    told = "conforms" if found is None else "deviates %d %d %s" % (found[0], *found[1])
-    tried.hold("verdicts", told, told, " ".join(vector.words[1:]))
+    directory, segment = check.read_directory(vector.directory), check.read_item(stored.item_in(vector.words[0]))
+    replayed = check.replayed(directory, check.PROGRAMS[vector.kind], segment, segment.quotes(directory))
+    places = [f"deviates {place} {reason} {check.REASONS[reason - 1]}" for place, (_, _, reason, _) in enumerate(replayed) if reason]
+    tried.hold("verdicts", vector.words[1:], places[-1] if places else "conforms", " ".join(vector.words[1:]))
 
 
 def hold_store(tried, vector):
     """How many challenges to each node are open; and that what the store holds makes proofs against just the nodes that it exposes."""
-    directory, rows = read_directory(vector.directory), vector.words[3:-1]
+    directory, rows = check.read_directory(vector.directory), vector.words[3:-1]
     items = stored.items_in(*vector.words[:2])
-    evidence = Evidence(directory, PROGRAMS["tally"], read_store(directory, stored.store_of(items)))
+    read = check.read_store(directory, stored.store_of(items))
+    evidence = check.Evidence(directory, check.PROGRAMS["tally"], read.values())
     is_open = collections.Counter(evidence.unanswered())
     told = [(int(node), int(count)) for node, count in zip(rows[::4], rows[2::4])]
     tried.hold("proofs", "open challenges", [(node, is_open[node]) for node, _ in told], told)
@@ -105,8 +143,8 @@ def hold_falling(tried):
     """A segment whose numbers do not rise is contradicted by none of the statements that its node signed in other items."""
     said, falling = collections.defaultdict(set), []
     for vector in stored.vectors():
-        if vector.kind in PROGRAMS and vector.words[1] != "refused":
-            said[vector.directory].update(read_item(stored.item_in(vector.words[0])).statements())
+        if vector.kind in check.PROGRAMS and vector.words[1] != "refused":
+            said[vector.directory].update(check.read_item(stored.item_in(vector.words[0])).statements)
             falling += [(vector.directory, stored.item_in(vector.words[0]))] * (vector.words[-1] == "SeqOrder")
     for directory, segment in falling:
         for statement in sorted(it for it in said[directory] if u32(it.node) == segment[1:5]):
@@ -117,7 +155,7 @@ def hold_falling(tried):
 def spelled(statement):
     """The item that is this statement alone."""
     node, number, digest, signature = statement
-    return b"\x01" + u32(node) + u64(number) + digest + u32(len(signature)) + signature
+    return b"\x01" + u32(node) + u64(number) + digest + check.sized(signature)
 
 
 def convicted_by(directory, evidence, items):
@@ -133,54 +171,100 @@ def convicted_by(directory, evidence, items):
 
 def hold_bundle(tried, case):
     """The bundle of a proof is read as it is; one with a line at fault is refused with the number of that line."""
+    program, (directory, proof) = words_of(case.words).program, case.lines
+    lines = [f"{line}\n" for line in make_bundle.bundle(program, directory, proof)]
+    told = f"{case.wanted}program {program}\ndirectory {sha256(directory).hex()}\n"
 
-    def hold(name, text, wanted):
-        tried.hold("bundles", f"{case.name}, {name}", opinion(["check-bundle"], text.encode()), wanted)
+    def hold(name, text, wanted, asked=None):
+        words = argparse.Namespace(program=asked, store=False, why=False)
+        try:
+            found = "".join(f"{line}\n" for line in check.answer(words, [("bundle", text.encode("latin-1"))]))
+        except Refused as refused:
+            found = f"{refused}\n"
+        tried.hold("bundles", f"{case.name}, {name}", found, wanted)
 
-    lines = opinion(["bundle"], case.text()).splitlines(keepends=True)
-    told = f"program tally\ndirectory {sha256(case.lines[0]).hex()}\n{case.wanted}"
     hold("whole", "".join(lines), told)
-    hold("without sentences", "".join(lines[:7]), told)
-    hold("another node", "".join([*lines[:6], "exposes 77\n"]), f"{told}disagrees: the bundle says that it exposes 77\n")
-    tried.hold("bundles", "two lines", (lines[3] + lines[5]).encode(), case.text())
-    size = f" {len(case.lines[0])} "
-    for place, line in (
-        *((place, "") for place in range(1, 8)),
-        (1, "bulwynef bundle 2\n"),
-        (2, "program other\n"),
-        (3, lines[2].replace(size, f" {len(case.lines[0]) - 1} ")),
-        (3, lines[2].replace(size, f" 0{size[1:]}")),
-        (3, lines[2][:-65] + 64 * "0" + "\n"),
-        (4, lines[3].replace("\n", "0\n")),
-        (5, lines[4][:-65] + 64 * "0" + "\n"),
-        (7, "exposes\n"),
-        (8, "no sentence\n"),
-        (len(lines), "no sentence\n"),
-        (len(lines), lines[-1][:-1]),
+    tried.hold("bundles", "two lines", "".join(lines[-2:]).encode(), case.text())
+    fields = lines[-6:]
+    short = [lines[0], *fields]
+    hold("without sentences", "".join(short), told)
+    hold("another node", "".join([*short[:2], "exposes 77\n", *short[3:]]), f"{told}disagrees: the bundle says that it exposes 77\n")
+    named = "".join([short[0], "program other_1\n", *short[2:]])
+    hold("another program", named, "refused 109 UnknownProgram: bundle\n")
+    hold("the asked program", named, f"{told}disagrees: the bundle names the program other_1\n", program)
+    size, other = f" {len(directory)} ", 64 * "0" + "\n"
+    for number, place, line in (
+        *((106, place, "") for place in (2, 3, 4, 5, 7)),
+        (106, 1, "bulwynef bundle 2\n"),
+        (106, 2, "#\tsentence\n"),
+        (106, 2, "# \x1b[2J\n"),
+        (106, 2, "program Other\n"),
+        (106, 2, f"program {33 * 'a'}\n"),
+        (106, 3, "exposes 02\n"),
+        (106, 3, "exposes\n"),
+        (107, 4, short[3].replace(size, f" {len(directory) - 1} ")),
+        (106, 4, short[3].replace(size, f" 0{size[1:]}")),
+        (108, 4, short[3][:-65] + other),
+        (107, 5, short[4].replace(f" {len(proof)} ", f" {len(proof) + 1} ")),
+        (108, 5, short[4][:-65] + other),
+        (106, 6, short[5].replace("\n", "0\n")),
+        (106, 7, short[6].replace("\n", "0\n")),
+        (106, 6, short[5].upper()),
+        (106, 7, short[6][:-1]),
+        (106, 8, "# no sentence\n"),
     ):
-        broken = "".join([*lines[: place - 1], line, *lines[place:]])
-        hold(f"line {place}", broken, f"refused 106 BadBundle: line {place}\n")
+        broken = "".join([*short[: place - 1], line, *short[place:]])
+        hold(f"line {place}", broken, f"refused {number} {check.REFUSALS[number]}: bundle, line {place}\n")
 
 
 def hold_process(tried):
-    """How the command ends as a process: by words, by its devices, and where its input is as long as may be or longer."""
-    good = next(case for case in stored.tours() if "exposed" in case.wanted)
-    for words, text, output, status, wanted in (
-        *((words, good.text(), None, 2, "") for words in ([], ["Status"], ["--relay"], ["status", "x"], ["status", "--relay", "--relay"])),
-        (["check-bundle", "--relay"], good.text(), None, 2, ""),
-        (["status"], good.text(), None, 0, good.wanted),
-        (["status", "--relay"], good.text(), None, 0, good.wanted),
-        (["status"], b"", None, 1, "refused 104 LineCount\n"),
-        (["status"], b"0g\n00", None, 1, "refused 103 BadHex\n"),
-        (["status"], good.text(), "/dev/full", 1, "refused 102 WriteFailed\n"),
-        (["status"], bytes(67_108_864), None, 1, "refused 104 LineCount\n"),
-        (["status"], bytes(67_108_865), None, 1, "refused 101 InputTooLong\n"),
-    ):
-        with open(output or os.devnull, "wb") as sink:
-            streams = {"stdout": sink if output else subprocess.PIPE, "stderr": subprocess.PIPE}
-            done = subprocess.run([sys.executable, f"{HERE}/check.py", *words], input=text, **streams)
-        told = {0: done.stdout, 1: done.stderr}.get(done.returncode, done.stdout)
-        tried.hold("process", f"{words} of {len(text)} bytes", (done.returncode, told.decode()), (status, wanted))
+    """How the command ends as a process: by words, by files of bytes and of digits, and by its devices."""
+    good, proof = next(it for it in stored.tours() if "exposed" in it.wanted), next(it for it in stored.tours() if it.words[0] == "check")
+    refused = "refused %s\n"
+    with tempfile.TemporaryDirectory() as folder:
+        os.chdir(folder)
+        files = {"directory": good.lines[0], "store": good.lines[1], "proof": proof.lines[1], "digits": good.lines[1].hex().encode() + b"\n"}
+        files.update({"both": proof.text(), "empty": b"", "odd": good.text()[:-2], "returns": good.text().replace(b"\n", b"\r\n")})
+        files["two"] = b"PRDIREC2" + u32(2) + files["directory"][12:246]
+        files["bundle"] = "".join(f"{line}\n" for line in make_bundle.bundle("tally", *proof.lines)).encode()
+        for name, data in files.items():
+            with open(name, "wb") as file:
+                file.write(data)
+        told = f"program tally\ndirectory {sha256(files['directory']).hex()}\n"
+        of_two = f"{proof.wanted}program tally\ndirectory {sha256(files['two']).hex()}\n"
+        for words, output, status, wanted in (
+            *((words, None, 2, "") for words in ("", "--store", "--why --store directory store", "directory proof proof", "--program x both")),
+            ("--store directory store", None, 3, good.wanted),
+            ("--store directory digits", None, 3, good.wanted),
+            ("--store directory store digits", None, 3, good.wanted),
+            ("--store - < both", None, 1, refused % "60 BadMagic: -, line 2"),
+            ("directory proof", None, 0, proof.wanted),
+            ("directory - < proof", None, 0, proof.wanted),
+            ("both", None, 0, proof.wanted),
+            ("bundle", None, 0, proof.wanted + told),
+            ("- < bundle", None, 0, proof.wanted + told),
+            ("directory bundle", None, 0, proof.wanted + told),
+            ("two bundle", None, 0, of_two + f"disagrees: the bundle has the {told.splitlines()[1]}\n"),
+            ("proof bundle", None, 1, refused % "23 BadMagic: proof"),
+            ("both bundle", None, 1, refused % "104 LineCount"),
+            ("--program relay bundle", None, 0, None),
+            ("proof directory", None, 1, refused % "23 BadMagic: proof"),
+            ("directory store", None, 1, refused % "41 BadTag: store"),
+            ("directory", None, 1, refused % "104 LineCount"),
+            ("empty", None, 1, refused % "104 LineCount"),
+            ("--store odd", None, 1, refused % "103 BadHex: odd, line 2"),
+            ("--store returns", None, 1, refused % "103 BadHex: returns, line 1"),
+            ("directory missing", None, 1, refused % "100 ReadFailed: missing"),
+            ("directory .", None, 1, refused % "100 ReadFailed: ."),
+            ("both", "/dev/full", 1, refused % "102 WriteFailed"),
+        ):
+            words, _, given = words.partition(" < ")
+            with open(output or os.devnull, "wb") as sink, open(given or os.devnull, "rb") as source:
+                streams = {"stdout": sink if output else subprocess.PIPE, "stderr": subprocess.PIPE, "stdin": source}
+                done = subprocess.run([sys.executable, f"{HERE}/check.py", *words.split()], **streams)
+            found = (done.stderr if done.returncode == 1 else done.stdout).decode()
+            tried.hold("process", words, (done.returncode, wanted if wanted is None else found), (status, wanted))
+        os.chdir(HERE)
 
 
 def written_by(program, words, text):
@@ -195,36 +279,77 @@ def written_by(program, words, text):
     return told.decode("latin-1")
 
 
-def hold_program(tried, program, seconds, seed):
-    """The inputs of fuzz/run.py that are of the two commands here, known ones first."""
-    sys.path.append(f"{stored.TOP}/fuzz")
+def is_alike(words, text):
+    """Whether node_sim and check.py read the same here. The latter has two of the commands; it reads what has no digits at its beginning as
+    bytes, and further lines of `status` as further stores."""
+    is_digits, lines = not text[:8].strip(DIGITS), text.count(b"\n") + (text[-1:] not in (b"", b"\n"))
+    return words[:1] in (["status"], ["check"]) and words[1:] in ([], ["--relay"]) and is_digits and (words[0] == "check" or lines < 3)
+
+
+def mutated_inputs(seed):
+    """The inputs of fuzz/run.py that are read alike, known ones first."""
     import run as fuzz
 
-    inputs, end = fuzz.Inputs(seed), time.monotonic() + seconds
+    inputs = fuzz.Inputs(seed)
     known = [(f"known {at}", *it[:2]) for at, it in enumerate(inputs.known)]
     random.Random(seed).shuffle(known)
     for name, words, text in itertools.chain(known, ((f"{seed}-{at}", *inputs.input(at)) for at in itertools.count())):
-        if time.monotonic() > end:
+        if is_alike(words, text):
+            yield name, words, text
+
+
+def hold_mutated(tried, options, least):
+    """Each input beside the program, or else beside what fuzz/answers.py allows; for some seconds, and not less than so many."""
+    from answers import answers
+
+    end = time.monotonic() + options.seconds
+    for count, (name, words, text) in enumerate(mutated_inputs(options.seed)):
+        if time.monotonic() > end and count >= least:
             break
-        if words[0] in ("status", "check"):
-            tried.hold("program", f"{name}, {' '.join(words)}", opinion(words, text), written_by(program, words, text))
+        found = opinion(words, text)
+        if options.program:
+            tried.hold("program", f"{name}, {' '.join(words)}", found, written_by(options.program, words, text))
+            continue
+        allowed, fits = answers(words, text)
+        is_refused = found.startswith("refused ")
+        said = found[len("refused ") : -1] if is_refused else "0"
+        holds = said in allowed and (is_refused or fits(found.encode()))
+        tried.hold("mutated", f"{name}, {' '.join(words)}", found if not holds else "", "")
+
+
+def hold_cases(tried, folder):
+    """The cases of a folder that are read alike."""
+    for name in sorted(it[:-5] for it in os.listdir(folder) if it.endswith(".args")):
+        words, text = read(f"{folder}/{name}.args").decode().split("\n")[:-1], read(f"{folder}/{name}.stdin")
+        if is_alike(words, text):
+            status, told, errors = (read(f"{folder}/{name}.{ending}").decode() for ending in ("status", "stdout", "stderr"))
+            tried.hold("cases", f"{name}, {' '.join(words)}", opinion(words, text), errors if int(status) else told)
+
+
+def read(path):
+    with open(path, "rb") as file:
+        return file.read()
 
 
 def main():
-    parser = argparse.ArgumentParser(description="Holds the second opinion to what is stored, and to a built program.")
-    parser.add_argument("program", nargs="?", help="a build of node_sim")
-    parser.add_argument("--seconds", type=int, default=60, help="how long the program is held to it (60)")
-    parser.add_argument("--seed", type=int, default=random.randrange(2**32), help="what its inputs are made from (one by chance)")
+    parser = argparse.ArgumentParser(description="Holds check.py to what is stored, to mutated inputs, and to a built program.")
+    parser.add_argument("program", nargs="?", type=os.path.abspath, help="a build of node_sim")
+    parser.add_argument("--seconds", type=int, help="how long mutated inputs are tried (60 with a program, else as long as 200 take)")
+    parser.add_argument("--seed", type=int, default=1, help="what mutated inputs are made from (1)")
+    parser.add_argument("--cases", type=os.path.abspath, help="a folder of inputs with what is wanted")
+    parser.add_argument("--first", action="store_true", help="end at the first answer that differs")
     options = parser.parse_args()
-    tried = Tried()
+    options.seconds = options.seconds if options.seconds is not None else 60 if options.program else 0
+    tried, sources = Tried(options.first), set(LEAST) - {"program", "cases", "mutated"}
     hold_stored(tried)
-    if options.program:
-        print(f"--seed {options.seed}")
-        hold_program(tried, os.path.abspath(options.program), options.seconds, options.seed)
+    hold_mutated(tried, options, LEAST["mutated"])
+    sources.add("program" if options.program else "mutated")
+    if options.cases:
+        hold_cases(tried, options.cases)
+        sources.add("cases")
     for source, count in tried.agreed.items():
         print(f"{source}: {count} agree")
-    few = [source for source, least in LEAST.items() if tried.agreed[source] < least]
-    few += ["program"] * bool(options.program and not tried.agreed["program"])
+    few = [source for source in sources if tried.agreed[source] < LEAST[source]]
     print(f"second opinion: {sum(tried.agreed.values())} agree, {tried.differ} differ" + "".join(f", too few of {it}" for it in few))
     return 1 if tried.differ or few else 0
 

@@ -1,6 +1,7 @@
 """Inputs whose answers the repository has stored, and which no code of this folder made.
 
 - `crates/tour/stdout` and `examples/explained/`: what proved programs say of the evidence of `examples/`.
+- `crates/mailbox_tour/stdout`: what a proved program says of evidence of nodes that run Mailbox.
 - `examples/README.md`: what `node_sim` writes there of the same files.
 - `crates/evidence_vectors/stdin`: items and stores, with the answers of implementations that are not ours.
 - `refusals`: an input of `examples/` after one change each, and the refusal that FORMATS has for it.
@@ -10,7 +11,7 @@ import os
 import re
 from typing import NamedTuple
 
-from fields import sha256, u32, u64
+from check import sha256, u32, u64
 
 TOP = os.path.dirname(os.path.dirname(os.path.abspath(__file__)))
 EXAMPLES = f"{TOP}/examples"
@@ -74,27 +75,34 @@ def said_in(text):
 
 
 def tours():
-    """What the tour makes, and what it says of it: each witness the same, and where it writes a proof, of which node it is."""
-    for part in read("crates/tour/stdout").decode().split("== ")[1:]:
+    return scenes("tour", "tour", [])
+
+
+def mailbox():
+    return scenes("mailbox", "mailbox_tour", ["--program", "mailbox"])
+
+
+def scenes(source, crate, program):
+    """What a tour makes, and what it says of it: each witness the same, and where it writes a proof, of which node it is."""
+    for part in read(f"crates/{crate}/stdout").decode().split("== ")[1:]:
         name, rest = part.split("\n", 1)
         inputs, told = rest.split("--\n")
         directory, *stores = lines_of(inputs.encode())
         wanted = said_in(told.split("witness 1\n")[0])
-        yield Case("tour", name, ["status"], [directory, merged(stores)], wanted)
+        yield Case(source, name, ["status", *program], [directory, merged(stores)], wanted)
         for proof in re.findall(r"^0[123][0-9a-f]{20,}$", told, re.MULTILINE):
             node = re.search(r"(\d+) exposed", wanted)[1]
-            yield Case("tour", f"{name}, proof", ["check"], [directory, bytes.fromhex(proof)], f"exposes {node}\n")
+            yield Case(source, f"{name}, proof", ["check", *program], [directory, bytes.fromhex(proof)], f"exposes {node}\n")
 
 
 def explained():
-    """What `explain store` says of each store of `examples/`, and how it refuses what is none."""
+    """What `explain store` says of each store of `examples/`."""
     for file in sorted(os.listdir(f"{EXAMPLES}/explained")):
         name, *kind, ending = file.split(".")
         if ending != "txt" or kind not in ([], ["stores"]):
             continue
         told = read(f"examples/explained/{file}").decode()
         if told.startswith("refused"):
-            yield Case("explained", file, ["status"], [b""] * 3, told.split(":")[0] + "\n")
             continue
         directory, *stores = lines_of(read(f"examples/{name}.txt"))
         yield Case("explained", file, ["status"], [directory, merged(stores)], said_in(told))

@@ -6,8 +6,8 @@ in the order of their names' bytes:
 
     git ls-files -z | LC_ALL=C sort -z | xargs -0 sha256sum | sha256sum
 
-Behind it stands what `sha256sum` writes of each program that `rt ci` or `rt run` has left here. Whether builds of the same sources by the
-same kit repeat byte for byte is not shown yet: equal sums say that two builds are one, other sums say nothing.
+Behind it stands what `sha256sum` writes of each program that `rt ci` or `rt run` has left here. Builds of the same sources by the same
+kit were the same bytes wherever they were compared (README.md): so who proved a program can tell others by its sum which one it is.
 """
 
 import os
@@ -16,7 +16,7 @@ import sys
 
 sys.dont_write_bytecode = True
 
-from fields import sha256
+from check import sha256
 
 TOP = os.path.dirname(os.path.dirname(os.path.abspath(__file__)))
 BUILDS = [f"crates/{name}/out/{name}{ending}" for name in ("node_sim", "mailbox_sim", "explain") for ending in ("", ".by-rattle")]

@@ -1,0 +1,59 @@
+#!/usr/bin/env python3
+"""Writes a bundle: a proof to hand over in one file, with its directory, and with sentences for people. FORMATS, "Bundle", has its text.
+
+    make_bundle.py [--program NAME] DIRECTORY PROOF > BUNDLE
+
+Its files are those of check.py, which judges the proof first: of a refused one no bundle is made. The statuses are those of check.py.
+"""
+
+import argparse
+import platform
+import sys
+
+sys.dont_write_bytecode = True
+
+import check
+from check import sha256
+
+FLAGS = {"tally": "node_sim check", "relay": "node_sim check --relay", "mailbox": "mailbox_sim check"}
+
+
+def sentences(program, node, verified):
+    """What stands in a bundle for people: how to check it, what was verified, and by what."""
+    with open(check.__file__, "rb") as file:
+        own = sha256(file.read()).hex()
+    return [
+        f"Node {node} is exposed, where it was to follow the program {program}.",
+        "Believe no sentence of this file. Get the directory's sum and the name of the program, which stand below, by another way than",
+        "this file, compare, and check the proof by one of these, of which the second is proved:",
+        "  python3 check.py BUNDLE",
+        f"  tail -n 2 BUNDLE | {FLAGS[program]}",
+        "What was verified:",
+        *(f"  {line}" for line in verified),
+        f"Made with Python {platform.python_version()} by the check.py that has the SHA-256 value {own}",
+    ]
+
+
+def bundle(program, directory, proof):
+    """The lines of the bundle, of the bytes of a directory and of a proof."""
+    node, _, verified = check.of_proof(program, ("directory", directory), ("proof", proof))
+    lines = [check.FIRST, *(f"# {line}" for line in sentences(program, node, verified)), f"program {program}", f"exposes {node}"]
+    lines += [f"{name} {len(text)} {sha256(text).hex()}" for name, text in (("directory", directory), ("proof", proof))]
+    return [*lines, directory.hex(), proof.hex()]
+
+
+def made(words):
+    (_, directory), (_, proof) = check.texts_of([(name, check.read_file(name)) for name in words.files], 2, 2)
+    return bundle(words.program, directory, proof)
+
+
+def main():
+    parser = argparse.ArgumentParser(description=__doc__, formatter_class=argparse.RawDescriptionHelpFormatter, allow_abbrev=False)
+    parser.add_argument("--program", choices=check.PROGRAMS, default="tally", help="the program that the nodes were to follow")
+    parser.add_argument("files", nargs="+", metavar="FILE")
+    words = parser.parse_args()
+    return 0 if check.write(lambda: made(words)) else 1
+
+
+if __name__ == "__main__":
+    sys.exit(main())
