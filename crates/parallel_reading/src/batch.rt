@@ -8,10 +8,10 @@ ghost use Rattle.parallel_reading.specs.Readings.{AreReadings, IsReadingAt, gath
 
 use crate::item::read_item;
 use authenticators::Directory;
-use parallel_map::map_claimed;
 use containers::{Cause, ImportFault};
 use evidence_item::Checked;
 use outcome::Memory;
+use parallel_map::map_claimed;
 use replay_verifier::Program;
 use std::alloc::Global;
 use std::thread::Threads;

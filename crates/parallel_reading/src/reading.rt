@@ -90,10 +90,7 @@ where
 }
 
 /// The end of a container: no byte follows its items. It takes no memory.
-fn end<P>(
-    reader: &FieldReader,
-    items: Vec<Checked<P>>,
-) -> Result<Vec<Checked<P>>, ImportFault>
+fn end<P>(reader: &FieldReader, items: Vec<Checked<P>>) -> Result<Vec<Checked<P>>, ImportFault>
     ensures items { IfOk result (λ v. v.items ≡ items.items) }
     ensures read { IfOk result (λ v. (reads : Reads) (last : List ℕ) → rest_of reads 0 last (fields_of items.items) reader.now ≡ Ok (fields_of items.items)) }
     ensures refused { IfErr result (λ f. (reads : Reads) (last : List ℕ) → rest_of reads 0 last (fields_of items.items) reader.now ≡ Err f) }

@@ -36,12 +36,7 @@ fn told<R: Threads + Sync>(
 }
 
 /// What one worker answers of the text, and what eight do.
-fn both<R: Threads + Sync>(
-    rt: &R,
-    alloc: Global,
-    directory: &Directory,
-    text: &[u8],
-) -> [Told; 2] {
+fn both<R: Threads + Sync>(rt: &R, alloc: Global, directory: &Directory, text: &[u8]) -> [Told; 2] {
     [
         told(rt, alloc, directory, text, 1),
         told(rt, alloc, directory, text, 8),
@@ -169,7 +164,9 @@ fn the_first_fault_in_the_order_of_the_items_is_told(rt: HostRuntime) -> Result<
 }
 
 #[test]
-fn a_fault_of_the_container_is_told_behind_the_items_before_it(rt: HostRuntime) -> Result<(), Fail> {
+fn a_fault_of_the_container_is_told_behind_the_items_before_it(
+    rt: HostRuntime,
+) -> Result<(), Fail> {
     let alloc = rt.alloc();
     let from = make_statements(alloc)?;
     let told = [
@@ -204,7 +201,12 @@ fn a_fault_of_the_front_is_told(rt: HostRuntime) -> Result<(), Fail> {
         both(&rt, alloc, &none, b"PRSTORE2\0\0\0\0\0\0\0\0"),
         both(&rt, alloc, &none, b"PRSTORE2\0\0\0\0\0\0\0\0\0"),
         both(&rt, alloc, &none, b"PRSTORE2\0\0\0\0\0\0\0\x01\0\0"),
-        both(&rt, alloc, &none, b"PRSTORE2\0\0\0\0\0\0\0\x01\0\0\0\x01\x09"),
+        both(
+            &rt,
+            alloc,
+            &none,
+            b"PRSTORE2\0\0\0\0\0\0\0\x01\0\0\0\x01\x09",
+        ),
     ];
     let cut_off = twice(0, Cause::Truncated);
     assert_eq!(rt;

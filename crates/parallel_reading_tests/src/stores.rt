@@ -46,10 +46,7 @@ fn a_store_takes_the_items_of_a_text(rt: HostRuntime) -> Result<(), Fail> {
         count: 3,
         same_text: true,
     };
-    let left = [
-        left_by(&rt, rt.alloc(), 1)?,
-        left_by(&rt, rt.alloc(), 8)?,
-    ];
+    let left = [left_by(&rt, rt.alloc(), 1)?, left_by(&rt, rt.alloc(), 8)?];
     assert_eq!(rt; left, [expected, expected]);
     Ok(())
 }
