@@ -1,0 +1,110 @@
+//! Adding the items of the text of a set to a store.
+
+ghost use Rattle.std.specs.Prelude.{◌≡◌, ◌+◌, ◌<◌, ◌≤◌, IfErr, IfOk, IsOk, OnErr, OnOk};
+ghost use Rattle.std.specs.List.{All};
+ghost use Rattle.std.specs.List.Sorted.{IsStrictlySortedBy};
+ghost use Rattle.item_forms.specs.Pieces.{by_bytes};
+ghost use Rattle.evidence_item.specs.Checking.{IsChecked};
+ghost use Rattle.containers.specs.declared.fault.Cause.TheVariants as cause;
+ghost use Rattle.containers.specs.Refusals.{IsBehindFront, Refuses};
+ghost use Rattle.evidence_set.specs.Exports.{magic_of, set_text};
+ghost use Rattle.evidence_set.specs.ItemSets.{Items, Join, count, pieces, set_of};
+ghost use Rattle.evidence.specs.Contents.{with_items};
+ghost use Rattle.evidence.specs.Importing.{import_set};
+ghost use Rattle.parallel_checking.specs.declared.limits.TheConstants.{MOST_WORKERS};
+
+use crate::reading::read_all_by;
+use authenticators::Directory;
+use containers::{Cause, ImportFault};
+use evidence::{Evidence, magic_of};
+use evidence_item::Checked;
+use evidence_set::laws::sets_have_one_text;
+use log_chain::laws::bytes_fit;
+use replay_verifier::Program;
+use std::alloc::Global;
+use std::thread::Threads;
+
+/// The items of the text of a set, each checked under the directory, in the order of their spellings.
+fn items_of<R: Threads + Sync, P: Program + Send + Sync>(
+    rt: &R,
+    alloc: Global,
+    program: &P,
+    directory: &Directory,
+    bytes: &[u8],
+    workers: usize,
+) -> Result<Vec<Checked<P>>, ImportFault>
+where
+    P::State: Send,
+    requires workers { (0 < workers) × (workers ≤ MOST_WORKERS) }
+    ensures checked { IfOk result (λ items. All (IsChecked directory.now P.means) items.items) }
+    ensures ascending { IfOk result (λ items. IsStrictlySortedBy by_bytes (pieces items.items)) }
+    ensures text { IfOk result (λ items. bytes.now ≡ set_text (magic_of bytes.now) (set_of items.items)) }
+    ensures read { OnOk result (IsOk (import_set directory.now bytes.now)) }
+    ensures fault { IfErr result (λ f. Refuses f (import_set directory.now bytes.now)) }
+    ensures memory { IfErr result (λ f. f.cause ≡ cause.Memory → IsBehindFront (import_set directory.now bytes.now)) }
+{
+    bytes_fit(bytes);
+    sets_have_one_text();
+    let items = read_all_by(
+        rt,
+        alloc,
+        program,
+        directory,
+        magic_of(bytes),
+        bytes,
+        workers,
+    )?;
+    Ok(items)
+}
+
+/// Adds all of the items, or, with `Memory` behind the last of them, none.
+fn add<P: Program, S: Evidence<P>>(
+    store: &mut S,
+    items: Vec<Checked<P>>,
+) -> Result<u64, ImportFault>
+    requires checked { All (IsChecked (S.contents store.old).directory P.means) items.items }
+    requires ascending { IsStrictlySortedBy by_bytes (pieces items.items) }
+    ensures told { IfOk result (λ new. count (S.contents store.old).items + new ≡ count (S.contents store.new).items) }
+    ensures joined { OnOk result (S.contents store.new ≡ with_items (S.contents store.old) (Join (S.contents store.old).items (set_of items.items))) }
+    ensures memory { IfErr result (λ f. f.cause ≡ cause.Memory) }
+    ensures refused { OnErr result (S.contents store.new ≡ S.contents store.old) }
+{
+    let count = items.len() as u64;
+    match store.take_all(items) {
+        Ok(new) => Ok(new),
+        Err(_) => Err(ImportFault {
+            item: count,
+            cause: Cause::Memory,
+        }),
+    }
+}
+
+/// Reads the text of a set, behind `PRSTORE2` or `PRSTORE1`, checks its items by so many workers, 1 to
+/// [`MOST_WORKERS`](crate::MOST_WORKERS), and adds them: all, or none. It answers how many are new, as `Evidence::import` does, and
+/// tells the same refusals.
+pub fn import_by<R: Threads + Sync, P: Program + Send + Sync, S: Evidence<P>>(
+    rt: &R,
+    store: &mut S,
+    program: &P,
+    bytes: &[u8],
+    workers: usize,
+) -> Result<u64, ImportFault>
+where
+    P::State: Send,
+    requires workers { (0 < workers) × (workers ≤ MOST_WORKERS) }
+    ensures told { IfOk result (λ new. count (S.contents store.old).items + new ≡ count (S.contents store.new).items) }
+    ensures joined { OnOk result ((added : Items) × (bytes.now ≡ set_text (magic_of bytes.now) added) × (S.contents store.new ≡ with_items (S.contents store.old) (Join (S.contents store.old).items added))) }
+    ensures fault { IfErr result (λ f. Refuses f (import_set (S.contents store.old).directory bytes.now)) }
+    ensures memory { IfErr result (λ f. f.cause ≡ cause.Memory → IsBehindFront (import_set (S.contents store.old).directory bytes.now)) }
+    ensures refused { OnErr result (S.contents store.new ≡ S.contents store.old) }
+{
+    let items = items_of(
+        rt,
+        store.allocator(),
+        program,
+        store.directory(),
+        bytes,
+        workers,
+    )?;
+    add::<P, S>(store, items)
+}
