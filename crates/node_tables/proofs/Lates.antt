@@ -75,9 +75,9 @@ module _ (items : List Checked) (places : List ℕ) (asked : AscendBySpelling it
       (λ (le : n ≤ k).
       let here : is_late_by (slice_get items (get_or places n d)) ≡ true = subst (λ i. is_late_by (slice_get items i) ≡ true) (get_or_default places n e d inside) late in
       late_alone (slice_get items (get_or places k d)) p (⊎_elim
-          (λ (lt : n < k). lates n k d lt hi here)
-          (λ (ge : k ≤ n). let same : n ≡ k = omega (arith, le, ge) in subst (λ i. is_late_by (slice_get items (get_or places i d)) ≡ true) same here)
-          (cases_lt n k)))
+      (λ (lt : n < k). lates n k d lt hi here)
+      (λ (ge : k ≤ n). let same : n ≡ k = omega (arith, le, ge) in subst (λ i. is_late_by (slice_get items (get_or places i d)) ≡ true) same here)
+      (cases_lt n k)))
       (cases_lt k n)
 
 pub none_answered : (items : List Checked) (n : ℕ) (old places : List ℕ) → places ≡ old → AllWithin (λ i. audited_by (slice_get items i) (slice_get items n) ≡ false) places 0 (length places)
