@@ -1,5 +1,7 @@
 //! The indexed store of evidence. [`IndexedStore`] keeps its items as they came, their order by spellings, and of each node what the items
-//! say of it, so that taking one and asking of a node take time that hardly grows with what is kept.
+//! say of it: a question about a node looks up what is kept of that node, and an item that is taken its place. What is taken is held
+//! against the node's segments and open challenges: an acknowledgement or a segment closes what it answers by look-up, but a challenge
+//! looks at each of the node's segments, a segment at each open audit challenge, and a statement at each segment that begins before it.
 //!
 //! Its contract is that of the trait `Evidence`. What it keeps of a node is in `node_tables`, how it keeps an item in `kept_items`.
 #![tactic(auto)]
