@@ -1,3 +1,2 @@
 mod Gathered
-pub mod Added
 pub mod Listed

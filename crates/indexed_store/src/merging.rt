@@ -10,7 +10,7 @@ ghost use Rattle.node_tables.specs.Places.{IsOrder};
 ghost use Rattle.node_tables.specs.Rooms.{HasRoomFor, HasRoomForAll, IsRoomier, ItemRooms};
 ghost use Rattle.node_tables.specs.Steps.{AllTables, AscendByNode, EachBecomes};
 
-use crate::including::{has, keeps};
+use crate::including::keeps;
 use crate::taking::{MOST_ITEMS, add, keep};
 use authenticators::Directory;
 use evidence_item::Checked;
@@ -42,43 +42,23 @@ fn copies_of_missing<P>(
     Ok(copies)
 }
 
-/// Finds what was not found yet of the item, and keeps it, its entries shared.
-fn kept_of<P: Program>(
+/// Finds of each item what was not found yet, and keeps it, its entries shared.
+fn keep_each<P: Program>(
     alloc: Global,
     directory: &Directory,
     pool: &mut EntryPool,
-    checked: Checked<P>,
-) -> Result<KeptItem<P>, Memory>
-    requires { IsChecked directory.now P.means checked }
-    ensures whole { IfOk result (λ k. IsWhole directory.now P.means k) }
-    ensures item { IfOk result (λ k. k.item ≡ checked.item) }
-{
-    match keep(alloc, directory, pool, checked) {
-        Ok(keeping) => Ok(keeping.commit()),
-        Err(_) => Err(Memory),
-    }
-}
-
-/// Keeps each of the items that the store has not, its entries shared. Those that it has are dropped, and take no memory.
-fn keep_missing<P: Program>(
-    alloc: Global,
-    directory: &Directory,
-    pool: &mut EntryPool,
-    items: &[KeptItem<P>],
-    order: &TieredVec<u32>,
     checked: Vec<Checked<P>>,
 ) -> Result<Vec<KeptItem<P>>, Memory>
-    requires order { IsOrder items.now order.now.items }
-    requires checked { All (IsChecked directory.now P.means) checked.items }
-    ensures pieces { IfOk result (λ kept. pieces kept.items ≡ pieces (filter (λ (c : TheChecked). not (is_kept items.now c.item)) checked.items)) }
+    requires { All (IsChecked directory.now P.means) checked.items }
+    ensures pieces { IfOk result (λ kept. pieces kept.items ≡ pieces checked.items) }
     ensures whole { IfOk result (λ kept. (c : TheChecked) → Contains kept.items c → IsWhole directory.now P.means c) }
 {
-    let mut kept = Vec::new(alloc);
+    let mut kept = Vec::with_capacity(alloc, checked.len())?;
     for item in checked {
-        if has(items, order, item.item()) {
-            continue;
+        match keep(alloc, directory, pool, item) {
+            Ok(keeping) => kept.push(keeping.commit())?,
+            Err(_) => return Err(Memory),
         }
-        kept.push(kept_of(alloc, directory, pool, item)?)?;
     }
     Ok(kept)
 }
@@ -165,13 +145,13 @@ fn add_new<P: Program>(
     add(directory, items, order, tables, gap, item);
 }
 
-/// Puts each of the items in its place, the first one first, where it is not there yet. There is room for all of them.
+/// Puts each of the items in its place, where it is not there yet. There is room for all of them.
 fn add_each<P: Program>(
     directory: &Directory,
     items: &mut Vec<KeptItem<P>>,
     order: &mut TieredVec<u32>,
     tables: &mut [Table],
-    more: Vec<KeptItem<P>>,
+    mut more: Vec<KeptItem<P>>,
 )
     requires store { IsIndexed directory.now P.means items.old.items order.old.items tables.old }
     requires whole { (c : TheChecked) → Contains more.items c → IsWhole directory.now P.means c }
@@ -183,7 +163,7 @@ fn add_each<P: Program>(
     ensures joined { set_of items.new.items ≡ Join (set_of items.old.items) (set_of more.items) }
     ensures grows { length order.old.items ≤ length order.new.items }
 {
-    for item in more {
+    while let Some(item) = more.pop() {
         add_new(directory, items, order, tables, item);
     }
 }
@@ -248,7 +228,7 @@ pub(crate) fn take_all<P: Program>(
     ensures joined { OnOk result (set_of items.new.items ≡ Join (set_of items.old.items) (set_of checked.items)) }
     ensures refused { OnErr result (items.new.items ≡ items.old.items) }
 {
-    let more = keep_missing(alloc, directory, pool, items, order, checked)?;
+    let more = keep_each(alloc, directory, pool, checked)?;
     let new = add_all(directory, items, order, tables, more)?;
     Ok(new)
 }
