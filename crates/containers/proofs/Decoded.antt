@@ -24,8 +24,7 @@ use Rattle.containers.specs.CheckedItems.{checked_of, is_before}
 use Rattle.containers.specs.Container.{Refusal, as_fault, import_of, items_at, of_item, refused_unless}
 use Rattle.containers.specs.DecodedItems.{decoded_of}
 use Rattle.containers.specs.Refusals.{IsBehindFirst, of_checking, of_reading}
-use Rattle.containers.specs.within.Going.{Reads}
-use Rattle.containers.specs.within.Rest.{ended, rest_of}
+use Rattle.containers.specs.Rest.{Reads, ended, rest_of}
 use Rattle.containers.proofs.CheckedLists.{above_none}
 use Rattle.containers.proofs.Rest.{Read, behind_first, count_behind, from_text, header_opened, item_read, magic_behind}
 

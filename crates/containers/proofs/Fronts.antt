@@ -13,7 +13,8 @@ use Rattle.outcome.specs.Outcome.{told_as}
 use Rattle.containers.specs.Container.{as_fault, fed_with, import_of}
 use Rattle.containers.specs.Refusals.{IsOfItems, Refuses, fault_at}
 use Rattle.containers.specs.Stages.{State, begun, len_of, items_on, state_of, go_on}
-use Rattle.containers.specs.within.Going.{Reads, at_end}
+use Rattle.containers.specs.within.Going.{at_end}
+use Rattle.containers.specs.Rest.{Reads}
 use Rattle.containers.specs.within.Seen.{fed_of}
 use Rattle.containers.proofs.Ending.{container_ends}
 use Rattle.containers.proofs.Fed.{kept}

@@ -11,7 +11,8 @@ use Rattle.containers.specs.declared.fault.Cause.TheVariants as cause
 use Rattle.containers.specs.declared.fault.ImportFault.{ImportFault}
 use Rattle.containers.specs.Refusals.{IsBehindFront, IsOfItems, fault_at, of_checking}
 use Rattle.containers.specs.Stages.{State, begun, go_on, state_of}
-use Rattle.containers.specs.within.Going.{IsPastHeader, Reads, at_end}
+use Rattle.containers.specs.within.Going.{IsPastHeader, at_end}
+use Rattle.containers.specs.Rest.{Reads}
 use Rattle.containers.specs.within.Seen.{IsParted, fed_of, with_more}
 use Rattle.containers.proofs.Steps.{in_magic, bad_magic, in_count}
 use Rattle.evidence_item.specs.declared.fault.ItemFault.{ItemFault}

@@ -15,7 +15,8 @@ use Rattle.containers.specs.declared.progress.Progress.{Progress}
 use Rattle.containers.specs.CheckedItems.{fields_of}
 use Rattle.containers.specs.Refusals.{IsBehindFront, IsOfItems, Refuses, fault_at}
 use Rattle.containers.specs.Stages.{State, len_of, reads_on, go_on}
-use Rattle.containers.specs.within.Going.{EndsOn, GoesOn, IsOneMore, IsRead, LeadsAlike, LeadsOrReads, Leaves, Reads, TakesItem, at_end}
+use Rattle.containers.specs.within.Going.{EndsOn, GoesOn, IsOneMore, IsRead, LeadsAlike, LeadsOrReads, Leaves, TakesItem, at_end}
+use Rattle.containers.specs.Rest.{Reads}
 use Rattle.containers.specs.within.Parts.{IsCut, IsHeldOn, IsLength, IsOver, IsPart, IsTaken, IsWhole}
 use Rattle.containers.specs.within.Resting.{IsResting, Rests}
 use Rattle.containers.specs.within.Seen.{IsParted, Stands, last_text, seen, with_more}

@@ -15,7 +15,7 @@ use Rattle.containers.specs.declared.fault.Cause.TheVariants as cause
 use Rattle.containers.specs.declared.fault.ImportFault.{ImportFault}
 use Rattle.containers.specs.Container.{Refusal, as_fault, container_of, import_of, items_at, of_field, of_item, refused_unless}
 use Rattle.containers.specs.Refusals.{IsBehindFirst, fault_at}
-use Rattle.containers.specs.within.Rest.{ended, rest_of}
+use Rattle.containers.specs.Rest.{ended, rest_of}
 
 abbrev pub Reading : Type 0 → Type 0
 Reading A = List ℕ → List ℕ → Result A Cause
@@ -120,7 +120,7 @@ from_read reads n more last before (Ok text) f e = from_item reads n more text.0
 from_read reads n more last before (Err field.Truncated) f e = told_at (length before) cause.Truncated f (cc e)
 from_read reads n more last before (Err field.TooLong) f e = told_at (length before) cause.TooLong f (cc e)
 
-is_from : {A : Type 0} (reads : Reading A) (n : ℕ) → IsFrom reads n
+pub is_from : {A : Type 0} (reads : Reading A) (n : ℕ) → IsFrom reads n
 unfolding items_at
 is_from reads zero last before bytes f e = from_end before bytes (length bytes == 0) f e
 is_from reads (suc n) last before bytes f e = from_read reads n (is_from reads n) last before (bytes_at LONGEST_ITEM bytes) f e

@@ -10,7 +10,8 @@ use Rattle.containers.specs.declared.fault.Cause.TheVariants as cause
 use Rattle.containers.specs.declared.fault.ImportFault.{ImportFault}
 use Rattle.containers.specs.Refusals.{IsBehindFront, IsOfItems, fault_at}
 use Rattle.containers.specs.Stages.{State, len_of, items_on, reads_on, go_on}
-use Rattle.containers.specs.within.Going.{IsRead, Reads, at_end}
+use Rattle.containers.specs.within.Going.{IsRead, at_end}
+use Rattle.containers.specs.Rest.{Reads}
 use Rattle.containers.specs.within.Parts.{IsCut, IsHeldOn, IsTaken, IsWhole}
 use Rattle.containers.specs.within.Resting.{IsResting, Rests}
 use Rattle.containers.proofs.Steps.{short, too_long, cut, whole, none_held, over}

@@ -1,68 +1,20 @@
 //! Reading the items of a container without checking them.
 
-ghost use Rattle.std.specs.Prelude.{◌≡◌, ◌<◌, [], IfErr, IfOk, IsOk, OnOk, Err, Ok, length, map, suc, List, ℕ};
-ghost use Rattle.outcome.specs.Outcome.{Gives, told_as};
-ghost use Rattle.log_chain.specs.Fields.{bytes_at};
+ghost use Rattle.std.specs.Prelude.{◌≡◌, ◌<◌, [], IfErr, IfOk, IsOk, OnOk, Ok, length, map, suc, ℕ};
+ghost use Rattle.outcome.specs.Outcome.{Gives};
 ghost use Rattle.item_forms.specs.Pieces.{Piece};
 ghost use Rattle.item_forms.specs.Reading.{item_of};
-ghost use Rattle.item_forms.specs.declared.limits.TheConstants.{LONGEST_ITEM};
 ghost use Rattle.containers.specs.declared.fault.Cause.TheVariants as cause;
-ghost use Rattle.containers.specs.Container.{as_fault, import_of, of_field};
+ghost use Rattle.containers.specs.Container.{import_of};
 ghost use Rattle.containers.specs.DecodedItems.{decoded_of};
 ghost use Rattle.containers.specs.Refusals.{IsBehindFirst, Refuses};
-ghost use Rattle.containers.specs.within.Going.{Reads};
-ghost use Rattle.containers.specs.within.Rest.{rest_of};
+ghost use Rattle.containers.specs.Rest.{rest_of};
 
 use crate::fault::{Cause, ImportFault};
+use crate::texts::{next_text, read_count, read_end};
 use evidence_item::Item;
-use item_forms::LONGEST_ITEM;
-use log_chain::{FieldFault, FieldReader};
+use log_chain::FieldReader;
 use std::alloc::Global;
-
-/// A fault of a field of the container itself, where so many items were read.
-fn field_fault(item: u64, fault: FieldFault) -> ImportFault
-    ensures { result ≡ as_fault (of_field item fault) }
-{
-    let cause = match fault {
-        FieldFault::Truncated => Cause::Truncated,
-        FieldFault::TooLong => Cause::TooLong,
-    };
-    ImportFault { item, cause }
-}
-
-/// The count of the items, behind the eight bytes by which the container is known. It takes no memory.
-fn count_of(reader: &mut FieldReader, magic: &[u8; 8]) -> Result<u64, ImportFault>
-    ensures counted { IfOk result (λ count. (reads : Reads) → import_of magic.now reads reader.old ≡ rest_of reads count [] [] reader.new) }
-    ensures refused { IfErr result (λ f. (reads : Reads) → import_of magic.now reads reader.old ≡ Err f) }
-    ensures memory { IfErr result (λ f. ¬ (f.cause ≡ cause.Memory)) }
-{
-    let front = match reader.take(8) {
-        Ok(front) => front,
-        Err(fault) => return Err(field_fault(0, fault)),
-    };
-    if front != magic.as_slice() {
-        return Err(ImportFault {
-            item: 0,
-            cause: Cause::BadMagic,
-        });
-    }
-    match reader.u64() {
-        Ok(count) => Ok(count),
-        Err(fault) => Err(field_fault(0, fault)),
-    }
-}
-
-/// The text of the next item, where so many were read. It takes no memory.
-fn next_text<'a>(reader: &mut FieldReader<'a>, item: u64) -> Result<&'a [u8], ImportFault>
-    ensures text { IfOk result (λ text. bytes_at LONGEST_ITEM reader.old ≡ Ok (text.now, reader.new)) }
-    ensures refused { IfErr result (λ f. told_as (λ x. as_fault (of_field item x)) (bytes_at LONGEST_ITEM reader.old) ≡ Err f) }
-    ensures memory { IfErr result (λ f. ¬ (f.cause ≡ cause.Memory)) }
-{
-    match reader.bytes(LONGEST_ITEM) {
-        Ok(text) => Ok(text),
-        Err(fault) => Err(field_fault(item, fault)),
-    }
-}
 
 /// The item of a text that follows the text `last`.
 #[tactic(auto, unfolding(crate::specs::DecodedItems::decoded_of), using(crate::proofs::Decoded::item_decoded))]
@@ -110,21 +62,6 @@ fn next_item<'a>(
     }
 }
 
-/// The end of a container: no byte follows its items. It takes no memory.
-fn end(reader: &FieldReader, items: Vec<Item>) -> Result<Vec<Item>, ImportFault>
-    ensures read { IfOk result (λ v. (last : List ℕ) → rest_of decoded_of 0 last (map (λ (i : Piece). i.fields) items.items) reader.now ≡ Ok (map (λ (i : Piece). i.fields) v.items)) }
-    ensures refused { IfErr result (λ f. (last : List ℕ) → rest_of decoded_of 0 last (map (λ (i : Piece). i.fields) items.items) reader.now ≡ Err f) }
-    ensures memory { IfErr result (λ f. ¬ (f.cause ≡ cause.Memory)) }
-{
-    if reader.left() > 0 {
-        return Err(ImportFault {
-            item: items.len() as u64,
-            cause: Cause::Trailing,
-        });
-    }
-    Ok(items)
-}
-
 /// The items of a text that is there at once, each read and in its place, and **none of them checked**: for what only counts, sorts or
 /// deals out items that others check. It wants neither a directory nor a program, and verifies no signature.
 ///
@@ -137,11 +74,12 @@ pub fn decode_all(alloc: Global, magic: [u8; 8], bytes: &[u8]) -> Result<Vec<Ite
     ensures memory { IfErr result (λ f. f.cause ≡ cause.Memory → IsBehindFirst (import_of magic decoded_of bytes.now)) }
 {
     let mut reader = FieldReader::new(bytes);
-    let count = count_of(&mut reader, &magic)?;
+    let count = read_count(&mut reader, &magic)?;
     let mut items = Vec::new(alloc);
     let mut last: &[u8] = &[];
     for _ in 0..count {
         last = next_item(alloc, &mut reader, &mut items, last)?;
     }
-    end(&reader, items)
+    read_end(&reader, items.len() as u64)?;
+    Ok(items)
 }

@@ -14,8 +14,9 @@ use containers::{Cause, ImportFault};
 use evidence_item::Checked;
 use replay_verifier::Program;
 
-/// Adds all of the items, or, with `Memory` behind the last of them, none.
-pub(crate) fn add<P: Program, S: Evidence<P>>(
+/// Adds all of the items, which ascend as a text has them and were checked under the store's directory; or none, with `Memory` (99) behind
+/// the last of them. It answers how many are new.
+pub fn add_all<P: Program, S: Evidence<P>>(
     store: &mut S,
     items: Vec<Checked<P>>,
 ) -> Result<u64, ImportFault>

@@ -17,7 +17,7 @@ ghost use Rattle.evidence.specs.Contents.{Contents, with_items};
 ghost use Rattle.evidence.specs.Importing.{import_set};
 ghost use Rattle.evidence.specs.declared.fault.AskFault.TheVariants as ask;
 
-use crate::adding::add;
+use crate::adding::add_all;
 use crate::fault::{AskFault, NewStoreRefused, TakeRefused, UnknownNode};
 use crate::set_text::items_of;
 use authenticators::{Directory, NodeId};
@@ -150,6 +150,6 @@ pub trait Evidence<P: Program>: Drop {
         ensures refused { OnErr result (contents self.new ≡ contents self.old) }
     {
         let items = items_of(self.allocator(), program, self.directory(), bytes)?;
-        add(self, items)
+        add_all(self, items)
     }
 }

@@ -11,7 +11,7 @@ ghost use Rattle.evidence_set.specs.ItemSets.{Items, Join, count};
 ghost use Rattle.evidence.specs.Contents.{with_items};
 ghost use Rattle.evidence.specs.Importing.{fed_by, imported};
 
-use crate::adding::add;
+use crate::adding::add_all;
 use crate::evidence::Evidence;
 use crate::fault::NewStoreRefused;
 use crate::stage::{Head, Stage, feed, finish};
@@ -91,6 +91,6 @@ impl<P: Program> Importer<P> {
         ensures refused { OnErr result (S.contents store.new ≡ S.contents store.old) }
     {
         let items = finish(self.stage)?;
-        add(store, items)
+        add_all(store, items)
     }
 }

@@ -4,7 +4,7 @@
 //! - [`Evidence`] is the trait of stores. [`AskFault`], [`NewStoreRefused`], [`TakeRefused`] and [`UnknownNode`] say why its calls
 //!   refuse.
 //! - [`Importer`] reads the text of a set that comes in pieces, and hands its items to a store. [`MAGIC`] is what stands at the front
-//!   of the text that is written.
+//!   of the text that is written. [`add_all`] hands checked items to a store as these do.
 //! - [`laws`] has what follows from the definitions.
 //!
 //! The contract of the trait speaks of the directory and of the set of items alone, in the words of `evidence_set`.
@@ -12,6 +12,7 @@
 //! `specs/Refusals.antt` the numbers of refusals.
 #![tactic(auto)]
 
+pub use adding::add_all;
 pub use evidence::Evidence;
 pub use fault::{AskFault, NewStoreRefused, TakeRefused, UnknownNode};
 pub use importer::Importer;

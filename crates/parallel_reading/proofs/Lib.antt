@@ -1,6 +1,5 @@
 mod Apart
 mod Gathering
-mod Headers
 mod ImportedSets
 pub mod Items
 mod Placed

@@ -15,8 +15,8 @@ ghost use Rattle.parallel_checking.specs.declared.limits.TheConstants.{MOST_WORK
 
 use crate::reading::read_all_by;
 use authenticators::Directory;
-use containers::{Cause, ImportFault};
-use evidence::{Evidence, magic_of};
+use containers::ImportFault;
+use evidence::{Evidence, add_all, magic_of};
 use evidence_item::Checked;
 use evidence_set::laws::sets_have_one_text;
 use log_chain::laws::bytes_fit;
@@ -57,28 +57,6 @@ where
     Ok(items)
 }
 
-/// Adds all of the items, or, with `Memory` behind the last of them, none.
-fn add<P: Program, S: Evidence<P>>(
-    store: &mut S,
-    items: Vec<Checked<P>>,
-) -> Result<u64, ImportFault>
-    requires checked { All (IsChecked (S.contents store.old).directory P.means) items.items }
-    requires ascending { IsStrictlySortedBy by_bytes (pieces items.items) }
-    ensures told { IfOk result (λ new. count (S.contents store.old).items + new ≡ count (S.contents store.new).items) }
-    ensures joined { OnOk result (S.contents store.new ≡ with_items (S.contents store.old) (Join (S.contents store.old).items (set_of items.items))) }
-    ensures memory { IfErr result (λ f. f.cause ≡ cause.Memory) }
-    ensures refused { OnErr result (S.contents store.new ≡ S.contents store.old) }
-{
-    let count = items.len() as u64;
-    match store.take_all(items) {
-        Ok(new) => Ok(new),
-        Err(_) => Err(ImportFault {
-            item: count,
-            cause: Cause::Memory,
-        }),
-    }
-}
-
 /// Reads the text of a set, behind `PRSTORE2` or `PRSTORE1`, checks its items by so many workers, 1 to
 /// [`MOST_WORKERS`](crate::MOST_WORKERS), and adds them: all, or none. It answers how many are new, as `Evidence::import` does, and
 /// tells the same refusals.
@@ -106,5 +84,5 @@ where
         bytes,
         workers,
     )?;
-    add::<P, S>(store, items)
+    add_all::<P, S>(store, items)
 }

@@ -9,14 +9,13 @@ ghost use Rattle.containers.specs.Container.{import_of};
 ghost use Rattle.containers.specs.Feeding.{AreItems};
 ghost use Rattle.containers.specs.Refusals.{IsBehindFront, Refuses};
 ghost use Rattle.parallel_checking.specs.declared.limits.TheConstants.{MOST_WORKERS};
-ghost use Rattle.parallel_reading.specs.Readings.{rest_of};
-ghost use Rattle.parallel_reading.specs.within.Texts.{Reads};
+ghost use Rattle.containers.specs.Rest.{rest_of};
 
 use crate::batch::{keep_all, read_texts};
 use crate::item::read_item;
-use crate::texts::{header, next_text, next_texts};
+use crate::texts::next_texts;
 use authenticators::Directory;
-use containers::{Cause, ImportFault};
+use containers::{Cause, ImportFault, next_text, read_count, read_end};
 use evidence_item::Checked;
 use log_chain::FieldReader;
 use replay_verifier::Program;
@@ -89,22 +88,6 @@ where
     Ok((texts[read], left - read as u64))
 }
 
-/// The end of a container: no byte follows its items. It takes no memory.
-fn end<P>(reader: &FieldReader, items: Vec<Checked<P>>) -> Result<Vec<Checked<P>>, ImportFault>
-    ensures items { IfOk result (λ v. v.items ≡ items.items) }
-    ensures read { IfOk result (λ v. (reads : Reads) (last : List ℕ) → rest_of reads 0 last (fields_of items.items) reader.now ≡ Ok (fields_of items.items)) }
-    ensures refused { IfErr result (λ f. (reads : Reads) (last : List ℕ) → rest_of reads 0 last (fields_of items.items) reader.now ≡ Err f) }
-    ensures memory { IfErr result (λ f. ¬ (f.cause ≡ cause.Memory)) }
-{
-    if reader.left() > 0 {
-        return Err(ImportFault {
-            item: items.len() as u64,
-            cause: Cause::Trailing,
-        });
-    }
-    Ok(items)
-}
-
 /// Reads the items that are left, behind those that were read.
 fn read_rest<'a, R: Threads + Sync, P: Program + Send + Sync>(
     rt: &R,
@@ -129,7 +112,8 @@ where
             rt, alloc, program, directory, reader, &mut items, last, left, workers,
         )?;
     }
-    end(reader, items)
+    read_end(reader, items.len() as u64)?;
+    Ok(items)
 }
 
 /// The items of a text that is there at once, each checked, by so many workers: 1 to [`MOST_WORKERS`](crate::MOST_WORKERS). It answers what
@@ -158,10 +142,11 @@ where
     ensures memory { IfErr result (λ f. f.cause ≡ cause.Memory → IsBehindFront (import_of magic (checked_of directory.now) bytes.now)) }
 {
     let mut reader = FieldReader::new(bytes);
-    let count = header(&mut reader, &magic)?;
+    let count = read_count(&mut reader, &magic)?;
     let mut items = Vec::new(alloc);
     if count == 0 {
-        return end(&reader, items);
+        read_end(&reader, 0)?;
+        return Ok(items);
     }
     let last = read_first(alloc, program, directory, &mut reader, &mut items)?;
     read_rest(

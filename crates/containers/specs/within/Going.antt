@@ -13,11 +13,9 @@ use Rattle.containers.specs.declared.fault.ImportFault.{ImportFault}
 use Rattle.containers.specs.Container.{Faulty, as_fault}
 use Rattle.containers.specs.Stages.{State, begun, closed, go_on}
 use Rattle.containers.specs.CheckedItems.{fields_of}
+use Rattle.containers.specs.Rest.{Reads}
 use Rattle.containers.specs.within.Parts.{IsHeldOn, IsTaken}
 use Rattle.containers.specs.within.Seen.{IsParted, Stands, StandsWith, last_text, seen, with_more}
-
-abbrev pub Reads : Type 0
-Reads = List ℕ → List ℕ → Result Fields Cause
 
 -- What is left is behind the part, or is a body that is cut off.
 abbrev pub Leaves : Left → (List ℕ → Type 0) → (List ℕ → Type 0) → Type 0

@@ -1,4 +1,4 @@
-use Rattle.std.proofs.Common.{◌≡◌, ◌∙◌, ◌+◌, ◌-◌, ◌<◌, ⊎_elim, inl, List, ℕ, [], suc, map, length, sym, ap, subst, arith}
+use Rattle.std.proofs.Common.{◌≡◌, ◌∙◌, ◌+◌, ◌-◌, ◌<◌, ◌≤◌, ⊎_elim, inl, inr, List, ℕ, [], suc, map, length, sym, ap, subst, arith}
 use Rattle.std.specs.Prelude.{Result}
 use Rattle.std.proofs.lemmas.List.{length-map}
 use Rattle.std.proofs.lemmas.Result.{err_from_is_err_and}
@@ -8,7 +8,7 @@ use Rattle.containers.specs.declared.fault.ImportFault.{ImportFault}
 use Rattle.containers.specs.Container.{import_of}
 use Rattle.containers.specs.DecodedItems.{decoded_of}
 use Rattle.containers.specs.Refusals.{IsBehindFirst, Refuses}
-use Rattle.containers.specs.within.Rest.{rest_of}
+use Rattle.containers.specs.Rest.{rest_of}
 use Rattle.containers.proofs.Rest.{behind_first}
 use Rattle.containers.proofs.decoding.decode_all.Goals as goal
 
@@ -39,6 +39,32 @@ returns-in_err-last-clause-memory c =
     (subst (λ (xs : List Piece). IsBehindFirst (rest_of decoded_of (suc left) [] (map (λ (i : Piece). i.fields) xs) c.loop.reader)) (sym none.1)
     (c.in_err-last.ensures.memory memory none.0 none.1 left)))
     c.loop.invariant.begun))
+
+-- at the end
+none_left : (n k : ℕ) (magic last bytes left : List ℕ) (before : List Fields) → import_of magic decoded_of bytes ≡ rest_of decoded_of (n - k) last before left → n ≤ k → import_of magic decoded_of bytes ≡ rest_of decoded_of 0 last before left
+none_left n k magic last bytes left before same above =
+    let none : n - k ≡ 0 = omega (arith, above) in
+    same ∙ ap (λ (m : ℕ). rest_of decoded_of m last before left) none
+
+pub returns-in_err-read_end-clause-refused : goal.returns-in_err-read_end-clause-refused
+returns-in_err-read_end-clause-refused c =
+    let p = err_from_is_err_and c.from_residual-in_err-read_end.result c.from_residual-in_err-read_end.ensures.1 in
+    let fields : List Fields = map (λ (i : Piece). i.fields) c.loop.items.items in
+    let no = c.loop-test.false in
+    let above : c.in_ok-count.count ≤ c.loop.counter = omega (arith, no) in
+    let same = none_left c.in_ok-count.count c.loop.counter c.args.magic c.loop.last.now c.args.bytes.now c.loop.reader fields c.loop.invariant.same above in
+    let many : length fields ≡ length c.loop.items.items = length-map c.loop.items.items (λ (i : Piece). i.fields) in
+    let ok = c.loop.items.ok in
+    let len = c.len.ensures in
+    let number : length fields ≡ c.len.result = omega (arith, ok, len, many) in
+    rw (p.1, p.2) (inr (same ∙ c.in_err-read_end.ensures.refused decoded_of c.loop.last.now fields number))
+
+pub returns-clause-items : goal.returns-clause-items
+returns-clause-items c =
+    let fields : List Fields = map (λ (i : Piece). i.fields) c.loop.items.items in
+    let no = c.loop-test.false in
+    let above : c.in_ok-count.count ≤ c.loop.counter = omega (arith, no) in
+    none_left c.in_ok-count.count c.loop.counter c.args.magic c.loop.last.now c.args.bytes.now c.loop.reader fields c.loop.invariant.same above ∙ c.in_ok-read_end.ensures.read decoded_of c.loop.last.now fields
 
 pub loop-preserved : goal.loop-preserved
 loop-preserved c =

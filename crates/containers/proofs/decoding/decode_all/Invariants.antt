@@ -2,7 +2,7 @@ use Rattle.std.proofs.Common.{◌≡◌, ◌<◌, ◌-◌, ◌⊎◌, [], length
 use Rattle.item_forms.specs.Pieces.{Piece}
 use Rattle.containers.specs.Container.{import_of}
 use Rattle.containers.specs.DecodedItems.{decoded_of}
-use Rattle.containers.specs.within.Rest.{rest_of}
+use Rattle.containers.specs.Rest.{rest_of}
 use Rattle.containers.proofs.decoding.decode_all.Given as goal
 
 abbrev pub invariant-loop : goal.invariant-loop

@@ -8,8 +8,8 @@ use Rattle.containers.specs.declared.fault.Cause.TheVariants as cause
 use Rattle.containers.specs.DecodedItems.{decoded_of}
 use Rattle.containers.proofs.CheckedLists.{some_read}
 use Rattle.containers.proofs.Decoded.{decoded_is, first_behind}
-use Rattle.containers.proofs.Rest.{item_read, item_refused, text_refused}
-use Rattle.containers.specs.within.Rest.{rest_of}
+use Rattle.containers.proofs.Rest.{item_read, item_refused}
+use Rattle.containers.specs.Rest.{rest_of}
 use Rattle.containers.proofs.decoding.next_item.Goals as goal
 use Rattle.containers.proofs.decoding.next_item.Goals.{in-Ok-push, in-Err-push}
 
@@ -21,7 +21,7 @@ returns-in_err-text-clause-refused c =
     let p = err_from_is_err_and c.from_residual.result c.from_residual.ensures.1 in
     let count : length (fields c.args.items.now.items) ≡ length c.args.items.now.items = length-map c.args.items.now.items (λ (i : Piece). i.fields) in
     let number : c.len-number.result ≡ length (fields c.args.items.now.items) = let n = c.len-number.ensures in let ok = c.args.items.now.ok in omega (arith, n, ok, count) in
-    rw (p.1, p.2) (λ n. inr (text_refused decoded_of n c.len-number.result c.args.last.now (fields c.args.items.now.items) c.args.reader.now c.in_err-text.field-0.0 number c.in_err-text.ensures.refused))
+    rw (p.1, p.2) (λ n. inr (c.in_err-text.ensures.refused decoded_of n c.args.last.now (fields c.args.items.now.items) (sym number)))
 
 pub returns-in-Err-clause-refused : goal.returns-in-Err-clause-refused
 returns-in-Err-clause-refused c = λ n.

@@ -8,6 +8,6 @@ use Rattle.evidence.proofs.evidence.Evidence.import.Goals as goal
 pub returns-clause-joined : goal.returns-clause-joined
 returns-clause-joined g c =
     let old = g.Self.Evidence.contents c.args.self.now in
-    let new = g.Self.Evidence.contents c.add.new.store in
-    on_more c.add.result (new ≡ with_items old (Join old.items (set_of c.in_ok-items.items.items))) ((added : Items) × (c.args.bytes.now ≡ set_text (magic_of c.args.bytes.now) added) × (new ≡ with_items old (Join old.items added)))
-    (λ joined. (set_of c.in_ok-items.items.items, c.in_ok-items.ensures.text, joined)) c.add.ensures.joined
+    let new = g.Self.Evidence.contents c.add_all.new.store in
+    on_more c.add_all.result (new ≡ with_items old (Join old.items (set_of c.in_ok-items.items.items))) ((added : Items) × (c.args.bytes.now ≡ set_text (magic_of c.args.bytes.now) added) × (new ≡ with_items old (Join old.items added)))
+    (λ joined. (set_of c.in_ok-items.items.items, c.in_ok-items.ensures.text, joined)) c.add_all.ensures.joined

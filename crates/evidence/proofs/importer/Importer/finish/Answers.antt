@@ -21,8 +21,8 @@ add-requires-clause-ascending g c = c.in_ok-items.ensures.ascending c.self.insid
 pub returns-clause-joined : goal.returns-clause-joined
 returns-clause-joined g c =
     let old = g.S.Evidence.contents c.args.store.now in
-    let new = g.S.Evidence.contents c.add.new.store in
+    let new = g.S.Evidence.contents c.add_all.new.store in
     let t = c.in_ok-items.ensures.text c.self.inside.directory c.self.invariant in
-    on_more c.add.result (new ≡ with_items old (Join old.items (set_of c.in_ok-items.items.items)))
+    on_more c.add_all.result (new ≡ with_items old (Join old.items (set_of c.in_ok-items.items.items)))
     ((text : List ℕ) × (added : Items) × (c.args.self.fed ≡ Ok text) × (text ≡ set_text (magic_of text) added) × (new ≡ with_items old (Join old.items added)))
-    (λ joined. (t.0, set_of c.in_ok-items.items.items, sym (ap (λ (v : Importing). v.fed) c.self.view_is) ∙ t.1, t.2, joined)) c.add.ensures.joined
+    (λ joined. (t.0, set_of c.in_ok-items.items.items, sym (ap (λ (v : Importing). v.fed) c.self.view_is) ∙ t.1, t.2, joined)) c.add_all.ensures.joined

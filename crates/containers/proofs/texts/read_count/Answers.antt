@@ -1,7 +1,7 @@
 use Rattle.std.proofs.Common.{◌≡◌, ◌∙◌, Bool, true, false, not, List, ℕ, Err, refl, sym, ap}
 use Rattle.std.specs.Str.{bytes_eq}
 use Rattle.containers.proofs.Rest.{counted, no_count, no_magic, other_magic}
-use Rattle.containers.proofs.decoding.count_of.Goals as goal
+use Rattle.containers.proofs.texts.read_count.Goals as goal
 
 is_true : (b : Bool) → not b ≡ false → b ≡ true
 is_true true e = refl

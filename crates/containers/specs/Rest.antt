@@ -1,0 +1,38 @@
+-- What the rest of a container makes, behind the items that were read.
+use Rattle.std.specs.Prelude.{ℕ, suc, ◌≡◌, ◌≤◌, ◌==◌, List, [], ◌∷◌, ◌++◌, length, Result, Ok, Err}
+use Rattle.outcome.specs.Outcome.{◌>>=◌, told_as}
+use Rattle.log_chain.specs.Fields.{bytes_at}
+use Rattle.item_forms.specs.declared.limits.TheConstants.{LONGEST_ITEM}
+use Rattle.item_forms.specs.declared.forms.Fields.{Fields}
+use Rattle.containers.specs.declared.fault.Cause.{Cause}
+use Rattle.containers.specs.declared.fault.Cause.TheVariants as cause
+use Rattle.containers.specs.declared.fault.ImportFault.{ImportFault}
+use Rattle.containers.specs.Container.{Refusal, as_fault, items_at, of_item, refused_unless}
+use Rattle.containers.specs.Refusals.{fault_at}
+
+-- How a text that follows the text of the item before it is read.
+abbrev pub Reads : Type 0
+Reads = List ℕ → List ℕ → Result Fields Cause
+
+-- The end of a container: no byte follows its items.
+abbrev pub ended : {A : Type 0} → List A × List ℕ → Result (List A) Refusal
+ended items = refused_unless (of_item (length items.0) cause.Trailing) (length items.1 == 0) >>= λ _. Ok items.0
+
+-- All of its items, or the fault that the caller is told, where so many are still to come behind those that were read; `last` is
+-- the last one's text.
+abbrev pub rest_of : {A : Type 0} → (List ℕ → List ℕ → Result A Cause) → ℕ → List ℕ → List A → List ℕ → Result (List A) ImportFault
+rest_of reads n last before bytes = told_as as_fault (items_at reads n last before bytes >>= ended)
+
+-- ---- laws, which `laws` proves
+
+-- An item that stands next and is read is one more of those that were read; one that is not read is the fault; and a fault stands at no
+-- item that was read.
+pub record RestsAreReadByItems (A : Type 0) : Type 0 where
+  pub read : (reads : List ℕ → List ℕ → Result A Cause) (n : ℕ) (last text : List ℕ) (before : List A) (bytes rest : List ℕ) (x : A)
+      → bytes_at LONGEST_ITEM bytes ≡ Ok (text, rest) → reads last text ≡ Ok x
+      → rest_of reads (suc n) last before bytes ≡ rest_of reads n text (before ++ x ∷ []) rest
+  pub refused : (reads : List ℕ → List ℕ → Result A Cause) (n : ℕ) (last text : List ℕ) (before : List A) (bytes rest : List ℕ) (c : Cause)
+      → bytes_at LONGEST_ITEM bytes ≡ Ok (text, rest) → reads last text ≡ Err c
+      → rest_of reads (suc n) last before bytes ≡ Err (fault_at (length before) c)
+  pub behind : (reads : List ℕ → List ℕ → Result A Cause) (n : ℕ) (last : List ℕ) (before : List A) (bytes : List ℕ) (f : ImportFault)
+      → rest_of reads n last before bytes ≡ Err f → length before ≤ f.item

@@ -1,0 +1,82 @@
+//! The count of a container's items, their texts, and its end.
+
+ghost use Rattle.std.specs.Prelude.{◌≡◌, [], IfErr, IfOk, OnErr, OnOk, Err, Ok, length, suc, List, ℕ};
+ghost use Rattle.log_chain.specs.Fields.{bytes_at};
+ghost use Rattle.item_forms.specs.declared.forms.Fields.{Fields};
+ghost use Rattle.item_forms.specs.declared.limits.TheConstants.{LONGEST_ITEM};
+ghost use Rattle.containers.specs.declared.fault.Cause.TheVariants as cause;
+ghost use Rattle.containers.specs.Container.{as_fault, import_of, of_field};
+ghost use Rattle.containers.specs.Rest.{Reads, rest_of};
+
+use crate::fault::{Cause, ImportFault};
+use item_forms::LONGEST_ITEM;
+use log_chain::{FieldFault, FieldReader};
+
+/// A fault of a field of the container itself, where so many items were read.
+fn field_fault(item: u64, fault: FieldFault) -> ImportFault
+    ensures { result ≡ as_fault (of_field item fault) }
+{
+    let cause = match fault {
+        FieldFault::Truncated => Cause::Truncated,
+        FieldFault::TooLong => Cause::TooLong,
+    };
+    ImportFault { item, cause }
+}
+
+/// How many items a container says that it has, behind the eight bytes by which it is known. It takes no memory, and leaves the reader
+/// at the first item.
+///
+/// The first of these is told, at item 0: `Truncated` (40) where fewer than eight bytes are there, `BadMagic` (60), `Truncated` of the
+/// count.
+pub fn read_count(reader: &mut FieldReader, magic: &[u8; 8]) -> Result<u64, ImportFault>
+    ensures counted { IfOk result (λ count. (reads : Reads) → import_of magic.now reads reader.old ≡ rest_of reads count [] [] reader.new) }
+    ensures refused { IfErr result (λ f. (reads : Reads) → import_of magic.now reads reader.old ≡ Err f) }
+    ensures memory { IfErr result (λ f. ¬ (f.cause ≡ cause.Memory)) }
+{
+    let front = match reader.take(8) {
+        Ok(front) => front,
+        Err(fault) => return Err(field_fault(0, fault)),
+    };
+    if front != magic.as_slice() {
+        return Err(ImportFault {
+            item: 0,
+            cause: Cause::BadMagic,
+        });
+    }
+    match reader.u64() {
+        Ok(count) => Ok(count),
+        Err(fault) => Err(field_fault(0, fault)),
+    }
+}
+
+/// The text of the next item, where so many were read. It takes no memory.
+///
+/// The first of these is told, at the next item: `Truncated` (40) of its length, `TooLong` (42), `Truncated` of its bytes.
+pub fn next_text<'a>(reader: &mut FieldReader<'a>, item: u64) -> Result<&'a [u8], ImportFault>
+    ensures text { IfOk result (λ text. bytes_at LONGEST_ITEM reader.old ≡ Ok (text.now, reader.new)) }
+    ensures refused { IfErr result (λ f. (reads : Reads) (n : ℕ) (last : List ℕ) (before : List Fields) → length before ≡ item → rest_of reads (suc n) last before reader.old ≡ Err f) }
+    ensures memory { IfErr result (λ f. ¬ (f.cause ≡ cause.Memory)) }
+    ensures same { OnErr result (reader.new ≡ reader.old) }
+{
+    match reader.bytes(LONGEST_ITEM) {
+        Ok(text) => Ok(text),
+        Err(fault) => Err(field_fault(item, fault)),
+    }
+}
+
+/// Tests that no byte follows the items of a container, of which so many were read. It takes no memory.
+///
+/// `Trailing` (43) is told at the count of the items.
+pub fn read_end(reader: &FieldReader, items: u64) -> Result<(), ImportFault>
+    ensures read { OnOk result ((reads : Reads) (last : List ℕ) (before : List Fields) → rest_of reads 0 last before reader.now ≡ Ok before) }
+    ensures refused { IfErr result (λ f. (reads : Reads) (last : List ℕ) (before : List Fields) → length before ≡ items → rest_of reads 0 last before reader.now ≡ Err f) }
+    ensures memory { IfErr result (λ f. ¬ (f.cause ≡ cause.Memory)) }
+{
+    if reader.left() > 0 {
+        return Err(ImportFault {
+            item: items,
+            cause: Cause::Trailing,
+        });
+    }
+    Ok(())
+}
