@@ -1,10 +1,11 @@
 //! Which challenges are answered.
 
-ghost use Rattle.std.specs.Prelude.{◌≡◌, ◌↔◌, ◌≤◌, IsTrue, Some, false, not, slice_get, true, vec_capacity, vec_len};
+ghost use Rattle.std.specs.Prelude.{◌≡◌, ◌↔◌, ◌<◌, ◌≤◌, IsTrue, Some, false, length, not, slice_get, true, vec_capacity, vec_len};
 ghost use Rattle.std.specs.List.{filter, list_any};
 ghost use Rattle.evidence_set.specs.Challenges.{is_against};
 ghost use Rattle.kept_evidence.specs.Telling.{is_answered};
 ghost use Rattle.node_tables.specs.declared.span.Span.{Span as TheSpan};
+ghost use Rattle.node_tables.specs.declared.table.Table.{Table as TheTable};
 ghost use Rattle.node_tables.specs.Indexed.{AreReceipts};
 ghost use Rattle.node_tables.specs.Places.{AscendBySpelling, IsAcknowledged, IsOrder};
 ghost use Rattle.node_tables.specs.Steps.{AllTables, AscendByNode};
@@ -148,8 +149,8 @@ fn is_answered<P>(
     }
 }
 
-/// The same of an item at a place that may be no challenge against the node, by the node's table.
-pub(crate) fn is_answered_in<P>(
+/// The same of an item that may be no challenge against the node, by the node's table.
+fn is_answered_in<P>(
     items: &[KeptItem<P>],
     order: &TieredVec<u32>,
     tables: &[Table],
@@ -169,4 +170,25 @@ pub(crate) fn is_answered_in<P>(
         return false;
     }
     is_answered(items, order, tables, table.node, &table.spans, kept, place)
+}
+
+/// The same by the place of the node's table.
+pub(crate) fn is_answered_at<P>(
+    items: &[KeptItem<P>],
+    order: &TieredVec<u32>,
+    tables: &[Table],
+    i: usize,
+    kept: &KeptItem<P>,
+    place: u32,
+) -> bool
+    requires order { IsOrder items.now order.now.items }
+    requires ascending { AscendByNode tables.now }
+    requires told { AllTables (IsTold items.now) tables.now }
+    requires receipts { AllTables (λ t. AreReceipts items.now t) tables.now }
+    requires here { slice_get items.now place ≡ Some kept.now }
+    requires others { AllTables (λ t. AreOthers items.now t.node place t.spans.items) tables.now }
+    requires inside { i < length tables.now }
+    ensures { (t : TheTable) → slice_get tables.now i ≡ Some t → is_against t.node kept.now.item.fields ≡ true → result ≡ is_answered items.now kept.now.item.fields }
+{
+    is_answered_in(items, order, tables, &tables[i], kept, place)
 }

@@ -13,7 +13,7 @@ ghost use Rattle.node_tables.specs.Steps.{AllTables, AscendByNode, EachBecomes};
 ghost use Rattle.node_tables.specs.Tables.{IsSegmentAt, IsTold};
 ghost use Rattle.node_tables.specs.within.Placing.{AreAgainst, AreOthers, BodyRooms, BodyRoomsOf, BodyStep, IsAckAt, IsNewAmong, subject_by};
 
-use crate::answering::{close_acknowledged, is_answered_in};
+use crate::answering::{close_acknowledged, is_answered_at};
 use crate::closing::close_by_segment;
 use crate::order::compare_kept_at;
 use crate::segments::put_segment;
@@ -217,7 +217,7 @@ pub(crate) fn put_body<P>(
         return;
     };
     if let Some(i) = place_of(tables, node) {
-        let answered = is_answered_in(items, order, tables, &tables[i], kept, place);
+        let answered = is_answered_at(items, order, tables, i, kept, place);
         put_in(items, &mut tables[i], place, kept, answered);
     }
 }
