@@ -1,11 +1,11 @@
 -- What a segment answers: send challenges by the messages that it quotes, and audit challenges.
 use Rattle.std.proofs.Common.{◌≡◌, ℕ, zero, suc, ◌+◌, ◌-◌, ◌<◌, ◌≤◌, Bool, true, false, cond, not, List, [], ◌∷◌, length, map, Option, Some, None, refl, sym, ap, subst, ◌∙◌, ◌⊎◌, inl, inr, ⊎_elim, arith}
-use Rattle.std.specs.Prelude.{◌↔◌, ◌==◌, ◌&&◌, ◌||◌, is_some, slice_get}
+use Rattle.std.specs.Prelude.{◌==◌, ◌&&◌, ◌||◌, slice_get}
 use Rattle.std.specs.List.{filter}
 use Rattle.std.specs.Ordering.{is_eq}
 use Rattle.std.proofs.lemmas.Bool.{cases_lt}
 use Rattle.std.proofs.lemmas.Bool.Decides.{Decides-eqb}
-use Rattle.std.proofs.lemmas.Option.{same_Some, slice_get_within}
+use Rattle.std.proofs.lemmas.Option.{same_Some}
 use Rattle.std.proofs.lemmas.List.Kept.{IsStrictlySortedBy-filter}
 use Rattle.log_chain.specs.declared.entry.Entry.{Entry}
 use Rattle.authenticators.specs.declared.authenticator.Authenticator.{Authenticator}
@@ -338,7 +338,7 @@ told_receipt_at m (form.Segment s) f h j own =
     let seq : q.statement.seq ≡ m.seq = q.seq in
     let one : Sending = record { from = q.statement.node; to = s.node; seq = q.statement.seq } in
     let other : Sending = record { from = m.from; to = m.to; seq = m.seq } in
-    let same : one ≡ other = cc in
+    let same : one ≡ other = λ i. record { from = from i; to = to i; seq = seq i } in
     (suc r.0, ap (received s.node) at ∙ ap Some same)
 told_receipt_at m (form.Audit d) f h j own = absurd own
 told_receipt_at m (form.Send n) f h j own = absurd own

@@ -1,23 +1,20 @@
 -- Receipts: in one table, and in the tables of all nodes.
-use Rattle.std.proofs.Common.{◌≡◌, ◌≢◌, ℕ, zero, suc, ◌+◌, ◌-◌, ◌<◌, ◌≤◌, Bool, true, false, List, [], ◌∷◌, ◌++◌, length, get_or, Result, Ok, Err, is_ok, Option, Some, None, refl, sym, ap, subst, ◌∙◌, ◌⊎◌, inl, inr, ⊎_elim, arith}
-use Rattle.std.specs.Prelude.{◌↔◌, ◌==◌, ◌&&◌, IsSome, IsTrue, slice_get}
+use Rattle.std.proofs.Common.{◌≡◌, ℕ, zero, suc, ◌+◌, ◌<◌, ◌≤◌, Bool, true, false, List, [], ◌∷◌, ◌++◌, length, get_or, Result, Ok, Err, is_ok, Option, Some, None, refl, sym, ap, subst, ◌∙◌, ◌⊎◌, inl, inr, ⊎_elim, arith}
+use Rattle.std.specs.Prelude.{◌↔◌, ◌==◌, IsSome, IsTrue, slice_get}
 use Rattle.std.specs.List.{Contains, insert}
 use Rattle.std.specs.List.Sorted.{IsBinarySearchResult, IsSearchInRange}
 use Rattle.std.specs.Cmp.{IsTotalOrder}
 use Rattle.std.specs.Ordering.{nat_cmp, ordering_then}
 use Rattle.std.specs.declared.cmp.Ordering.{Ordering}
 use Rattle.std.specs.declared.cmp.Ordering.TheVariants.{Less, Equal, Greater}
-use Rattle.std.proofs.lemmas.Bool.{cases_lt}
 use Rattle.std.proofs.lemmas.Bool.Decides.{Decides-eqb}
 use Rattle.std.proofs.lemmas.Cmp.{nat_cmp_total, on_total, ranked, then_total}
 use Rattle.std.proofs.lemmas.List.Elements.{Contains-get_or}
 use Rattle.std.proofs.lemmas.Option.{same_Some, slice_get_within}
 use Rattle.authenticators.specs.declared.authenticator.Authenticator.{Authenticator}
 use Rattle.authenticators.proofs.AscendingLists.{absent, members-insert, searchable, sorted-insert}
-use Rattle.commitment.specs.declared.message.Message.{Message}
 use Rattle.item_forms.specs.declared.forms.Fields.{Fields}
 use Rattle.item_forms.specs.declared.forms.Fields.TheVariants as form
-use Rattle.item_forms.specs.declared.forms.Segment.{Segment}
 use Rattle.evidence_item.specs.declared.findings.Findings.{Findings}
 use Rattle.evidence_item.specs.Checking.{Checked}
 use Rattle.kept_items.specs.Positions.{positions, stated_in}
@@ -30,7 +27,7 @@ use Rattle.node_tables.specs.Rows.{AreRowsOf, stated_at, stated_by}
 use Rattle.node_tables.specs.Steps.{AllTables, EachBecomes, room}
 use Rattle.node_tables.specs.Tables.{DoNotFall, IsSpan, IsTold, IsUpToDate, Says}
 use Rattle.node_tables.specs.within.Bringing.{ReceiptStep, RowStep, StatementStep, StatementsStep}
-use Rattle.node_tables.specs.within.Placing.{AreOtherReceipts, BodyStep, IsReceivedElsewhere}
+use Rattle.node_tables.specs.within.Placing.{AreOtherReceipts, BodyStep}
 use Rattle.node_tables.proofs.Grown.{at_cases, still_at}
 use Rattle.node_tables.proofs.Positioned.{within}
 
@@ -51,7 +48,7 @@ same_message s t h =
     let one : s.from ≡ t.from = ranked s.from t.from Equal (sym from.0) in
     let two : s.to ≡ t.to = ranked s.to t.to Equal (sym to.0) in
     let three : s.seq ≡ t.seq = ranked s.seq t.seq Equal (sym to.1) in
-    cc
+    λ i. record { from = one i; to = two i; seq = three i }
 
 module _ (sendings : List Sending) (s : Sending) (up : AscendBySending sendings) where
   is_there : (i : ℕ) → i < length sendings → IsBinarySearchResult (λ x. by_sending x s) sendings (Ok i) → Contains sendings s
@@ -109,7 +106,7 @@ some_item (Some c) k s h = (c, refl)
 -- ---- steps
 
 some_of : (o : Option Authenticator) → IsSome o → (a : Authenticator) × (o ≡ Some a)
-some_of None h = absurd h
+some_of None h = absurd cc
 some_of (Some a) h = (a, refl)
 
 module _ (items : List Checked) (row : Row) where

@@ -12,13 +12,13 @@ use Rattle.std.proofs.lemmas.Option.{same_Some, slice_get-get_or}
 use Rattle.authenticators.specs.declared.authenticator.Authenticator.{Authenticator}
 use Rattle.evidence_item.specs.Checking.{Checked}
 use Rattle.node_tables.specs.declared.row.Row.{Row}
-use Rattle.node_tables.specs.declared.sending.Sending.{Sending}
 use Rattle.node_tables.specs.declared.table.Table.{Table}
 use Rattle.node_tables.specs.Receipts.{receipt_at, receipt_by}
 use Rattle.node_tables.specs.Rows.{stated_at}
 use Rattle.node_tables.specs.Steps.{AllTables, AscendByNode, EachBecomes, by_node, is_of, position_of, room, wanted}
 use Rattle.node_tables.specs.Tables.{Says}
 use Rattle.node_tables.specs.within.Bringing.{OneTakenBack, StatementStep, StatementsStep, TakenBack, one_of}
+use Rattle.node_tables.proofs.Received.{stated_by_receipt}
 use Rattle.node_tables.proofs.Places.{ascending_by_pairs, contains_at, in_order, set_cases}
 
 pub becomes_set : (R : Table → Table → Type 0) (xs : List Table) (i : ℕ) (t u : Table) → slice_get xs i ≡ Some t → R t u

@@ -134,7 +134,11 @@ fn sent<P>(challenge: &KeptItem<P>) -> Option<Sending>
 
 /// Whether segments have a receipt of the message of a send challenge, by the table of its sender; nothing where that has none, or where
 /// the item is no send challenge.
-pub(crate) fn is_received<P>(items: &[KeptItem<P>], tables: &[Table], challenge: &KeptItem<P>) -> Option<bool>
+pub(crate) fn is_received<P>(
+    items: &[KeptItem<P>],
+    tables: &[Table],
+    challenge: &KeptItem<P>,
+) -> Option<bool>
     requires ascending { AscendByNode tables.now }
     requires told { AllTables (IsTold items.now) tables.now }
     requires receipts { AllTables (λ t. AreReceipts items.now t) tables.now }

@@ -105,8 +105,8 @@ pub record StatementStep (items : List Checked) (row : Row) (t u : Table) : Type
   pub receipts : (s : Sending) → Contains u.receipts.items s ↔ (Contains t.receipts.items s ⊎ ((receipt_at items row ≡ Some s) × (s.from ≡ t.node)))
   pub spans : u.spans ≡ t.spans
   pub unanswered : u.unanswered ≡ t.unanswered
-  pub room : room t ≤ room u + 1
   pub other_room : ((a : Authenticator) → stated_at items row ≡ Some a → a.node ≢ t.node) → room t ≤ room u
+  pub room : room t ≤ room u + 1
 
 -- The statement of the row contradicts the item.
 abbrev pub denied_by_row : Option Authenticator → Fields → Bool

@@ -7,7 +7,6 @@ use Rattle.commitment.specs.declared.message.Message.{Message}
 use Rattle.item_forms.specs.Spelling.{tag_of}
 use Rattle.item_forms.specs.declared.forms.Fields.TheVariants as form
 use Rattle.item_forms.specs.declared.forms.Fields.{Fields}
-use Rattle.authenticators.specs.declared.authenticator.Authenticator.{Authenticator}
 use Rattle.evidence_item.specs.declared.findings.Findings.{Findings}
 use Rattle.evidence_item.specs.Checking.{Checked}
 use Rattle.evidence_set.specs.Challenges.{answers_audit}

@@ -1,4 +1,4 @@
-use Rattle.std.proofs.Common.{sym, not, ◌∙◌, refl}
+use Rattle.std.proofs.Common.{sym, not, ◌∙◌}
 use Rattle.kept_items.specs.Positions.{stated}
 use Rattle.node_tables.specs.Receipts.{received}
 use Rattle.node_tables.specs.within.Sendings.{is_among}

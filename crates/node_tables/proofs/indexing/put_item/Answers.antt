@@ -33,7 +33,11 @@ put_body-requires-clause-receipts g c =
     all_receipts_now c.args.items.now c.args.place c.positions-count.result x here c.positions-count.ensures c.args.tables.now c.put_statements.new.tables c.put_statements.ensures.step c.requires.receipts
 
 pub returns-clause-receipts : goal.returns-clause-receipts
-returns-clause-receipts g c = receipts_still c.args.items.now c.args.place c.put_statements.new.tables c.put_body.new.tables c.put_body.ensures.step (put_body-requires-clause-receipts g c)
+returns-clause-receipts g c = receipts_still c.args.items.now c.args.place c.put_statements.new.tables c.put_body.new.tables c.put_body.ensures.step
+    (
+    let x = c.index-items-place.result in
+    let here = at c.args.items.now c.args.place x c.requires.there c.index-items-place.is in
+    all_receipts_now c.args.items.now c.args.place c.positions-count.result x here c.positions-count.ensures c.args.tables.now c.put_statements.new.tables c.put_statements.ensures.step c.requires.receipts)
 
 pub put_body-requires-clause-others : goal.put_body-requires-clause-others
 put_body-requires-clause-others g c = others_still c.args.items.now c.args.place c.positions-count.result c.args.tables.now c.put_statements.new.tables c.put_statements.ensures.step c.requires.others

@@ -1,4 +1,4 @@
-use Rattle.std.proofs.Common.{◌≡◌, ℕ, List, Some, get_or, sym, subst, ap, ◌∙◌}
+use Rattle.std.proofs.Common.{◌≡◌, ℕ, List, Some, get_or, sym, subst, ◌∙◌}
 use Rattle.std.specs.Prelude.{slice_get}
 use Rattle.std.specs.List.{Contains}
 use Rattle.std.proofs.lemmas.Option.{get_or_from_slice_get}
@@ -22,8 +22,7 @@ returns g c =
     let i = c.in-Some-place_of.i in
     let s = c.in-Some.sending in
     let same = read c.args.tables.now i found.0 c.index-tables-i.result found.1 in
-    let are = c.requires.receipts i found.0 found.1 s in
-    (
+    let are = c.requires.receipts i found.0 found.1 s in (
       s,
       sym c.sent.ensures ∙ c.in-Some.is,
       (

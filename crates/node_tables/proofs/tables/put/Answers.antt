@@ -1,4 +1,4 @@
-use Rattle.std.proofs.Common.{◌≡◌, ℕ, ◌≤◌, ◌-◌, List, Some, get_or, subst, sym, ap, ◌∙◌, arith}
+use Rattle.std.proofs.Common.{◌≡◌, ℕ, ◌≤◌, ◌-◌, List, Some, get_or, refl, subst, sym, ap, ◌∙◌, arith}
 use Rattle.std.specs.Prelude.{IsSome, Option, slice_get}
 use Rattle.std.specs.Option.{option_map}
 use Rattle.std.proofs.lemmas.Option.{get_or_from_slice_get, same_Some}
@@ -38,7 +38,7 @@ put_statement-requires-clause-own g c = λ a names.
 pub put_statement-requires-clause-there : goal.put_statement-requires-clause-there
 put_statement-requires-clause-there g c =
     let is = sym c.said_at.ensures ∙ ap (option_map shown) c.in-Some.is in
-    subst (λ (o : Option Authenticator). IsSome o) (sym is) tt
+    subst (λ (o : Option Authenticator). IsSome o) (sym is) refl
 
 pub put_statement-requires-clause-room : goal.put_statement-requires-clause-room
 put_statement-requires-clause-room g c =
