@@ -1,5 +1,5 @@
 -- A statement that was said already contradicts no segment, where it did not before.
-use Rattle.std.proofs.Common.{◌≡◌, ◌≤◌, Bool, true, false, List, Option, Some, None, refl, sym, ap, subst, ◌∙◌}
+use Rattle.std.proofs.Common.{◌≡◌, Bool, true, false, List, Option, Some, None, refl, sym, ap, subst, ◌∙◌}
 use Rattle.std.specs.Prelude.{◌&&◌, ◌==◌}
 use Rattle.std.specs.List.{Contains}
 use Rattle.std.specs.Str.{bytes_eq}
@@ -17,7 +17,7 @@ use Rattle.node_tables.specs.declared.span.Span.{Span}
 use Rattle.node_tables.specs.declared.table.Table.{Table}
 use Rattle.node_tables.specs.Rows.{stated_at}
 use Rattle.node_tables.specs.Tables.{IsTold, IsUpToDate, denied_by, denies_at}
-use Rattle.node_tables.specs.within.Bringing.{AreUndenied, BringsNothing, NoneBeside, again_at, again_by}
+use Rattle.node_tables.specs.within.Bringing.{AreUndenied, again_at, again_by}
 use Rattle.node_tables.proofs.Told.{says_held}
 
 -- statements of one number and one hash contradict the same

@@ -1,6 +1,6 @@
 -- Which items answer a challenge.
 use Rattle.std.proofs.Common.{◌≡◌, ◌≢◌, ℕ, Bool, true, false, List, [], Option, Some, None, refl, sym, ap, subst, ◌∙◌, ◌⊎◌, inl, inr, ⊎_elim}
-use Rattle.std.specs.Prelude.{◌↔◌, ◌&&◌, IsTrue, slice_get}
+use Rattle.std.specs.Prelude.{◌&&◌, slice_get}
 use Rattle.std.specs.List.{Contains, list_any}
 use Rattle.std.proofs.lemmas.Bool.Decides.{Decides-eqb}
 use Rattle.std.proofs.lemmas.Option.{same_Some}
@@ -17,10 +17,14 @@ use Rattle.evidence_set.proofs.Joins.{same_test}
 use Rattle.kept_evidence.specs.Telling.{IsSegmentOf, is_answered, told_answers, told_send}
 use Rattle.kept_evidence.proofs.Answered.{one_suffices, some_passes}
 use Rattle.kept_items.specs.Keeping.{subject}
+use Rattle.node_tables.specs.declared.sending.Sending.{Sending}
 use Rattle.node_tables.specs.declared.span.Span.{Span}
 use Rattle.node_tables.specs.Places.{IsAcknowledged}
-use Rattle.node_tables.specs.within.Placing.{AreOthers, HasAcknowledgement, answered_by, answers_at}
+use Rattle.node_tables.specs.Receipts.{IsReceived, receipt_by}
+use Rattle.node_tables.specs.within.Placing.{AreOthers, HasAcknowledgement, IsReceiptTold, answered_by, answers_at}
 use Rattle.node_tables.proofs.Places.{at_contains, contains_at}
+use Rattle.node_tables.proofs.Receipts.{receipt_told, told_receipt_at}
+use Rattle.node_tables.proofs.Received.{some_item}
 
 -- what answers a challenge against node j is a segment of it, or acknowledges the message
 pub data IsAnswerer (j : ℕ) (x y : Fields) : Type 0 where
@@ -139,3 +143,36 @@ module _ (items : List Checked) (j place : ℕ) (x : Checked) (here : slice_get 
     answered_by_spans none = same_test (list_any (λ (p : Span). answers_at items place p.item) spans) (is_answered items x.item.fields)
         (λ h. by_segment h)
         (λ h. ⊎_elim (λ some. some) (λ a. absurd (none a)) (answered_so h))
+
+-- ---- receipts
+
+some_entry : (j : ℕ) (m : Message) (n : ℕ) (d : Checked) (items : List Checked) → slice_get items n ≡ Some d → told_send m d.item.fields d.findings ≡ true → IsSegmentOf j d.item.fields → IsReceived items (record { from = m.from; to = m.to; seq = m.seq })
+some_entry j m n d items at h own =
+    let r = told_receipt_at m d.item.fields d.findings h j own in
+    (n, r.0, ap (λ (o : Option Checked). receipt_by o r.0) at ∙ r.1)
+
+receipt_answers : (m : Message) (items : List Checked) → IsReceived items (record { from = m.from; to = m.to; seq = m.seq }) → is_answered items (form.Send m) ≡ true
+receipt_answers m items (n, k, h) =
+    let s : Sending = record { from = m.from; to = m.to; seq = m.seq } in
+    let (d, at) = some_item (slice_get items n) k s h in
+    one_suffices (told_answers (form.Send m)) items d (contains_at items n d at) (receipt_told m d.item.fields d.findings k (sym (ap (λ (o : Option Checked). receipt_by o k) at) ∙ h))
+
+-- Where no acknowledgement was found, receipts tell whether a send challenge is answered.
+pub answered_by_receipts : (items : List Checked) (j : ℕ) (x : Fields) → is_against j x ≡ true → (b : Bool) → IsReceiptTold items x b → (HasAcknowledgement items x → ⊥) → b ≡ is_answered items x
+answered_by_receipts items j (form.Auth a) against b (s, is, told) none = absurd cc
+answered_by_receipts items j (form.Segment t) against b (s, is, told) none = absurd cc
+answered_by_receipts items j (form.Audit c) against b (s, is, told) none = absurd cc
+answered_by_receipts items j (form.Send m) against b (s, is, told) none =
+    let t : Sending = record { from = m.from; to = m.to; seq = m.seq } in
+    let same : t ≡ s = same_Some t s is in
+    same_test b (is_answered items (form.Send m))
+    (λ h. receipt_answers m items (subst (IsReceived items) (sym same) (told.0 h)))
+    (λ h.
+    let one = some_passes (told_answers (form.Send m)) items h in
+    let (n, at) = at_contains items one.0 one.1 in
+    told.1 (subst (IsReceived items) same (by_answerer one.0 n at one.1 one.2 (answerer j (form.Send m) one.0 against one.2))))
+  where
+    by_answerer : (d : Checked) (n : ℕ) → slice_get items n ≡ Some d → Contains items d → told_answers (form.Send m) d ≡ true → IsAnswerer j (form.Send m) d.item.fields → IsReceived items (record { from = m.from; to = m.to; seq = m.seq })
+    by_answerer d n at has h (segment own) = some_entry j m n d items at h own
+    by_answerer d n at has h (acknowledgement k is group own) = absurd (none (subst (HasAcknowledgement items) (sym is) (d, has, group)))
+answered_by_receipts items j (form.Ack a) against b (s, is, told) none = absurd cc

@@ -15,10 +15,9 @@ use Rattle.kept_evidence.specs.Telling.{IsSegmentOf, is_answered, told_answers, 
 use Rattle.kept_items.specs.Keeping.{subject}
 use Rattle.kept_evidence.proofs.Members.{passes, passing}
 use Rattle.node_tables.specs.declared.table.Table.{Table}
-use Rattle.node_tables.specs.Rows.{AreRowsOf}
 use Rattle.node_tables.specs.Places.{IsAgainstAt, IsOpenAt}
 use Rattle.node_tables.specs.Steps.{AllTables, AscendByNode, EachBecomes}
-use Rattle.node_tables.specs.Tables.{DoNotFall, IsSegmentAt, IsSpan, IsTold, IsUpToDate, Stands}
+use Rattle.node_tables.specs.Tables.{IsSegmentAt, Stands}
 use Rattle.node_tables.specs.within.Bringing.{SegmentStep}
 use Rattle.node_tables.specs.within.Placing.{AreAgainst, BodyStep, IsAckAt, answered_by, answers_at, is_ack}
 use Rattle.item_forms.specs.declared.forms.AckItem.{AckItem}
@@ -36,18 +35,6 @@ closed items n old new is i = subst (λ (l : List ℕ). Contains l i ↔ (Contai
   λ has. let t = passing (λ (k : ℕ). not (answers_at items k n)) old i has in (t.0, turned (answers_at items i n) t.1),
   λ h. passes (λ (k : ℕ). not (answers_at items k n)) old i h.0 (ap not h.1),
 )
-
--- a table that keeps its rows and its segments is told of as before
-pub told_still : (items : List Checked) (t u : Table) → u.node ≡ t.node → u.rows ≡ t.rows → u.spans ≡ t.spans → u.exposure ≡ t.exposure → IsTold items t → IsTold items u
-told_still items t u node rows spans exposure told = record {
-  held = told.held;
-  rows = subst (λ v. AreRowsOf items v.items told.held) (sym rows) told.rows;
-  ascending = told.ascending;
-  own = λ a has. told.own a has ∙ sym node;
-  spans = λ p has. subst (λ n. IsSpan items n p) (sym node) (told.spans p (subst (λ v. Contains v.items p) spans has));
-  by_low = subst (λ v. DoNotFall v.items) (sym spans) told.by_low;
-  told = subst (λ v. IsUpToDate items told.held v.items u.exposure) (sym spans) (subst (IsUpToDate items told.held t.spans.items) (sym exposure) told.told);
-}
 
 -- a segment is no challenge, nor is an acknowledgement
 not_against_segment : (j k : ℕ) (x : Fields) → IsSegmentOf k x → is_against j x ≡ false
@@ -83,12 +70,13 @@ not_open items j n c here never (d, at, h) =
     cc (never, yes)
 
 module _ (items : List Checked) (n : ℕ) (t u : Table) where
-  closing_step : u.node ≡ t.node → u.rows ≡ t.rows → (j : ℕ) → t.node ≡ j
+  closing_step : u.node ≡ t.node → u.rows ≡ t.rows → u.receipts ≡ t.receipts → (j : ℕ) → t.node ≡ j
       → ((i : ℕ) → Stands u.spans.items i ↔ (Stands t.spans.items i ⊎ ((i ≡ n) × IsSegmentAt items t.node n)))
       → (IsOpenAt items t.node n → ⊥) → u.unanswered.items ≡ filter (λ i. not (answers_at items i n)) t.unanswered.items → BodyStep items n t u
-  closing_step node rows j own stands closed_here is = record {
+  closing_step node rows receipts j own stands closed_here is = record {
     node = node;
     rows = rows;
+    receipts = receipts;
     stands = stands;
     unanswered = λ i. let c = closed items n t.unanswered.items u.unanswered.items is i in (
       λ has. inl (c.0 has),
@@ -96,8 +84,8 @@ module _ (items : List Checked) (n : ℕ) (t u : Table) where
     );
   }
 
-  pub segment_closes : (v : Table) → SegmentStep items n t v → IsSegmentAt items t.node n → u.node ≡ v.node → u.rows ≡ v.rows → u.spans ≡ v.spans → u.unanswered.items ≡ filter (λ i. not (answers_at items i n)) v.unanswered.items → BodyStep items n t u
-  segment_closes v step segment node rows spans is = closing_step (node ∙ step.node) (rows ∙ step.rows) t.node refl
+  pub segment_closes : (v : Table) → SegmentStep items n t v → IsSegmentAt items t.node n → u.node ≡ v.node → u.rows ≡ v.rows → u.receipts ≡ v.receipts → u.spans ≡ v.spans → u.unanswered.items ≡ filter (λ i. not (answers_at items i n)) v.unanswered.items → BodyStep items n t u
+  segment_closes v step segment node rows receipts spans is = closing_step (node ∙ step.node) (rows ∙ step.rows) (receipts ∙ step.receipts) t.node refl
       (λ i. subst (λ w. Stands w.items i ↔ (Stands t.spans.items i ⊎ ((i ≡ n) × IsSegmentAt items t.node n))) (sym spans) (
         λ h. ⊎_elim (λ old. inl old) (λ new. inr (new, segment)) ((step.stands i).0 h),
         λ h. (step.stands i).1 (⊎_elim (λ old. inl old) (λ (e : (i ≡ n) × IsSegmentAt items t.node n). inr e.0) h),
@@ -105,8 +93,8 @@ module _ (items : List Checked) (n : ℕ) (t u : Table) where
       (not_open items t.node n segment.0 segment.1 (not_against_segment t.node t.node segment.0.item.fields segment.2))
       (is ∙ ap (λ w. filter (λ i. not (answers_at items i n)) w.items) step.unanswered)
 
-  pub ack_closes : IsAckAt items n → u.node ≡ t.node → u.rows ≡ t.rows → u.spans ≡ t.spans → u.unanswered.items ≡ filter (λ i. not (answers_at items i n)) t.unanswered.items → BodyStep items n t u
-  ack_closes (c, here, ack) node rows spans is = closing_step node rows t.node refl
+  pub ack_closes : IsAckAt items n → u.node ≡ t.node → u.rows ≡ t.rows → u.receipts ≡ t.receipts → u.spans ≡ t.spans → u.unanswered.items ≡ filter (λ i. not (answers_at items i n)) t.unanswered.items → BodyStep items n t u
+  ack_closes (c, here, ack) node rows receipts spans is = closing_step node rows receipts t.node refl
       (λ i. (
         λ h. inl (subst (λ w. Stands w.items i) spans h),
         λ h. ⊎_elim (λ old. subst (λ w. Stands w.items i) (sym spans) old) (λ (e : (i ≡ n) × IsSegmentAt items t.node n).
@@ -171,6 +159,7 @@ module _ (items : List Checked) (n : ℕ) (t : Table) (c : Checked) (here : slic
   answered_step answered = record {
     node = refl;
     rows = refl;
+    receipts = refl;
     stands = stands_still;
     unanswered = λ i. (
       λ has. inl (has, nothing_answered i),
@@ -181,11 +170,12 @@ module _ (items : List Checked) (n : ℕ) (t : Table) (c : Checked) (here : slic
     );
   }
 
-  module _ (u : Table) (node : u.node ≡ t.node) (rows : u.rows ≡ t.rows) (spans : u.spans ≡ t.spans) (unanswered : (i : ℕ) → Contains u.unanswered.items i ↔ (Contains t.unanswered.items i ⊎ (i ≡ n))) where
+  module _ (u : Table) (node : u.node ≡ t.node) (rows : u.rows ≡ t.rows) (receipts : u.receipts ≡ t.receipts) (spans : u.spans ≡ t.spans) (unanswered : (i : ℕ) → Contains u.unanswered.items i ↔ (Contains t.unanswered.items i ⊎ (i ≡ n))) where
     pub open_step : is_answered items c.item.fields ≡ false → BodyStep items n t u
     open_step not_so = record {
       node = node;
       rows = rows;
+      receipts = receipts;
       stands = λ i. subst (λ v. Stands v.items i ↔ (Stands t.spans.items i ⊎ ((i ≡ n) × IsSegmentAt items t.node n))) (sym spans) (stands_still i);
       unanswered = λ i. (
         λ has. ⊎_elim (λ old. inl (old, nothing_answered i)) (λ new. inr (new, (c, here, open_so (is_against t.node c.item.fields) (is_answered items c.item.fields) against not_so))) ((unanswered i).0 has),
@@ -218,6 +208,7 @@ pub body_still : (items : List Checked) (n : ℕ) (t : Table) (c : Checked) → 
 body_still items n t c here other against = record {
   node = refl;
   rows = refl;
+  receipts = refl;
   stands = λ i. (
     λ h. inl h,
     λ h. ⊎_elim (λ old. old) (λ (e : (i ≡ n) × IsSegmentAt items t.node n). absurd (other (of_item e.1.0 e.1.1 (segment_subject t.node e.1.0.item.fields e.1.2)))) h,

@@ -10,6 +10,7 @@ use Rattle.node_tables.specs.declared.exposure.ExposingPlaces.TheVariants as exp
 use Rattle.node_tables.specs.declared.row.Row.{Row}
 use Rattle.node_tables.specs.declared.span.Span.{Span}
 use Rattle.node_tables.specs.declared.table.Table.{Table}
+use Rattle.node_tables.specs.Receipts.{AscendBySending}
 use Rattle.node_tables.specs.Rows.{AreRowsOf, stated_at, stated_by}
 use Rattle.node_tables.specs.Tables.{AreSpans, DoNotFall, IsSpan, IsTold, IsUpToDate, Names, Says, denied_by, denies_at, deviates_at, deviating}
 use Rattle.node_tables.proofs.RowLists.{row_names}
@@ -100,13 +101,14 @@ module _ (items : List Checked) (x : Checked) where
     told_more (Some (exposure.Deviates i)) ((p, has, at), h) = ((p, has, at), subst (λ n. deviates_at more n ≡ true) at (deviates_more j p (all p has) ∙ subst (λ n. deviates_at items n ≡ true) (sym at) h))
 
   -- What was told of a table before the item came is told of it then.
-  pub told_grown : (t u : Table) → u.node ≡ t.node → u.rows.items ≡ t.rows.items → u.spans.items ≡ t.spans.items → u.exposure ≡ t.exposure → IsTold items t → IsTold more u
-  told_grown t u node rows spans exposure told = record {
+  pub told_grown : (t u : Table) → u.node ≡ t.node → u.rows.items ≡ t.rows.items → u.receipts.items ≡ t.receipts.items → u.spans.items ≡ t.spans.items → u.exposure ≡ t.exposure → IsTold items t → IsTold more u
+  told_grown t u node rows receipts spans exposure told = record {
     held = told.held;
     rows = subst (λ (l : List Row). AreRowsOf more l told.held) (sym rows) (map_still t.rows.items told.held told.rows);
     ascending = told.ascending;
     own = λ a has. told.own a has ∙ sym node;
     by_low = subst DoNotFall (sym spans) told.by_low;
+    receipts = subst AscendBySending (sym receipts) told.receipts;
     spans = λ p has. subst (λ n. IsSpan more n p) (sym node) (span_more t.node p (told.spans p (subst (λ (l : List Span). Contains l p) spans has)));
     told = subst (λ (l : List Span). IsUpToDate more told.held l u.exposure) (sym spans) (subst (IsUpToDate more told.held t.spans.items) (sym exposure) (told_more t.node told.held t.spans.items told.spans t.exposure told.told));
   }

@@ -17,6 +17,7 @@ pub mod Opened
 pub mod Places
 pub mod Positioned
 pub mod Receipts
+pub mod Received
 pub mod Reserved
 pub mod RowLists
 pub mod Searching

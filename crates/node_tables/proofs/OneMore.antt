@@ -6,14 +6,15 @@ use Rattle.evidence_item.specs.Checking.{Checked}
 use Rattle.kept_evidence.specs.Kept.{Keeps}
 use Rattle.kept_items.specs.Positions.{positions}
 use Rattle.node_tables.specs.declared.table.Table.{Table}
-use Rattle.node_tables.specs.Indexed.{AreOfOthers, IsTable}
+use Rattle.node_tables.specs.Indexed.{AreOfOthers, AreReceipts, IsTable}
 use Rattle.node_tables.specs.Places.{AscendBySpelling}
 use Rattle.node_tables.specs.Rooms.{HasRoomFor}
 use Rattle.node_tables.specs.Steps.{AllTables, EachBecomes}
 use Rattle.node_tables.specs.Tables.{IsTold}
-use Rattle.node_tables.specs.within.Placing.{AreAgainst, AreOthers, IsNewAmong, ItemStep}
+use Rattle.node_tables.specs.within.Placing.{AreAgainst, AreOtherReceipts, AreOthers, IsNewAmong, ItemStep}
 use Rattle.node_tables.proofs.Asked.{asked_more}
 use Rattle.node_tables.proofs.Grown.{last_at, told_grown}
+use Rattle.node_tables.proofs.Received.{receipts_before}
 use Rattle.node_tables.proofs.Whole.{against_here, new_here, others_here, table_more}
 
 module _ (others : List Checked) (x : Checked) (tables : List Table) (each : AllTables (IsTable others) tables) where
@@ -21,7 +22,10 @@ module _ (others : List Checked) (x : Checked) (tables : List Table) (each : All
   more = others ++ x ∷ []
 
   told_all : AllTables (IsTold more) tables
-  told_all i t at = told_grown others x t t refl refl refl refl (each i t at).told
+  told_all i t at = told_grown others x t t refl refl refl refl refl (each i t at).told
+
+  receipts_all : AllTables (AreOtherReceipts more (length others)) tables
+  receipts_all i t at = receipts_before others x t (each i t at).receipts
 
   others_all : AllTables (λ (t : Table). AreOthers more t.node (length others) t.spans.items) tables
   others_all i t at = others_here others x t.node t refl (each i t at).stands
@@ -35,10 +39,10 @@ module _ (others : List Checked) (x : Checked) (tables : List Table) (each : All
   new_all : (Keeps others x.item → ⊥) → AllTables (λ (t : Table). IsNewAmong more (length others) t.unanswered.items) tables
   new_all absent i t at = new_here others x t (each i t at) absent
 
-  tables_more : (new : List Table) → EachBecomes (ItemStep more (length others) (positions x.item.fields)) tables new → AllTables (IsTold more) new → AllTables (λ (t : Table). AscendBySpelling more t.unanswered.items) new → AllTables (IsTable more) new
-  tables_more new steps told asked i u at =
+  tables_more : (new : List Table) → EachBecomes (ItemStep more (length others) (positions x.item.fields)) tables new → AllTables (IsTold more) new → AllTables (λ (t : Table). AscendBySpelling more t.unanswered.items) new → AllTables (AreReceipts more) new → AllTables (IsTable more) new
+  tables_more new steps told asked receipts i u at =
       let (t, in_old, step) = steps i u at in
-      table_more others x t u (each i t in_old) step (told i u at) (asked i u at)
+      table_more others x t u (each i t in_old) step (told i u at) (asked i u at) (receipts i u at)
 
 -- The same of items whose last one, at place n, is not in the tables yet.
 module _ (items : List Checked) (tables : List Table) (are : AreOfOthers items tables) (n : ℕ) (last : n ≡ length are.others) where
@@ -47,6 +51,9 @@ module _ (items : List Checked) (tables : List Table) (are : AreOfOthers items t
 
   pub last_told : AllTables (IsTold items) tables
   last_told = moved (λ l m. AllTables (IsTold l) tables) (told_all are.others are.last tables are.each)
+
+  pub last_receipts : AllTables (λ t. AreOtherReceipts items n t) tables
+  last_receipts = moved (λ l m. AllTables (λ t. AreOtherReceipts l m t) tables) (receipts_all are.others are.last tables are.each)
 
   pub last_others : AllTables (λ (t : Table). AreOthers items t.node n t.spans.items) tables
   last_others = moved (λ l m. AllTables (λ (t : Table). AreOthers l t.node m t.spans.items) tables) (others_all are.others are.last tables are.each)
@@ -66,14 +73,15 @@ module _ (items : List Checked) (tables : List Table) (are : AreOfOthers items t
   pub last_room : (x : Checked) → slice_get items n ≡ Some x → AllTables (HasRoomFor x) tables
   last_room x at = subst (λ (k : Checked). AllTables (HasRoomFor k) tables) (same_Some are.last x (sym last_here ∙ at)) are.room
 
-  pub last_each : (new : List Table) → ((x : Checked) → slice_get items n ≡ Some x → EachBecomes (ItemStep items n (positions x.item.fields)) tables new) → AllTables (IsTold items) new → AllTables (λ (t : Table). AscendBySpelling items t.unanswered.items) new → AllTables (IsTable items) new
-  last_each new steps told asked =
+  pub last_each : (new : List Table) → ((x : Checked) → slice_get items n ≡ Some x → EachBecomes (ItemStep items n (positions x.item.fields)) tables new) → AllTables (IsTold items) new → AllTables (λ (t : Table). AscendBySpelling items t.unanswered.items) new → AllTables (λ t. AreReceipts items t) new → AllTables (IsTable items) new
+  last_each new steps told asked receipts =
       let step = steps are.last last_here in
       subst (λ l. AllTables (IsTable l) new) (sym are.split)
       (tables_more are.others are.last tables are.each new
       (subst (λ m. EachBecomes (ItemStep (are.others ++ are.last ∷ []) m (positions are.last.item.fields)) tables new) last (subst (λ l. EachBecomes (ItemStep l n (positions are.last.item.fields)) tables new) are.split step))
       (subst (λ l. AllTables (IsTold l) new) are.split told)
-      (subst (λ l. AllTables (λ (t : Table). AscendBySpelling l t.unanswered.items) new) are.split asked))
+      (subst (λ l. AllTables (λ (t : Table). AscendBySpelling l t.unanswered.items) new) are.split asked)
+      (subst (λ l. AllTables (λ t. AreReceipts l t) new) are.split receipts))
 
 -- The last place is that behind the others.
 pub last_place : (items others : List Checked) (x : Checked) (n : ℕ) → items ≡ others ++ x ∷ [] → n ≡ length items - 1 → n ≡ length others

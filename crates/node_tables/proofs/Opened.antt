@@ -14,9 +14,11 @@ use Rattle.replay_verifier.specs.Meaning.{Meaning}
 use Rattle.kept_evidence.specs.Kept.{by_item}
 use Rattle.kept_evidence.proofs.Members.{first, later, none_here}
 use Rattle.node_tables.specs.declared.row.Row.{Row}
+use Rattle.node_tables.specs.declared.sending.Sending.{Sending}
 use Rattle.node_tables.specs.declared.span.Span.{Span}
 use Rattle.node_tables.specs.declared.table.Table.{Table}
 use Rattle.node_tables.specs.Indexed.{HasNode, IsIndexed, IsTable}
+use Rattle.node_tables.specs.Receipts.{AscendBySending, by_sending}
 use Rattle.node_tables.specs.Rows.{AreRowsOf}
 use Rattle.node_tables.specs.Steps.{AllTables, AscendByNode, by_node}
 use Rattle.node_tables.specs.Places.{AscendBySpelling}
@@ -26,8 +28,8 @@ use Rattle.node_tables.proofs.Places.{at_contains, contains_at}
 use Rattle.node_tables.proofs.Stepping.{by_node_total}
 
 -- A table with nothing says what no items say.
-pub empty_table : (t : Table) → t.rows.items ≡ [] → t.spans.items ≡ [] → t.unanswered.items ≡ [] → t.exposure ≡ None → IsTable [] t
-empty_table t rows spans unanswered exposure = record {
+pub empty_table : (t : Table) → t.rows.items ≡ [] → t.receipts.items ≡ [] → t.spans.items ≡ [] → t.unanswered.items ≡ [] → t.exposure ≡ None → IsTable [] t
+empty_table t rows receipts spans unanswered exposure = record {
   told = record {
     held = [];
     rows = subst (λ (l : List Row). AreRowsOf [] l []) (sym rows) refl;
@@ -35,6 +37,7 @@ empty_table t rows spans unanswered exposure = record {
     own = λ a has. absurd (none_here a has);
     spans = subst (λ (l : List Span). AreSpans [] t.node l) (sym spans) (λ p has. absurd (none_here p has));
     by_low = subst DoNotFall (sym spans) (λ i j d le inside. absurd (omega (arith, inside)));
+    receipts = subst AscendBySending (sym receipts) (sorted-nil by_sending);
     told = subst (IsUpToDate [] [] t.spans.items) (sym exposure) (record {
       one_hash = λ a b in_a in_b clash. absurd (none_here a in_a);
       undenied = λ a p in_a in_p. absurd (none_here a in_a);
@@ -45,6 +48,7 @@ empty_table t rows spans unanswered exposure = record {
     λ h. absurd (none_here h.0 (subst (λ (l : List Row). Contains l h.0) rows h.1)),
     λ h. absurd cc,
   );
+  receipts = λ s. (λ h. absurd (none_here s (subst (λ (l : List Sending). Contains l s) receipts h)), λ h. absurd cc);
   stands = λ i. (λ h. absurd (none_here h.0 (subst (λ (l : List Span). Contains l h.0) spans h.1)), λ h. absurd cc);
   unanswered = λ i. (λ h. absurd (none_here i (subst (λ (l : List ℕ). Contains l i) unanswered h)), λ h. absurd cc);
   asked = subst (AscendBySpelling []) (sym unanswered) (record { named = []; names = refl; ascending = sorted-nil by_item });

@@ -1,11 +1,11 @@
 -- What a segment answers: send challenges by the messages that it quotes, and audit challenges.
 use Rattle.std.proofs.Common.{◌≡◌, ℕ, zero, suc, ◌+◌, ◌-◌, ◌<◌, ◌≤◌, Bool, true, false, cond, not, List, [], ◌∷◌, length, map, Option, Some, None, refl, sym, ap, subst, ◌∙◌, ◌⊎◌, inl, inr, ⊎_elim, arith}
-use Rattle.std.specs.Prelude.{◌↔◌, ◌==◌, ◌&&◌, ◌||◌, is_some, slice_get}
+use Rattle.std.specs.Prelude.{◌==◌, ◌&&◌, ◌||◌, slice_get}
 use Rattle.std.specs.List.{filter}
 use Rattle.std.specs.Ordering.{is_eq}
 use Rattle.std.proofs.lemmas.Bool.{cases_lt}
 use Rattle.std.proofs.lemmas.Bool.Decides.{Decides-eqb}
-use Rattle.std.proofs.lemmas.Option.{same_Some, slice_get_within}
+use Rattle.std.proofs.lemmas.Option.{same_Some}
 use Rattle.std.proofs.lemmas.List.Kept.{IsStrictlySortedBy-filter}
 use Rattle.log_chain.specs.declared.entry.Entry.{Entry}
 use Rattle.authenticators.specs.declared.authenticator.Authenticator.{Authenticator}
@@ -25,10 +25,12 @@ use Rattle.kept_evidence.specs.Telling.{IsSegmentOf, found_quotes, is_told_recei
 use Rattle.kept_items.specs.Positions.{in_segment, positions, quote_at, quote_by, stated_in}
 use Rattle.node_tables.specs.declared.sending.Sending.{Sending}
 use Rattle.node_tables.specs.Places.{ArePlacesOf, AscendBySpelling}
+use Rattle.node_tables.specs.Receipts.{receipt_in, received}
 use Rattle.node_tables.specs.Tables.{IsSegmentAt}
 use Rattle.node_tables.specs.within.Placing.{answered_by, answers_at}
-use Rattle.node_tables.specs.within.Sendings.{audited_by, is_among, is_at, is_received, received, sending_cmp, told_audit}
+use Rattle.node_tables.specs.within.Sendings.{audited_by, is_among, is_at, is_received, sending_cmp, told_audit}
 use Rattle.node_tables.proofs.Asked.{cons_same}
+use Rattle.node_tables.proofs.Received.{received_from}
 use Rattle.node_tables.proofs.Sendings.{same_sending}
 
 -- ---- tests
@@ -320,3 +322,35 @@ among_is items r s old new names is = subst (λ (t : Option Sending). new ≡ fi
 
 pub among_nothing : (items : List Checked) (r : Option Sending) (old : List ℕ) → r ≡ None → old ≡ filter (λ i. not (is_among r (slice_get items i))) old
 among_nothing items r old none = subst (λ (t : Option Sending). old ≡ filter (λ i. not (is_among t (slice_get items i))) old) (sym none) (all_stay old)
+
+-- ---- receipts, by their positions
+
+-- What answers a send challenge as a segment has a receipt of its message.
+pub told_receipt_at : (m : Message) (x : Fields) (f : Option Findings) → told_send m x f ≡ true → (j : ℕ) → IsSegmentOf j x → (k : ℕ) × (receipt_in x f k ≡ Some (record { from = m.from; to = m.to; seq = m.seq }))
+told_receipt_at m (form.Auth a) f h j own = absurd own
+told_receipt_at m (form.Segment s) f h j own =
+    let b = and_both (s.node == m.to) (told_receipt m s.entries (found_quotes f)) h in
+    let r = some_quote m s.entries (found_quotes f) b.1 in
+    let q = r.2 in
+    let at : stated_in (form.Segment s) f (suc r.0) ≡ Some q.statement = behind_end s f r.0 ∙ q.quote in
+    let to : s.node ≡ m.to = (Decides-eqb s.node m.to).0 b.0 in
+    let from : q.statement.node ≡ m.from = q.from in
+    let seq : q.statement.seq ≡ m.seq = q.seq in
+    let one : Sending = record { from = q.statement.node; to = s.node; seq = q.statement.seq } in
+    let other : Sending = record { from = m.from; to = m.to; seq = m.seq } in
+    let same : one ≡ other = λ i. record { from = from i; to = to i; seq = seq i } in
+    (suc r.0, ap (received s.node) at ∙ ap Some same)
+told_receipt_at m (form.Audit d) f h j own = absurd own
+told_receipt_at m (form.Send n) f h j own = absurd own
+told_receipt_at m (form.Ack a) f h j own = absurd own
+
+-- And what has one answers it.
+pub receipt_told : (m : Message) (x : Fields) (f : Option Findings) (k : ℕ) → receipt_in x f k ≡ Some (record { from = m.from; to = m.to; seq = m.seq }) → told_send m x f ≡ true
+receipt_told m (form.Auth a) f k h = absurd cc
+receipt_told m (form.Segment s) f zero h = absurd cc
+receipt_told m (form.Segment s) f (suc k) h =
+    let r = received_from s.node (stated_in (form.Segment s) f (suc k)) (record { from = m.from; to = m.to; seq = m.seq }) h in
+    both_and (s.node == m.to) (told_receipt m s.entries (found_quotes f)) ((Decides-eqb s.node m.to).1 r.3) (one_quote m s.entries (found_quotes f) k r.0 (sym (behind_end s f k) ∙ r.1) r.2 r.4)
+receipt_told m (form.Audit d) f k h = absurd cc
+receipt_told m (form.Send n) f k h = absurd cc
+receipt_told m (form.Ack a) f k h = absurd cc

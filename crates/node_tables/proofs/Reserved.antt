@@ -1,5 +1,5 @@
 -- Room for the statements of an item, and for what it is beside them; promises, and taking them back.
-use Rattle.std.proofs.Common.{◌≡◌, ◌≢◌, ℕ, zero, suc, ◌+◌, ◌-◌, ◌≤◌, ◌==◌, Bool, true, false, List, [], ◌∷◌, ◌++◌, get_or, Option, Some, None, Result, Ok, Err, refl, sym, ap, subst, ◌∙◌, ⊎_elim, arith}
+use Rattle.std.proofs.Common.{◌≡◌, ◌≢◌, ℕ, zero, suc, ◌+◌, ◌-◌, ◌≤◌, ◌==◌, min, Bool, true, false, List, [], ◌∷◌, ◌++◌, get_or, Option, Some, None, Result, Ok, Err, refl, sym, ap, subst, ◌∙◌, ⊎_elim, arith}
 use Rattle.std.specs.Prelude.{◌<◌, if◌then◌else◌, OnErr, OnOk, slice_get, slice_set, vec_capacity, vec_len}
 use Rattle.std.specs.List.{Contains}
 use Rattle.std.proofs.lemmas.Bool.{cases_lt}
@@ -11,6 +11,7 @@ use Rattle.kept_items.specs.Keeping.{subject}
 use Rattle.kept_items.specs.Positions.{positions, stated}
 use Rattle.tiered_vec.specs.Tiers.{Tiered}
 use Rattle.node_tables.specs.declared.row.Row.{Row}
+use Rattle.node_tables.specs.declared.sending.Sending.{Sending}
 use Rattle.node_tables.specs.declared.table.Table.{Table}
 use Rattle.node_tables.specs.Places.{bodies, is_subject, open_room, span_room}
 use Rattle.node_tables.specs.Rows.{stated_by}
@@ -23,12 +24,13 @@ use Rattle.node_tables.proofs.Places.{contains_at}
 use Rattle.node_tables.proofs.Stepping.{becomes_set, distinct}
 
 pub roomier_still : (t : Table) → IsRoomier t t
-roomier_still t = record { node = refl; rows = refl; spans = refl; unanswered = refl; exposure = refl; room = omega arith; span_room = omega arith; open_room = omega arith }
+roomier_still t = record { node = refl; rows = refl; receipts = refl; spans = refl; unanswered = refl; exposure = refl; room = omega arith; span_room = omega arith; open_room = omega arith }
 
 pub roomier_then : (t u v : Table) → IsRoomier t u → IsRoomier u v → IsRoomier t v
 roomier_then t u v a b = record {
   node = b.node ∙ a.node;
   rows = b.rows ∙ a.rows;
+  receipts = b.receipts ∙ a.receipts;
   spans = b.spans ∙ a.spans;
   unanswered = b.unanswered ∙ a.unanswered;
   exposure = b.exposure ∙ a.exposure;
@@ -391,7 +393,7 @@ item_rooms items n k x here is t u v (one, back) (other, rooms) =
     let had : span_room t ≡ span_room u = ap (λ s. vec_capacity s - vec_len s) (sym one.spans) in
     let had_asked : open_room t ≡ open_room u = ap (λ s. vec_capacity s - vec_len s) (sym one.unanswered) in
     let rows : wanted (position_of items n) k t.node ≡ rows_of x t.node = ap (λ (o : Option Checked). wanted (stated_by o) k t.node) here ∙ ap (λ m. wanted (stated x) m t.node) is in
-    let kept : room u ≡ room v = ap (λ (s : Tiered Row). s.room) (sym other.rows) in
+    let kept : room u ≡ room v = subst (λ (w : Tiered Row). room u ≡ min w.room v.receipts.room) (sym other.rows) (subst (λ (w : Tiered Sending). room u ≡ min u.rows.room w.room) (sym other.receipts) refl) in
     record {
       node = other.node ∙ one.node;
       rows = omega (arith, one.room, rows, kept);

@@ -12,6 +12,7 @@ use Rattle.node_tables.specs.declared.exposure.ExposingPlaces.TheVariants as exp
 use Rattle.node_tables.specs.declared.row.Row.{Row}
 use Rattle.node_tables.specs.declared.span.Span.{Span}
 use Rattle.node_tables.specs.declared.table.Table.{Table}
+use Rattle.node_tables.specs.Receipts.{AscendBySending}
 use Rattle.node_tables.specs.Rows.{AreRowsOf}
 use Rattle.node_tables.specs.Tables.{AreSpans, DoNotFall, IsQuiet, IsSpan, IsTold, IsUpToDate, ShowsAt, Stands, denied_by, denies_at, deviates_at}
 use Rattle.node_tables.specs.within.Bringing.{IsBroughtBySegment, IsNextBySegment, SegmentBringsNothing, SegmentStep}
@@ -73,7 +74,7 @@ module _ (items : List Checked) (spans more : List Span) (p : Span) (members : (
     next_told None None told next = still_quiet next told
     next_told None (Some e) told next = now_shows e next
 
-module _ (items : List Checked) (t u : Table) (p : Span) (d : Row) (node : u.node ≡ t.node) (rows : u.rows ≡ t.rows) (members : (q : Span) → Contains u.spans.items q ↔ (Contains t.spans.items q ⊎ (q ≡ p))) where
+module _ (items : List Checked) (t u : Table) (p : Span) (d : Row) (node : u.node ≡ t.node) (rows : u.rows ≡ t.rows) (receipts : u.receipts ≡ t.receipts) (members : (q : Span) → Contains u.spans.items q ↔ (Contains t.spans.items q ⊎ (q ≡ p))) where
   pub told_segment : IsTold items t → IsSpan items t.node p → DoNotFall u.spans.items → IsNextBySegment items t.rows.items p.item t.exposure u.exposure → IsTold items u
   told_segment told is by_low next = record {
     held = told.held;
@@ -83,6 +84,7 @@ module _ (items : List Checked) (t u : Table) (p : Span) (d : Row) (node : u.nod
     spans = subst (λ n. AreSpans items n u.spans.items) (sym node)
         (λ q has. ⊎_elim (λ old. told.spans q old) (λ new. subst (IsSpan items t.node) (sym new) is) ((members q).0 has));
     by_low = by_low;
+    receipts = subst (λ v. AscendBySending v.items) (sym receipts) told.receipts;
     told = next_told items t.spans.items u.spans.items p members t.rows.items told.held told.rows d t.exposure u.exposure told.told next;
   }
 
@@ -90,6 +92,7 @@ module _ (items : List Checked) (t u : Table) (p : Span) (d : Row) (node : u.nod
   step_segment place at unanswered = record {
     node = node;
     rows = rows;
+    receipts = receipts;
     stands = λ i. subst (λ n. Stands u.spans.items i ↔ (Stands t.spans.items i ⊎ (i ≡ n))) at (stands_or items t.spans.items u.spans.items p members i);
     unanswered = unanswered;
   }

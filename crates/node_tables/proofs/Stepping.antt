@@ -13,10 +13,12 @@ use Rattle.authenticators.specs.declared.authenticator.Authenticator.{Authentica
 use Rattle.evidence_item.specs.Checking.{Checked}
 use Rattle.node_tables.specs.declared.row.Row.{Row}
 use Rattle.node_tables.specs.declared.table.Table.{Table}
+use Rattle.node_tables.specs.Receipts.{receipt_at, receipt_by}
 use Rattle.node_tables.specs.Rows.{stated_at}
 use Rattle.node_tables.specs.Steps.{AllTables, AscendByNode, EachBecomes, by_node, is_of, position_of, room, wanted}
 use Rattle.node_tables.specs.Tables.{Says}
 use Rattle.node_tables.specs.within.Bringing.{OneTakenBack, StatementStep, StatementsStep, TakenBack, one_of}
+use Rattle.node_tables.proofs.Received.{stated_by_receipt}
 use Rattle.node_tables.proofs.Places.{ascending_by_pairs, contains_at, in_order, set_cases}
 
 pub becomes_set : (R : Table → Table → Type 0) (xs : List Table) (i : ℕ) (t u : Table) → slice_get xs i ≡ Some t → R t u
@@ -68,6 +70,7 @@ module _ (items : List Checked) (row : Row) where
   statement_still t other = record {
     node = refl;
     says = λ a. (λ has. inl has, λ h. ⊎_elim (λ has. has) (λ (e : (stated_at items row ≡ Some a) × (a.node ≡ t.node)). absurd (other a e.0 e.1)) h);
+    receipts = λ s. (λ has. inl has, λ h. ⊎_elim (λ has. has) (λ (e : (receipt_at items row ≡ Some s) × (s.from ≡ t.node)). let quoted = stated_by_receipt (slice_get items row.item) row.position s e.0 in absurd (other quoted.0 quoted.1 (quoted.2 ∙ e.1))) h);
     spans = refl;
     unanswered = refl;
     room = omega arith;
@@ -115,6 +118,7 @@ module _ (items : List Checked) (n : ℕ) where
   none_yet t = record {
     node = refl;
     says = λ a. (λ has. inl has, λ h. ⊎_elim (λ has. has) (λ (e : (p : ℕ) × (p < zero) × (position_of items n p ≡ Some a) × (a.node ≡ t.node)). absurd (omega (arith, e.1))) h);
+    receipts = λ s. (λ has. inl has, λ h. ⊎_elim (λ has. has) (λ (e : (p : ℕ) × (p < zero) × (receipt_by (slice_get items n) p ≡ Some s) × (s.from ≡ t.node)). absurd (omega (arith, e.1))) h);
     spans = refl;
     unanswered = refl;
     room = omega arith;
@@ -148,6 +152,24 @@ module _ (items : List Checked) (n : ℕ) where
               (λ le.
               let is : e.0 ≡ k = omega (arith, e.1, le) in
               inr (subst (λ p. position_of items n p ≡ Some a) is e.2, e.3 ∙ sym before.node))
+              (cases_lt e.0 k))
+              h),
+        );
+        receipts = λ s. (
+          λ has. ⊎_elim
+              (λ (h : Contains u.receipts.items s). ⊎_elim
+              (λ old. inl old)
+              (λ (e : (p : ℕ) × (p < k) × (receipt_by (slice_get items n) p ≡ Some s) × (s.from ≡ t.node)). inr (e.0, omega (arith, e.1), e.2, e.3))
+              ((before.receipts s).0 h))
+              (λ (e : (receipt_at items (at k) ≡ Some s) × (s.from ≡ u.node)). inr (k, omega arith, e.0, e.1 ∙ before.node))
+              ((step.receipts s).0 has),
+          λ h. (step.receipts s).1 (⊎_elim
+              (λ (old : Contains t.receipts.items s). inl ((before.receipts s).1 (inl old)))
+              (λ (e : (p : ℕ) × (p < k + 1) × (receipt_by (slice_get items n) p ≡ Some s) × (s.from ≡ t.node)). ⊎_elim
+              (λ lt. inl ((before.receipts s).1 (inr (e.0, lt, e.2, e.3))))
+              (λ le.
+              let is : e.0 ≡ k = omega (arith, e.1, le) in
+              inr (subst (λ p. receipt_by (slice_get items n) p ≡ Some s) is e.2, e.3 ∙ sym before.node))
               (cases_lt e.0 k))
               h),
         );

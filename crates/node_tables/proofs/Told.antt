@@ -18,9 +18,10 @@ use Rattle.node_tables.specs.declared.exposure.ExposingPlaces.TheVariants as exp
 use Rattle.node_tables.specs.declared.row.Row.{Row}
 use Rattle.node_tables.specs.declared.span.Span.{Span}
 use Rattle.node_tables.specs.declared.table.Table.{Table}
+use Rattle.node_tables.specs.Receipts.{AscendBySending}
 use Rattle.node_tables.specs.Rows.{AreRowsOf, stated_at}
 use Rattle.node_tables.specs.Tables.{AreSpans, DoNotFall, IsQuiet, IsTold, IsUpToDate, Says, ShowsAt, denies_at}
-use Rattle.node_tables.specs.within.Bringing.{BringsNothing, IsBrought, IsNext, NoneBeside, StatementStep, order_at, order_by, two_by}
+use Rattle.node_tables.specs.within.Bringing.{BringsNothing, IsBrought, IsNext, NoneBeside, RowStep, order_at, order_by, two_by}
 use Rattle.node_tables.proofs.RowLists.{insert_names, named_at, named_by, row_names, same_length}
 use Rattle.node_tables.proofs.Searching.{IsGap, found_row, gap_found}
 use Rattle.node_tables.proofs.Beside.{AgreesBeside, agrees_with_all}
@@ -137,31 +138,31 @@ module _ (items : List Checked) (rows : List Row) (held : List Authenticator) (n
 
 module _ (items : List Checked) (row : Row) (t : Table) (told : IsTold items t) where
   -- A row that names nothing changes nothing.
-  pub step_of_none : stated_at items row ≡ None → StatementStep items row t t
+  pub step_of_none : stated_at items row ≡ None → RowStep items row t t
   step_of_none none = record {
     node = refl;
     says = λ a. (λ has. inl has, λ h. ⊎_elim (λ has. has) (λ (e : (stated_at items row ≡ Some a) × (a.node ≡ t.node)). absurd (cc (none, e.0))) h);
+    receipts = refl;
     spans = refl;
     unanswered = refl;
     room = omega arith;
-    other_room = λ _. omega arith;
   }
 
   -- Nor does one whose statement is there already.
-  pub step_of_said : (a : Authenticator) → stated_at items row ≡ Some a → (i : ℕ) → i < length t.rows.items → IsBinarySearchResult (λ r. order_at items r a) t.rows.items (Ok i) → StatementStep items row t t
+  pub step_of_said : (a : Authenticator) → stated_at items row ≡ Some a → (i : ℕ) → i < length t.rows.items → IsBinarySearchResult (λ r. order_at items r a) t.rows.items (Ok i) → RowStep items row t t
   step_of_said a is i inside equal =
       let has = said_already items t.rows.items told.held told.rows row a is i inside equal in
       record {
         node = refl;
         says = λ b. (λ h. inl h, λ h. ⊎_elim (λ s. s) (λ (e : (stated_at items row ≡ Some b) × (b.node ≡ t.node)). subst (Says items t.rows.items) (same_Some a b (sym is ∙ e.0)) (held_says items t.rows.items told.held told.rows row a has)) h);
+        receipts = refl;
         spans = refl;
         unanswered = refl;
         room = omega arith;
-        other_room = λ _. omega arith;
       }
 
   module _ (a : Authenticator) (is : stated_at items row ≡ Some a) (of_node : a.node ≡ t.node) (i : ℕ) (inside : i ≤ length t.rows.items) (place : IsBinarySearchResult (λ r. order_at items r a) t.rows.items (Err i))
-      (u : Table) (node : u.node ≡ t.node) (rows : u.rows.items ≡ insert t.rows.items i row) (spans : u.spans ≡ t.spans) where
+      (u : Table) (node : u.node ≡ t.node) (rows : u.rows.items ≡ insert t.rows.items i row) (receipts : u.receipts ≡ t.receipts) (spans : u.spans ≡ t.spans) where
     own : (b : Authenticator) → Contains told.held b → b.node ≡ a.node
     own b has = told.own b has ∙ sym of_node
 
@@ -174,12 +175,13 @@ module _ (items : List Checked) (row : Row) (t : Table) (told : IsTold items t) 
       own = λ b has. ⊎_elim (λ old. told.own b old ∙ sym node) (λ new. ap (λ (z : Authenticator). z.node) new ∙ of_node ∙ sym node) ((members-insert told.held i a b).0 has);
       spans = subst (λ (l : List Span). AreSpans items u.node l) (sym (ap (λ v. v.items) spans)) (subst (λ (n : ℕ). AreSpans items n t.spans.items) (sym node) told.spans);
       by_low = subst (λ (l : List Span). DoNotFall l) (sym (ap (λ v. v.items) spans)) told.by_low;
+      receipts = subst (λ v. AscendBySending v.items) (sym receipts) told.receipts;
       told = subst (λ (l : List Span). IsUpToDate items (insert told.held i a) l u.exposure) (sym (ap (λ v. v.items) spans))
           (next_told items t.rows.items told.held told.rows row a is i told.ascending inside place own t.spans.items t.exposure u.exposure told.told next);
     }
 
     -- And it makes a step.
-    pub step_more : t.rows.room ≤ u.rows.room + 1 → u.unanswered ≡ t.unanswered → StatementStep items row t u
+    pub step_more : t.rows.room ≤ u.rows.room + 1 → u.unanswered ≡ t.unanswered → RowStep items row t u
     step_more room unanswered = record {
       node = node;
       says = λ b. (
@@ -192,10 +194,10 @@ module _ (items : List Checked) (row : Row) (t : Table) (told : IsTold items t) 
             (λ (new : (stated_at items row ≡ Some b) × (b.node ≡ t.node)). (members-insert told.held i a b).1 (inr (same_Some b a (sym new.0 ∙ is))))
             h),
       );
+      receipts = receipts;
       spans = spans;
       unanswered = unanswered;
       room = room;
-      other_room = λ other. absurd (other a is of_node);
     }
       where
         names : AreRowsOf items u.rows.items (insert told.held i a)

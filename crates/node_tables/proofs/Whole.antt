@@ -10,11 +10,13 @@ use Rattle.evidence_set.specs.Challenges.{is_against}
 use Rattle.kept_evidence.specs.Kept.{Keeps}
 use Rattle.kept_evidence.specs.Telling.{IsSegmentOf, is_answered, told_answers}
 use Rattle.node_tables.specs.declared.table.Table.{Table}
-use Rattle.node_tables.specs.Indexed.{IsSaid, IsTable}
+use Rattle.node_tables.specs.Indexed.{AreReceipts, IsSaid, IsTable}
 use Rattle.node_tables.specs.Places.{AscendBySpelling, HasBodyRoom, IsAgainstAt, IsOpenAt}
 use Rattle.kept_items.specs.Positions.{positions, stated}
+use Rattle.node_tables.specs.Receipts.{AscendBySending, IsReceived}
 use Rattle.node_tables.specs.Rooms.{HasRoomFor, IsRoomier}
 use Rattle.node_tables.specs.declared.row.Row.{Row}
+use Rattle.node_tables.specs.declared.sending.Sending.{Sending}
 use Rattle.node_tables.specs.declared.span.Span.{Span}
 use Rattle.node_tables.specs.Rows.{AreRowsOf, stated_by}
 use Rattle.node_tables.specs.Steps.{AllTables, EachBecomes, position_of, room, wanted}
@@ -173,10 +175,11 @@ module _ (items : List Checked) (x : Checked) where
   -- ---- the table
 
   -- After the item came, the table has just what more items say of its node.
-  pub table_more : (t u : Table) → IsTable items t → ItemStep more n (positions x.item.fields) t u → IsTold more u → AscendBySpelling more u.unanswered.items → IsTable more u
-  table_more t u before step told asked = record {
+  pub table_more : (t u : Table) → IsTable items t → ItemStep more n (positions x.item.fields) t u → IsTold more u → AscendBySpelling more u.unanswered.items → AreReceipts more u → IsTable more u
+  table_more t u before step told asked receipts = record {
     told = told;
     asked = asked;
+    receipts = receipts;
     says = λ a. (
       λ has. ⊎_elim
           (λ old.
@@ -212,10 +215,12 @@ table_roomier items t u same before = record {
     ascending = before.told.ascending;
     own = λ a has. before.told.own a has ∙ sym same.node;
     by_low = subst DoNotFall (sym same.spans) before.told.by_low;
+    receipts = subst AscendBySending (sym same.receipts) before.told.receipts;
     spans = subst (λ (l : List Span). AreSpans items u.node l) (sym same.spans) (subst (λ j. AreSpans items j t.spans.items) (sym same.node) before.told.spans);
     told = subst (λ (l : List Span). IsUpToDate items before.told.held l u.exposure) (sym same.spans) (subst (IsUpToDate items before.told.held t.spans.items) (sym same.exposure) before.told.told);
   };
   says = λ a. subst (λ j. Says items u.rows.items a ↔ (IsSaid items a × (a.node ≡ j))) (sym same.node) (subst (λ (l : List Row). Says items l a ↔ (IsSaid items a × (a.node ≡ t.node))) (sym same.rows) (before.says a));
+  receipts = λ s. subst (λ j. Contains u.receipts.items s ↔ (IsReceived items s × (s.from ≡ j))) (sym same.node) (subst (λ (l : List Sending). Contains l s ↔ (IsReceived items s × (s.from ≡ t.node))) (sym same.receipts) (before.receipts s));
   stands = λ i. subst (λ j. Stands u.spans.items i ↔ IsSegmentAt items j i) (sym same.node) (subst (λ (l : List Span). Stands l i ↔ IsSegmentAt items t.node i) (sym same.spans) (before.stands i));
   unanswered = λ i. subst (λ j. Contains u.unanswered.items i ↔ IsOpenAt items j i) (sym same.node) (subst (λ (l : List ℕ). Contains l i ↔ IsOpenAt items t.node i) (sym same.unanswered) (before.unanswered i));
   asked = subst (AscendBySpelling items) (sym same.unanswered) before.asked;

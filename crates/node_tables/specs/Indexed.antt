@@ -9,21 +9,29 @@ use Rattle.evidence_set.specs.declared.indication.Indication.TheVariants.{Truste
 use Rattle.evidence_set.specs.declared.indication.Indication.{Indication}
 use Rattle.kept_evidence.specs.Kept.{Keeps, IsWhole}
 use Rattle.node_tables.specs.Places.{AscendBySpelling, IsOpenAt, IsOrder}
+use Rattle.node_tables.specs.Receipts.{IsReceived}
 use Rattle.node_tables.specs.Rooms.{HasRoomFor}
 use Rattle.node_tables.specs.Steps.{AllTables, AscendByNode, position_of}
 use Rattle.node_tables.specs.Tables.{IsSegmentAt, Stands, Says, IsTold}
 use Rattle.node_tables.specs.declared.exposure.ExposingPlaces.{ExposingPlaces}
+use Rattle.node_tables.specs.declared.sending.Sending.{Sending}
 use Rattle.node_tables.specs.declared.table.Table.{Table}
+
+-- Segments have receipts of just these messages of the node.
+abbrev pub AreReceipts : List Checked → Table → Type 0
+AreReceipts items t = (s : Sending) → Contains t.receipts.items s ↔ (IsReceived items s × (s.from ≡ t.node))
 
 -- The statement stands in some item.
 abbrev pub IsSaid : List Checked → Authenticator → Type 0
 IsSaid items a = (n k : ℕ) × (position_of items n k ≡ Some a)
 
--- The table of a node has just what the items say of it: their statements of it, its segments, and, in the order of their spellings,
--- the challenges against it that nothing answers; and it keeps what exposes the node, if something does.
+-- The table of a node has just what the items say of it: their statements of it, its messages of which segments have receipts, its
+-- segments, and, in the order of their spellings, the challenges against it that nothing answers; and it keeps what exposes the node, if
+-- something does.
 pub record IsTable (items : List Checked) (t : Table) : Type 0 where
   pub told : IsTold items t
   pub says : (a : Authenticator) → Says items t.rows.items a ↔ (IsSaid items a × (a.node ≡ t.node))
+  pub receipts : AreReceipts items t
   pub stands : (i : ℕ) → Stands t.spans.items i ↔ IsSegmentAt items t.node i
   pub unanswered : (i : ℕ) → Contains t.unanswered.items i ↔ IsOpenAt items t.node i
   pub asked : AscendBySpelling items t.unanswered.items

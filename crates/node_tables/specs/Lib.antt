@@ -1,6 +1,7 @@
 pub mod Indexed
 pub mod Places
 pub mod Proving
+pub mod Receipts
 pub mod Rooms
 pub mod Rows
 pub mod Steps

@@ -11,6 +11,7 @@ use Rattle.node_tables.specs.declared.table.Table.{Table}
 pub record IsRoomier (t u : Table) : Type 0 where
   pub node : u.node ≡ t.node
   pub rows : u.rows.items ≡ t.rows.items
+  pub receipts : u.receipts.items ≡ t.receipts.items
   pub spans : u.spans.items ≡ t.spans.items
   pub unanswered : u.unanswered.items ≡ t.unanswered.items
   pub exposure : u.exposure ≡ t.exposure

@@ -6,6 +6,7 @@ use Rattle.authenticators.specs.StatementSet.{Conflict, IsAscending, NoConflict}
 use Rattle.authenticators.specs.declared.authenticator.Authenticator.{Authenticator}
 use Rattle.evidence_item.specs.Checking.{Checked}
 use Rattle.kept_evidence.specs.Telling.{IsSegmentOf, denies, deviates}
+use Rattle.node_tables.specs.Receipts.{AscendBySending}
 use Rattle.node_tables.specs.Rows.{AreRowsOf, stated_at}
 use Rattle.node_tables.specs.declared.exposure.ExposingPlaces.TheVariants as exposure
 use Rattle.node_tables.specs.declared.exposure.ExposingPlaces.{ExposingPlaces}
@@ -75,8 +76,8 @@ IsUpToDate items held spans (Some e) = ShowsAt items held spans e
 
 -- ---- the table
 
--- The table of a node: its rows name just these statements, ascending; its spans are segments of the node, by their least numbers; and
--- what exposes it is kept, where something does.
+-- The table of a node: its rows name just these statements, ascending; its spans are segments of the node, by their least numbers; its
+-- receipts ascend; and what exposes it is kept, where something does.
 pub record IsTold (items : List Checked) (t : Table) : Type 0 where
   pub held : List Authenticator
   pub rows : AreRowsOf items t.rows.items held
@@ -84,6 +85,7 @@ pub record IsTold (items : List Checked) (t : Table) : Type 0 where
   pub own : (a : Authenticator) → Contains held a → a.node ≡ t.node
   pub spans : AreSpans items t.node t.spans.items
   pub by_low : DoNotFall t.spans.items
+  pub receipts : AscendBySending t.receipts.items
   pub told : IsUpToDate items held t.spans.items t.exposure
 
 -- A statement is named by one of the rows.

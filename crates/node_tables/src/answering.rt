@@ -1,17 +1,23 @@
 //! Which challenges are answered.
 
-ghost use Rattle.std.specs.Prelude.{◌≡◌, ◌↔◌, ◌≤◌, IsTrue, Some, false, not, slice_get, true, vec_capacity, vec_len};
+ghost use Rattle.std.specs.Prelude.{◌≡◌, ◌↔◌, ◌<◌, ◌≤◌, IsTrue, Some, false, length, not, slice_get, true, vec_capacity, vec_len};
 ghost use Rattle.std.specs.List.{filter, list_any};
 ghost use Rattle.evidence_set.specs.Challenges.{is_against};
 ghost use Rattle.kept_evidence.specs.Telling.{is_answered};
 ghost use Rattle.node_tables.specs.declared.span.Span.{Span as TheSpan};
+ghost use Rattle.node_tables.specs.declared.table.Table.{Table as TheTable};
+ghost use Rattle.node_tables.specs.Indexed.{AreReceipts};
 ghost use Rattle.node_tables.specs.Places.{AscendBySpelling, IsAcknowledged, IsOrder};
+ghost use Rattle.node_tables.specs.Steps.{AllTables, AscendByNode};
+ghost use Rattle.node_tables.specs.Tables.{IsTold};
 ghost use Rattle.node_tables.specs.within.Placing.{AreOthers, HasAcknowledgement, IsAckAt, answers_at};
 ghost use Rattle.node_tables.specs.within.Sendings.{acknowledged, acknowledged_by};
 
 use crate::order::GroupProbe;
+use crate::quoting::is_received;
 use crate::sending::{Sending, take_sending};
 use crate::span::Span;
+use crate::table::Table;
 use authenticators::NodeId;
 use evidence_item::{Form, Message};
 use item_forms::Group;
@@ -114,17 +120,21 @@ fn has_acknowledgement<P>(
     }
 }
 
-/// Whether some item answers the challenge against the node at the place. It looks an acknowledgement up, and only where there is none
-/// at the node's segments, which are those that are given.
-pub(crate) fn is_answered<P>(
+/// Whether some item answers the challenge against the node at the place. For a send challenge it looks up an acknowledgement, and then a
+/// receipt; for another, or where the sender has no table, it looks at the node's segments, which are those that are given.
+fn is_answered<P>(
     items: &[KeptItem<P>],
     order: &TieredVec<u32>,
+    tables: &[Table],
     node: NodeId,
     spans: &[Span],
     challenge: &KeptItem<P>,
     place: u32,
 ) -> bool
     requires order { IsOrder items.now order.now.items }
+    requires ascending { AscendByNode tables.now }
+    requires told { AllTables (IsTold items.now) tables.now }
+    requires receipts { AllTables (λ t. AreReceipts items.now t) tables.now }
     requires here { slice_get items.now place ≡ Some challenge.now }
     requires against { is_against node challenge.now.item.fields ≡ true }
     requires others { AreOthers items.now node place spans.now }
@@ -133,5 +143,52 @@ pub(crate) fn is_answered<P>(
     if has_acknowledgement(items, order, challenge) {
         return true;
     }
-    one_answers(items, spans, place)
+    match is_received(items, tables, challenge) {
+        Some(received) => received,
+        None => one_answers(items, spans, place),
+    }
+}
+
+/// The same of an item that may be no challenge against the node, by the node's table.
+fn is_answered_in<P>(
+    items: &[KeptItem<P>],
+    order: &TieredVec<u32>,
+    tables: &[Table],
+    table: &Table,
+    kept: &KeptItem<P>,
+    place: u32,
+) -> bool
+    requires order { IsOrder items.now order.now.items }
+    requires ascending { AscendByNode tables.now }
+    requires told { AllTables (IsTold items.now) tables.now }
+    requires receipts { AllTables (λ t. AreReceipts items.now t) tables.now }
+    requires here { slice_get items.now place ≡ Some kept.now }
+    requires others { AreOthers items.now table.now.node place table.now.spans.items }
+    ensures { is_against table.now.node kept.now.item.fields ≡ true → result ≡ is_answered items.now kept.now.item.fields }
+{
+    if !kept.is_against(table.node) {
+        return false;
+    }
+    is_answered(items, order, tables, table.node, &table.spans, kept, place)
+}
+
+/// The same by the place of the node's table.
+pub(crate) fn is_answered_at<P>(
+    items: &[KeptItem<P>],
+    order: &TieredVec<u32>,
+    tables: &[Table],
+    i: usize,
+    kept: &KeptItem<P>,
+    place: u32,
+) -> bool
+    requires order { IsOrder items.now order.now.items }
+    requires ascending { AscendByNode tables.now }
+    requires told { AllTables (IsTold items.now) tables.now }
+    requires receipts { AllTables (λ t. AreReceipts items.now t) tables.now }
+    requires here { slice_get items.now place ≡ Some kept.now }
+    requires others { AllTables (λ t. AreOthers items.now t.node place t.spans.items) tables.now }
+    requires inside { i < length tables.now }
+    ensures { (t : TheTable) → slice_get tables.now i ≡ Some t → is_against t.node kept.now.item.fields ≡ true → result ≡ is_answered items.now kept.now.item.fields }
+{
+    is_answered_in(items, order, tables, &tables[i], kept, place)
 }

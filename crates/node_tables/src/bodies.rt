@@ -4,14 +4,16 @@ ghost use Rattle.std.specs.Prelude.{◌≡◌, ◌↔◌, ◌⊎◌, ◌+◌, �
 ghost use Rattle.std.specs.List.Sorted.{IsBinarySearchResult, IsSearchInRange};
 ghost use Rattle.evidence_set.specs.Challenges.{is_against};
 ghost use Rattle.evidence_item.specs.Checking.{is_segment};
+ghost use Rattle.kept_evidence.specs.Telling.{is_answered};
 ghost use Rattle.kept_items.specs.Keeping.{subject};
+ghost use Rattle.node_tables.specs.Indexed.{AreReceipts};
 ghost use Rattle.node_tables.specs.Places.{AscendBySpelling, HasBodyRoom, IsOrder, item_order_by};
 ghost use Rattle.node_tables.specs.Rooms.{KeepsPromises};
 ghost use Rattle.node_tables.specs.Steps.{AllTables, AscendByNode, EachBecomes};
 ghost use Rattle.node_tables.specs.Tables.{IsSegmentAt, IsTold};
 ghost use Rattle.node_tables.specs.within.Placing.{AreAgainst, AreOthers, BodyRooms, BodyRoomsOf, BodyStep, IsAckAt, IsNewAmong, subject_by};
 
-use crate::answering::{close_acknowledged, is_answered};
+use crate::answering::{close_acknowledged, is_answered_at};
 use crate::closing::close_by_segment;
 use crate::order::compare_kept_at;
 use crate::segments::put_segment;
@@ -79,16 +81,15 @@ fn put_by_spelling<P>(items: &[KeptItem<P>], places: &mut Vec<u32>, place: u32, 
 /// Puts a challenge, which is open unless something answers it.
 fn put_challenge<P>(
     items: &[KeptItem<P>],
-    order: &TieredVec<u32>,
     table: &mut Table,
     place: u32,
     kept: &KeptItem<P>,
+    answered: bool,
 )
-    requires order { IsOrder items.now order.now.items }
     requires told { IsTold items.now table.old }
     requires here { slice_get items.now place ≡ Some kept.now }
     requires against { is_against table.old.node kept.now.item.fields ≡ true }
-    requires others { AreOthers items.now table.old.node place table.old.spans.items }
+    requires answered { answered ≡ is_answered items.now kept.now.item.fields }
     requires room { vec_len table.old.unanswered < vec_capacity table.old.unanswered }
     requires asked { AscendBySpelling items.now table.old.unanswered.items }
     requires new { IsNewAmong items.now place table.old.unanswered.items }
@@ -98,7 +99,7 @@ fn put_challenge<P>(
     ensures rooms { BodyRooms table.old table.new }
     ensures counts { KeepsPromises table.old table.new }
 {
-    if is_answered(items, order, table.node, &table.spans, kept, place) {
+    if answered {
         return;
     }
     put_by_spelling(items, &mut table.unanswered, place, kept);
@@ -107,19 +108,18 @@ fn put_challenge<P>(
 /// Puts what an item that is no segment is, beside its statements, into the table of its node.
 fn put_other<P>(
     items: &[KeptItem<P>],
-    order: &TieredVec<u32>,
     table: &mut Table,
     place: u32,
     kept: &KeptItem<P>,
     item: &Item,
+    answered: bool,
 )
-    requires order { IsOrder items.now order.now.items }
     requires told { IsTold items.now table.old }
     requires here { slice_get items.now place ≡ Some kept.now }
     requires item { item.now ≡ kept.now.item }
     requires other { is_segment item.now.fields ≡ false }
     requires subject { subject item.now.fields ≡ Some table.old.node }
-    requires others { AreOthers items.now table.old.node place table.old.spans.items }
+    requires answered { is_against table.old.node item.now.fields ≡ true → answered ≡ is_answered items.now item.now.fields }
     requires room { vec_len table.old.unanswered < vec_capacity table.old.unanswered }
     requires asked { AscendBySpelling items.now table.old.unanswered.items }
     requires new { IsNewAmong items.now place table.old.unanswered.items }
@@ -132,23 +132,22 @@ fn put_other<P>(
     match item.form() {
         Form::Auth(_) | Form::Segment(_) => {}
         Form::Ack(_) => put_acknowledgement(items, table, place),
-        Form::Audit(_) | Form::Send(_) => put_challenge(items, order, table, place, kept),
+        Form::Audit(_) | Form::Send(_) => put_challenge(items, table, place, kept, answered),
     }
 }
 
 /// Puts what the item at a place is, beside its statements, into the table of its node.
 fn put_form<P>(
     items: &[KeptItem<P>],
-    order: &TieredVec<u32>,
     table: &mut Table,
     place: u32,
     kept: &KeptItem<P>,
+    answered: bool,
 )
-    requires order { IsOrder items.now order.now.items }
     requires told { IsTold items.now table.old }
     requires here { slice_get items.now place ≡ Some kept.now }
     requires subject { subject kept.now.item.fields ≡ Some table.old.node }
-    requires others { AreOthers items.now table.old.node place table.old.spans.items }
+    requires answered { is_against table.old.node kept.now.item.fields ≡ true → answered ≡ is_answered items.now kept.now.item.fields }
     requires spans { vec_len table.old.spans < vec_capacity table.old.spans }
     requires unanswered { vec_len table.old.unanswered < vec_capacity table.old.unanswered }
     requires asked { AscendBySpelling items.now table.old.unanswered.items }
@@ -161,23 +160,22 @@ fn put_form<P>(
 {
     match kept.as_item() {
         None => put_whole_segment(items, table, place),
-        Some(item) => put_other(items, order, table, place, kept, item),
+        Some(item) => put_other(items, table, place, kept, item, answered),
     }
 }
 
 /// Puts what the item at a place is, beside its statements, into the table of its node, and takes back that it was promised.
 fn put_in<P>(
     items: &[KeptItem<P>],
-    order: &TieredVec<u32>,
     table: &mut Table,
     place: u32,
     kept: &KeptItem<P>,
+    answered: bool,
 )
-    requires order { IsOrder items.now order.now.items }
     requires told { IsTold items.now table.old }
     requires here { slice_get items.now place ≡ Some kept.now }
     requires subject { subject kept.now.item.fields ≡ Some table.old.node }
-    requires others { AreOthers items.now table.old.node place table.old.spans.items }
+    requires answered { is_against table.old.node kept.now.item.fields ≡ true → answered ≡ is_answered items.now kept.now.item.fields }
     requires spans { vec_len table.old.spans < vec_capacity table.old.spans }
     requires unanswered { vec_len table.old.unanswered < vec_capacity table.old.unanswered }
     requires asked { AscendBySpelling items.now table.old.unanswered.items }
@@ -188,7 +186,7 @@ fn put_in<P>(
     ensures rooms { BodyRooms table.old table.new }
     ensures counts { (table.new.promised ≡ table.old.promised) × (table.new.bodies ≡ table.old.bodies - 1) }
 {
-    put_form(items, order, table, place, kept);
+    put_form(items, table, place, kept, answered);
     table.bodies = table.bodies.saturating_sub(1);
 }
 
@@ -202,6 +200,7 @@ pub(crate) fn put_body<P>(
     requires order { IsOrder items.now order.now.items }
     requires ascending { AscendByNode tables.old }
     requires told { AllTables (IsTold items.now) tables.old }
+    requires receipts { AllTables (λ t. AreReceipts items.now t) tables.old }
     requires there { place < length items.now }
     requires others { AllTables (λ t. AreOthers items.now t.node place t.spans.items) tables.old }
     requires against { AllTables (λ t. AreAgainst items.now t) tables.old }
@@ -218,6 +217,7 @@ pub(crate) fn put_body<P>(
         return;
     };
     if let Some(i) = place_of(tables, node) {
-        put_in(items, order, &mut tables[i], place, kept);
+        let answered = is_answered_at(items, order, tables, i, kept, place);
+        put_in(items, &mut tables[i], place, kept, answered);
     }
 }

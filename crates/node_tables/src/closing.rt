@@ -4,9 +4,10 @@ ghost use Rattle.std.specs.Prelude.{◌≡◌, ◌≤◌, ◌-◌, Some, false, 
 ghost use Rattle.std.specs.List.{AllWithin, filter};
 ghost use Rattle.kept_items.specs.Positions.{positions, stated};
 ghost use Rattle.node_tables.specs.Places.{AscendBySpelling};
+ghost use Rattle.node_tables.specs.Receipts.{received};
 ghost use Rattle.node_tables.specs.Tables.{IsSegmentAt};
 ghost use Rattle.node_tables.specs.within.Placing.{answers_at};
-ghost use Rattle.node_tables.specs.within.Sendings.{audited_by, is_among, is_late, is_late_by, is_received, received, told_audit};
+ghost use Rattle.node_tables.specs.within.Sendings.{audited_by, is_among, is_late, is_late_by, is_received, told_audit};
 
 use crate::sending::{Sending, take_sending};
 use authenticators::NodeId;
@@ -14,7 +15,7 @@ use evidence_item::Form;
 use kept_items::KeptItem;
 
 /// The message that an entry of a segment of the node quotes: by its sender, its receiver and its number.
-fn received<P>(kept: &KeptItem<P>, node: NodeId, position: u32) -> Option<Sending>
+pub(crate) fn received<P>(kept: &KeptItem<P>, node: NodeId, position: u32) -> Option<Sending>
     ensures { result ≡ received node (stated kept.now position) }
 {
     match kept.statement(position) {

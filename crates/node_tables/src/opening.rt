@@ -22,6 +22,7 @@ fn empty(alloc: Global, node: NodeId) -> Table
     Table {
         node,
         rows: TieredVec::new(alloc),
+        receipts: TieredVec::new(alloc),
         spans: Vec::new(alloc),
         unanswered: Vec::new(alloc),
         exposure: None,

@@ -23,6 +23,7 @@ fn promise_here(table: &mut Table) -> Result<(), Memory>
         return Err(Memory);
     };
     table.rows.reserve(count)?;
+    table.receipts.reserve(count)?;
     table.promised = count;
     Ok(())
 }

@@ -12,12 +12,15 @@ use kept_items::KeptItem;
 use std::cmp::Ordering;
 use std::ops::Range;
 
-/// What messages are told apart by: their sender, their receiver and their number.
-#[derive(Clone, Copy, Debug)]
-pub(crate) struct Sending {
-    pub(crate) from: NodeId,
-    pub(crate) to: NodeId,
-    pub(crate) seq: u64,
+/// What messages are told apart by.
+#[derive(Clone, Copy, Debug, Drop)]
+pub struct Sending {
+    /// The sender.
+    pub from: NodeId,
+    /// The receiver.
+    pub to: NodeId,
+    /// The number in the sender's log.
+    pub seq: u64,
 }
 
 fn compare_message(message: &Message, sending: &Sending) -> Ordering

@@ -2,6 +2,7 @@
 
 use crate::exposure::ExposingPlaces;
 use crate::row::Row;
+use crate::sending::Sending;
 use crate::span::Span;
 use authenticators::NodeId;
 use tiered_vec::TieredVec;
@@ -13,6 +14,8 @@ pub struct Table {
     pub node: NodeId,
     /// Its statements, ascending by number, hash and signature.
     pub rows: TieredVec<Row>,
+    /// The messages of it of which segments have receipts, each once, ascending by receiver and number.
+    pub receipts: TieredVec<Sending>,
     /// Its segments, by their least numbers.
     pub spans: Vec<Span>,
     /// The challenges against it that nothing answers, ascending by their spellings.

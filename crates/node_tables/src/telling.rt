@@ -1,15 +1,17 @@
 //! Putting a statement into the table of its node.
 
-ghost use Rattle.std.specs.Prelude.{◌≡◌, ◌≤◌, ◌-◌, None, Some, length};
+ghost use Rattle.std.specs.Prelude.{◌≡◌, ◌≤◌, ◌-◌, IsSome, None, Some, length};
 ghost use Rattle.std.specs.List.Sorted.{IsBinarySearchResult, IsSearchInRange};
 ghost use Rattle.authenticators.specs.declared.authenticator.Authenticator.{Authenticator as Statement};
 ghost use Rattle.kept_items.specs.Positions.{shown};
 ghost use Rattle.node_tables.specs.Rows.{stated_at};
+ghost use Rattle.node_tables.specs.Steps.{room};
 ghost use Rattle.node_tables.specs.Tables.{AreSpans, DoNotFall, IsTold};
-ghost use Rattle.node_tables.specs.within.Bringing.{AreUndenied, IsNext, StatementStep, order_at};
+ghost use Rattle.node_tables.specs.within.Bringing.{AreUndenied, IsNext, RowStep, StatementStep, order_at};
 
 use crate::exposure::ExposingPlaces;
 use crate::finding::brought_by;
+use crate::quoting::put_receipt;
 use crate::row::{Row, compare_row, said_at};
 use crate::table::Table;
 use kept_items::{KeptItem, Said};
@@ -70,7 +72,7 @@ fn put_row<P>(items: &[KeptItem<P>], table: &mut Table, row: Row)
     requires own { (a : Statement) → stated_at items.now row ≡ Some a → a.node ≡ table.old.node }
     requires room { 1 ≤ table.old.rows.room }
     ensures told { IsTold items.now table.new }
-    ensures step { StatementStep items.now row table.old table.new }
+    ensures step { RowStep items.now row table.old table.new }
     ensures counts { (table.new.promised ≡ table.old.promised) × (table.new.bodies ≡ table.old.bodies) }
 {
     let Some(said) = said_at(items, row) else {
@@ -84,16 +86,18 @@ fn put_row<P>(items: &[KeptItem<P>], table: &mut Table, row: Row)
     table.rows.insert(place, row);
 }
 
-/// Puts the statement that a row names into the table of its node, where it is not there yet, keeps what it brings, and takes back
-/// that it was promised. There is room for it.
+/// Puts the statement that a row names into the table of its node, where it is not there yet, keeps what it brings and of what it is a
+/// receipt, and takes back that it was promised. There is room for it.
 pub(crate) fn put_statement<P>(items: &[KeptItem<P>], table: &mut Table, row: Row)
     requires told { IsTold items.now table.old }
     requires own { (a : Statement) → stated_at items.now row ≡ Some a → a.node ≡ table.old.node }
-    requires room { 1 ≤ table.old.rows.room }
+    requires there { IsSome (stated_at items.now row) }
+    requires room { 1 ≤ room table.old }
     ensures told { IsTold items.now table.new }
     ensures step { StatementStep items.now row table.old table.new }
     ensures counts { (table.new.promised ≡ table.old.promised - 1) × (table.new.bodies ≡ table.old.bodies) }
 {
     put_row(items, table, row);
+    put_receipt(items, table, row);
     table.promised = table.promised.saturating_sub(1);
 }

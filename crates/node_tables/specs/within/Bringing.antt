@@ -1,6 +1,6 @@
 -- What a statement or a segment more brings against its node, and what happens to a table with it.
 use Rattle.std.specs.List.{Contains}
-use Rattle.std.specs.Prelude.{◌≡◌, ℕ, Bool, true, false, List, Option, Some, None, Result, Ok, Err, ◌≢◌, ◌+◌, ◌↔◌, ◌⊎◌, ◌&&◌, ◌==◌, ◌≤◌, ◌<◌, ◌-◌, not, length, slice_index_or, nat_le, nat_lt, if◌then◌else◌}
+use Rattle.std.specs.Prelude.{◌≡◌, ℕ, Bool, true, false, List, Option, Some, None, Result, Ok, Err, ◌≢◌, ◌+◌, ◌↔◌, ◌⊎◌, ◌&&◌, ◌==◌, ◌≤◌, ◌<◌, ◌-◌, not, length, slice_get, slice_index_or, nat_le, nat_lt, if◌then◌else◌}
 use Rattle.std.specs.Str.{bytes_eq}
 use Rattle.std.specs.declared.cmp.Ordering.TheVariants.{Less, Greater}
 use Rattle.std.specs.declared.cmp.Ordering.{Ordering}
@@ -9,12 +9,14 @@ use Rattle.authenticators.specs.declared.authenticator.Authenticator.{Authentica
 use Rattle.item_forms.specs.declared.forms.Fields.{Fields}
 use Rattle.evidence_item.specs.Checking.{Checked}
 use Rattle.kept_evidence.specs.Telling.{denies}
+use Rattle.node_tables.specs.Receipts.{receipt_at, receipt_by}
 use Rattle.node_tables.specs.Rows.{stated_at}
 use Rattle.node_tables.specs.Steps.{room, wanted, position_of, is_of}
 use Rattle.node_tables.specs.Tables.{Stands, Says, denies_at, deviates_at}
 use Rattle.node_tables.specs.declared.exposure.ExposingPlaces.TheVariants as exposure
 use Rattle.node_tables.specs.declared.exposure.ExposingPlaces.{ExposingPlaces}
 use Rattle.node_tables.specs.declared.row.Row.{Row}
+use Rattle.node_tables.specs.declared.sending.Sending.{Sending}
 use Rattle.node_tables.specs.declared.span.Span.{Span}
 use Rattle.node_tables.specs.declared.table.Table.{Table}
 
@@ -78,14 +80,33 @@ IsNext items rows spans place row a (Some e) o = o ≡ Some e
 IsNext items rows spans place row a None None = BringsNothing items rows spans place a
 IsNext items rows spans place row a None (Some e) = IsBrought items rows spans row a e
 
+-- A statement comes among the rows.
+pub record RowStep (items : List Checked) (row : Row) (t u : Table) : Type 0 where
+  pub node : u.node ≡ t.node
+  pub says : (a : Authenticator) → Says items u.rows.items a ↔ (Says items t.rows.items a ⊎ ((stated_at items row ≡ Some a) × (a.node ≡ t.node)))
+  pub receipts : u.receipts ≡ t.receipts
+  pub spans : u.spans ≡ t.spans
+  pub unanswered : u.unanswered ≡ t.unanswered
+  pub room : t.rows.room ≤ u.rows.room + 1
+
+-- A receipt comes, where the statement is quoted.
+pub record ReceiptStep (items : List Checked) (row : Row) (t u : Table) : Type 0 where
+  pub node : u.node ≡ t.node
+  pub rows : u.rows ≡ t.rows
+  pub receipts : (s : Sending) → Contains u.receipts.items s ↔ (Contains t.receipts.items s ⊎ ((receipt_at items row ≡ Some s) × (s.from ≡ t.node)))
+  pub spans : u.spans ≡ t.spans
+  pub unanswered : u.unanswered ≡ t.unanswered
+  pub room : t.receipts.room ≤ u.receipts.room + 1
+
 -- A statement comes.
 pub record StatementStep (items : List Checked) (row : Row) (t u : Table) : Type 0 where
   pub node : u.node ≡ t.node
   pub says : (a : Authenticator) → Says items u.rows.items a ↔ (Says items t.rows.items a ⊎ ((stated_at items row ≡ Some a) × (a.node ≡ t.node)))
+  pub receipts : (s : Sending) → Contains u.receipts.items s ↔ (Contains t.receipts.items s ⊎ ((receipt_at items row ≡ Some s) × (s.from ≡ t.node)))
   pub spans : u.spans ≡ t.spans
   pub unanswered : u.unanswered ≡ t.unanswered
-  pub room : t.rows.room ≤ u.rows.room + 1
-  pub other_room : ((a : Authenticator) → stated_at items row ≡ Some a → a.node ≢ t.node) → t.rows.room ≤ u.rows.room
+  pub other_room : ((a : Authenticator) → stated_at items row ≡ Some a → a.node ≢ t.node) → room t ≤ room u
+  pub room : room t ≤ room u + 1
 
 -- The statement of the row contradicts the item.
 abbrev pub denied_by_row : Option Authenticator → Fields → Bool
@@ -126,6 +147,7 @@ IsNextBySegment items rows place None (Some e) = IsBroughtBySegment items rows p
 pub record SegmentStep (items : List Checked) (place : ℕ) (t u : Table) : Type 0 where
   pub node : u.node ≡ t.node
   pub rows : u.rows ≡ t.rows
+  pub receipts : u.receipts ≡ t.receipts
   pub stands : (i : ℕ) → Stands u.spans.items i ↔ (Stands t.spans.items i ⊎ (i ≡ place))
   pub unanswered : u.unanswered ≡ t.unanswered
 
@@ -133,6 +155,7 @@ pub record SegmentStep (items : List Checked) (place : ℕ) (t u : Table) : Type
 pub record StatementsStep (items : List Checked) (n k : ℕ) (t u : Table) : Type 0 where
   pub node : u.node ≡ t.node
   pub says : (a : Authenticator) → Says items u.rows.items a ↔ (Says items t.rows.items a ⊎ ((p : ℕ) × (p < k) × (position_of items n p ≡ Some a) × (a.node ≡ t.node)))
+  pub receipts : (s : Sending) → Contains u.receipts.items s ↔ (Contains t.receipts.items s ⊎ ((p : ℕ) × (p < k) × (receipt_by (slice_get items n) p ≡ Some s) × (s.from ≡ t.node)))
   pub spans : u.spans ≡ t.spans
   pub unanswered : u.unanswered ≡ t.unanswered
   pub room : room t ≤ room u + wanted (position_of items n) k t.node

@@ -1,6 +1,6 @@
 -- What an item brings to the table of its node beside its statements.
 use Rattle.std.specs.List.{Contains}
-use Rattle.std.specs.Prelude.{◌≡◌, ℕ, Bool, true, false, List, Option, Some, None, slice_get, ◌≢◌, ◌+◌, ◌↔◌, ◌⊎◌, ◌≤◌, ◌<◌, ◌-◌}
+use Rattle.std.specs.Prelude.{◌≡◌, ℕ, Bool, IsTrue, true, false, List, Option, Some, None, slice_get, ◌≢◌, ◌+◌, ◌↔◌, ◌⊎◌, ◌≤◌, ◌<◌, ◌-◌}
 use Rattle.std.specs.declared.cmp.Ordering.TheVariants.{Greater}
 use Rattle.std.specs.declared.cmp.Ordering.{Ordering}
 use Rattle.authenticators.specs.declared.authenticator.Authenticator.{Authenticator}
@@ -11,8 +11,10 @@ use Rattle.evidence_item.specs.Checking.{Checked}
 use Rattle.kept_evidence.specs.Telling.{told_answers}
 use Rattle.kept_items.specs.Keeping.{subject}
 use Rattle.node_tables.specs.Places.{bodies, open_room, span_room, IsOpenAt, IsAcknowledged, IsAgainstAt}
+use Rattle.node_tables.specs.Receipts.{IsReceived, receipt_by}
 use Rattle.node_tables.specs.Steps.{position_of}
 use Rattle.node_tables.specs.Tables.{IsSegmentAt, Stands, Says}
+use Rattle.node_tables.specs.declared.sending.Sending.{Sending}
 use Rattle.node_tables.specs.declared.span.Span.{Span}
 use Rattle.node_tables.specs.declared.table.Table.{Table}
 
@@ -30,6 +32,25 @@ answered_by (Some c) (Some d) = told_answers c.item.fields d
 -- The item at place n answers that at place i.
 abbrev pub answers_at : List Checked → ℕ → ℕ → Bool
 answers_at items i n = answered_by (slice_get items i) (slice_get items n)
+
+-- What the message of a send challenge is told apart by.
+abbrev pub sent : Fields → Option Sending
+sent (form.Auth a) = None
+sent (form.Segment s) = None
+sent (form.Audit c) = None
+sent (form.Send m) = Some (record { from = m.from; to = m.to; seq = m.seq })
+sent (form.Ack a) = None
+
+-- Whether segments have a receipt of the message of a send challenge.
+abbrev pub IsReceiptTold : List Checked → Fields → Bool → Type 0
+IsReceiptTold items x b = (s : Sending) × (sent x ≡ Some s) × (IsTrue b ↔ IsReceived items s)
+
+-- The segments that stand at other places than n have receipts of just these messages of the node.
+abbrev pub IsReceivedElsewhere : List Checked → ℕ → Sending → Type 0
+IsReceivedElsewhere items n s = (m k : ℕ) × (m ≢ n) × (receipt_by (slice_get items m) k ≡ Some s)
+
+abbrev pub AreOtherReceipts : List Checked → ℕ → Table → Type 0
+AreOtherReceipts items n t = (s : Sending) → Contains t.receipts.items s ↔ (IsReceivedElsewhere items n s × (s.from ≡ t.node))
 
 -- Some item acknowledges a message of a send challenge.
 abbrev pub HasAcknowledgement : List Checked → Fields → Type 0
@@ -81,6 +102,7 @@ pub record BodyRoomsOf (o : Option ℕ) (t u : Table) : Type 0 where
 pub record BodyStep (items : List Checked) (n : ℕ) (t u : Table) : Type 0 where
   pub node : u.node ≡ t.node
   pub rows : u.rows ≡ t.rows
+  pub receipts : u.receipts ≡ t.receipts
   pub stands : (i : ℕ) → Stands u.spans.items i ↔ (Stands t.spans.items i ⊎ ((i ≡ n) × IsSegmentAt items t.node n))
   pub unanswered : (i : ℕ) → Contains u.unanswered.items i ↔ ((Contains t.unanswered.items i × (answers_at items i n ≡ false)) ⊎ ((i ≡ n) × IsOpenAt items t.node n))
 

@@ -7,12 +7,12 @@ use Rattle.commitment.specs.declared.message.Message.{Message}
 use Rattle.item_forms.specs.Spelling.{tag_of}
 use Rattle.item_forms.specs.declared.forms.Fields.TheVariants as form
 use Rattle.item_forms.specs.declared.forms.Fields.{Fields}
-use Rattle.authenticators.specs.declared.authenticator.Authenticator.{Authenticator}
 use Rattle.evidence_item.specs.declared.findings.Findings.{Findings}
 use Rattle.evidence_item.specs.Checking.{Checked}
 use Rattle.evidence_set.specs.Challenges.{answers_audit}
 use Rattle.kept_items.specs.Positions.{stated_in}
 use Rattle.node_tables.specs.declared.sending.Sending.{Sending}
+use Rattle.node_tables.specs.Receipts.{received}
 
 abbrev pub message_cmp : Sending → Message → Ordering
 message_cmp s m = ordering_then (nat_cmp m.from s.from) (ordering_then (nat_cmp m.to s.to) (nat_cmp m.seq s.seq))
@@ -48,11 +48,6 @@ acknowledged (form.Ack a) = Some (record { from = a.message.from; to = a.message
 abbrev pub acknowledged_by : Option Checked → Option Sending
 acknowledged_by None = None
 acknowledged_by (Some c) = acknowledged c.item.fields
-
--- The message that a statement in a log of node j is of.
-abbrev pub received : ℕ → Option Authenticator → Option Sending
-received j None = None
-received j (Some a) = Some (record { from = a.node; to = j; seq = a.seq })
 
 abbrev pub is_among : Option Sending → Option Checked → Bool
 is_among None o = false

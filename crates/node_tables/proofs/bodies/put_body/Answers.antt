@@ -1,12 +1,13 @@
-use Rattle.std.proofs.Common.{◌≡◌, ℕ, ◌-◌, ◌<◌, List, Some, None, length, get_or, refl, subst, sym, ap, ◌∙◌}
+use Rattle.std.proofs.Common.{◌≡◌, ℕ, true, ◌-◌, ◌<◌, List, Some, None, length, get_or, refl, subst, sym, ap, ◌∙◌}
 use Rattle.std.specs.Prelude.{slice_get}
 use Rattle.std.proofs.lemmas.Option.{get_or_from_slice_get, same_Some, slice_get_read}
 use Rattle.evidence_item.specs.Checking.{Checked}
+use Rattle.evidence_set.specs.Challenges.{is_against}
 use Rattle.node_tables.specs.declared.table.Table.{Table}
 use Rattle.kept_items.specs.Keeping.{subject}
 use Rattle.node_tables.specs.Places.{AscendBySpelling, HasBodyRoom}
 use Rattle.node_tables.specs.Tables.{IsTold}
-use Rattle.node_tables.specs.within.Placing.{AreOthers, BodyRooms, BodyStep, IsNewAmong, subject_by}
+use Rattle.node_tables.specs.within.Placing.{BodyRooms, BodyStep, IsNewAmong, subject_by}
 use Rattle.node_tables.proofs.Bodied.{bodies_still, body_at}
 use Rattle.node_tables.proofs.Reserved.{no_rooms, rooms_at}
 use Rattle.node_tables.proofs.Stepping.{all_set}
@@ -44,10 +45,14 @@ put_in-requires-clause-subject g c =
     let found = c.in-Some-place_of.ensures.some in
     sym c.subject.ensures ∙ c.in-Some.is ∙ ap (λ n. Some n) (sym found.2) ∙ ap (λ (t : Table). Some t.node) (read c.args.tables.now c.in-Some-place_of.i found.0 c.index-tables-i.result found.1)
 
-pub put_in-requires-clause-others : goal.put_in-requires-clause-others
-put_in-requires-clause-others g c =
+pub is_answered_at-answered-requires-clause-here : goal.is_answered_at-answered-requires-clause-here
+is_answered_at-answered-requires-clause-here g c = at c.args.items.now c.args.place c.index-items-place.result c.requires.there c.index-items-place.is
+
+pub put_in-requires-clause-answered : goal.put_in-requires-clause-answered
+put_in-requires-clause-answered g c = λ against.
     let found = c.in-Some-place_of.ensures.some in
-    subst (λ (t : Table). AreOthers c.args.items.now t.node c.args.place t.spans.items) (read c.args.tables.now c.in-Some-place_of.i found.0 c.index-tables-i.result found.1) (c.requires.others c.in-Some-place_of.i found.0 found.1)
+    c.is_answered_at-answered.ensures found.0 found.1
+    (subst (λ (t : Table). is_against t.node c.index-items-place.result.item.fields ≡ true) (sym (read c.args.tables.now c.in-Some-place_of.i found.0 c.index-tables-i.result found.1)) against)
 
 pub put_in-requires-clause-asked : goal.put_in-requires-clause-asked
 put_in-requires-clause-asked g c =

@@ -8,8 +8,8 @@ use Rattle.node_tables.proofs.bodies.put_whole_segment.Goals as goal
 pub returns-clause-step : goal.returns-clause-step
 returns-clause-step g c =
     let v = c.put_segment.new.table in
-    segment_closes c.args.items.now c.args.place c.args.table.now (record { node = v.node; rows = v.rows; spans = v.spans; unanswered = c.close_by_segment.new.unanswered; exposure = v.exposure; promised = v.promised; bodies = v.bodies }) v
-    c.put_segment.ensures.step c.requires.segment refl refl refl c.close_by_segment.ensures.items
+    segment_closes c.args.items.now c.args.place c.args.table.now (record { node = v.node; rows = v.rows; receipts = v.receipts; spans = v.spans; unanswered = c.close_by_segment.new.unanswered; exposure = v.exposure; promised = v.promised; bodies = v.bodies }) v
+    c.put_segment.ensures.step c.requires.segment refl refl refl refl c.close_by_segment.ensures.items
 
 pub returns-clause-asked : goal.returns-clause-asked
 returns-clause-asked g c =

@@ -1,8 +1,5 @@
-use Rattle.std.proofs.Common.{◌≡◌, ℕ, List, length, false, not, subst, sym, arith}
-use Rattle.std.specs.Prelude.{slice_get}
-use Rattle.std.specs.List.{AllWithin}
+use Rattle.std.proofs.Common.{subst, sym}
 use Rattle.node_tables.specs.Places.{AscendBySpelling}
-use Rattle.node_tables.specs.within.Sendings.{audited_by}
 use Rattle.node_tables.proofs.Lates.{none_answered}
 use Rattle.node_tables.proofs.closing.close_audits.Goals as goal
 

@@ -1,7 +1,7 @@
 use Rattle.std.proofs.Common.{◌-◌, length, refl}
 use Rattle.kept_items.specs.Positions.{positions}
 use Rattle.node_tables.specs.within.Placing.{ItemStep}
-use Rattle.node_tables.proofs.OneMore.{last_against, last_asked, last_each, last_here, last_item, last_new, last_others, last_place, last_room, last_told}
+use Rattle.node_tables.proofs.OneMore.{last_against, last_asked, last_each, last_here, last_item, last_new, last_others, last_place, last_receipts, last_room, last_told}
 use Rattle.node_tables.proofs.Stepping.{ascend_still}
 use Rattle.node_tables.proofs.indexing.index.Goals as goal
 
@@ -9,6 +9,11 @@ pub put_item-requires-clause-told : goal.put_item-requires-clause-told
 put_item-requires-clause-told g c =
     let are = c.requires.others in
     last_told c.args.items.now c.args.tables.now are (length c.args.items.now - 1) (last_place c.args.items.now are.others are.last (length c.args.items.now - 1) are.split refl)
+
+pub put_item-requires-clause-receipts : goal.put_item-requires-clause-receipts
+put_item-requires-clause-receipts g c =
+    let are = c.requires.others in
+    last_receipts c.args.items.now c.args.tables.now are (length c.args.items.now - 1) (last_place c.args.items.now are.others are.last (length c.args.items.now - 1) are.split refl)
 
 pub put_item-requires-clause-others : goal.put_item-requires-clause-others
 put_item-requires-clause-others g c =
@@ -38,7 +43,7 @@ put_item-requires-clause-room g c =
 pub returns-clause-each : goal.returns-clause-each
 returns-clause-each g c =
     let are = c.requires.others in
-    last_each c.args.items.now c.args.tables.now are (length c.args.items.now - 1) (last_place c.args.items.now are.others are.last (length c.args.items.now - 1) are.split refl) c.put_item.new.tables c.put_item.ensures.step c.put_item.ensures.told c.put_item.ensures.asked
+    last_each c.args.items.now c.args.tables.now are (length c.args.items.now - 1) (last_place c.args.items.now are.others are.last (length c.args.items.now - 1) are.split refl) c.put_item.new.tables c.put_item.ensures.step c.put_item.ensures.told c.put_item.ensures.asked c.put_item.ensures.receipts
 
 pub returns-clause-rooms : goal.returns-clause-rooms
 returns-clause-rooms g c = λ others x split. c.put_item.ensures.rooms x (last_item c.args.items.now others x (length c.args.items.now - 1) split refl)

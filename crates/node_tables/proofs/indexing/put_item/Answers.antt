@@ -7,6 +7,7 @@ use Rattle.node_tables.specs.Rooms.{ItemRooms}
 use Rattle.node_tables.specs.Steps.{EachBecomes, room, wanted}
 use Rattle.node_tables.specs.within.Bringing.{StatementsStep, TakenBack}
 use Rattle.node_tables.specs.within.Placing.{BodyRoomsOf, BodyStep, ItemStep, subject_by}
+use Rattle.node_tables.proofs.Received.{all_receipts_now, receipts_still}
 use Rattle.node_tables.proofs.Reserved.{each_both, each_then, item_rooms}
 use Rattle.node_tables.proofs.Stepping.{ascend_still}
 use Rattle.node_tables.proofs.Whole.{against_still, asked_still, item_step, new_still, others_still, room_of, body_room_of}
@@ -24,6 +25,19 @@ put_statements-requires-clause-room g c = λ i t there.
 
 pub put_body-requires-clause-ascending : goal.put_body-requires-clause-ascending
 put_body-requires-clause-ascending g c = ascend_still (StatementsStep c.args.items.now c.args.place c.positions-count.result) c.args.tables.now c.put_statements.new.tables (λ t u step. step.node) c.put_statements.ensures.step c.requires.ascending
+
+pub put_body-requires-clause-receipts : goal.put_body-requires-clause-receipts
+put_body-requires-clause-receipts g c =
+    let x = c.index-items-place.result in
+    let here = at c.args.items.now c.args.place x c.requires.there c.index-items-place.is in
+    all_receipts_now c.args.items.now c.args.place c.positions-count.result x here c.positions-count.ensures c.args.tables.now c.put_statements.new.tables c.put_statements.ensures.step c.requires.receipts
+
+pub returns-clause-receipts : goal.returns-clause-receipts
+returns-clause-receipts g c = receipts_still c.args.items.now c.args.place c.put_statements.new.tables c.put_body.new.tables c.put_body.ensures.step
+    (
+    let x = c.index-items-place.result in
+    let here = at c.args.items.now c.args.place x c.requires.there c.index-items-place.is in
+    all_receipts_now c.args.items.now c.args.place c.positions-count.result x here c.positions-count.ensures c.args.tables.now c.put_statements.new.tables c.put_statements.ensures.step c.requires.receipts)
 
 pub put_body-requires-clause-others : goal.put_body-requires-clause-others
 put_body-requires-clause-others g c = others_still c.args.items.now c.args.place c.positions-count.result c.args.tables.now c.put_statements.new.tables c.put_statements.ensures.step c.requires.others

@@ -1,7 +1,8 @@
-use Rattle.std.proofs.Common.{◌≡◌, ℕ, ◌≤◌, ◌-◌, List, Some, get_or, subst, sym, ap, ◌∙◌, arith}
-use Rattle.std.specs.Prelude.{slice_get}
+use Rattle.std.proofs.Common.{◌≡◌, ℕ, ◌≤◌, ◌-◌, List, Some, get_or, refl, subst, sym, ap, ◌∙◌, arith}
+use Rattle.std.specs.Prelude.{IsSome, Option, slice_get}
 use Rattle.std.specs.Option.{option_map}
 use Rattle.std.proofs.lemmas.Option.{get_or_from_slice_get, same_Some}
+use Rattle.authenticators.specs.declared.authenticator.Authenticator.{Authenticator}
 use Rattle.node_tables.specs.declared.table.Table.{Table}
 use Rattle.kept_items.specs.Positions.{shown}
 use Rattle.node_tables.specs.Rows.{stated_at}
@@ -33,6 +34,11 @@ put_statement-requires-clause-own g c = λ a names.
     let found = c.in-Some-place_of.ensures.some in
     let is = sym c.said_at.ensures ∙ ap (option_map shown) c.in-Some.is in
     ap (λ x. x.node) (same_Some a (shown c.in-Some.said) (sym names ∙ is)) ∙ sym found.2 ∙ ap (λ (t : Table). t.node) (read c.args.tables.now c.in-Some-place_of.i found.0 c.index-tables-i.result found.1)
+
+pub put_statement-requires-clause-there : goal.put_statement-requires-clause-there
+put_statement-requires-clause-there g c =
+    let is = sym c.said_at.ensures ∙ ap (option_map shown) c.in-Some.is in
+    subst (λ (o : Option Authenticator). IsSome o) (sym is) refl
 
 pub put_statement-requires-clause-room : goal.put_statement-requires-clause-room
 put_statement-requires-clause-room g c =

@@ -1,0 +1,154 @@
+//! Receipts: of which messages of a node segments have any.
+
+ghost use Rattle.std.specs.Prelude.{◌≡◌, ◌↔◌, ◌⊎◌, ◌+◌, ◌≤◌, IfSome, IsTrue, Some, length};
+ghost use Rattle.std.specs.List.{Contains};
+ghost use Rattle.std.specs.List.Sorted.{IsBinarySearchResult, IsSearchInRange};
+ghost use Rattle.authenticators.specs.declared.authenticator.Authenticator.{Authenticator as Statement};
+ghost use Rattle.node_tables.specs.declared.sending.Sending.{Sending as TheSending};
+ghost use Rattle.node_tables.specs.Indexed.{AreReceipts};
+ghost use Rattle.node_tables.specs.Receipts.{AscendBySending, by_sending, receipt_at, receipt_in};
+ghost use Rattle.node_tables.specs.Rows.{stated_at};
+ghost use Rattle.node_tables.specs.Steps.{AllTables, AscendByNode};
+ghost use Rattle.node_tables.specs.Tables.{IsTold};
+ghost use Rattle.node_tables.specs.within.Bringing.{ReceiptStep};
+ghost use Rattle.node_tables.specs.within.Placing.{IsReceiptTold, sent};
+
+use crate::closing::received;
+use crate::row::Row;
+use crate::sending::Sending;
+use crate::table::Table;
+use crate::tables::place_of;
+use evidence_item::Form;
+use kept_items::KeptItem;
+use std::cmp::Ordering;
+use tiered_vec::{Probe, TieredVec};
+
+/// How two messages stand by their senders, their receivers and their numbers.
+fn compare(one: &Sending, other: &Sending) -> Ordering
+    ensures { result ≡ by_sending one.now other.now }
+{
+    one.from
+        .0
+        .cmp(&other.from.0)
+        .then_with(|| one.to.0.cmp(&other.to.0))
+        .then_with(|| one.seq.cmp(&other.seq))
+}
+
+/// A message that is looked for among receipts.
+#[derive(Clone, Copy)]
+struct Sought<'a> {
+    sending: &'a Sending,
+}
+
+impl<'a> Probe<Sending> for Sought<'a> {
+    ghost order = { λ s x. by_sending x s.sending.now };
+
+    fn compare(&self, other: &Sending) -> Ordering {
+        compare(other, self.sending)
+    }
+}
+
+/// Where the message stands among receipts, or would stand.
+fn gap_among(receipts: &TieredVec<Sending>, sending: &Sending) -> Result<usize, usize>
+    ensures bound { IsSearchInRange result (length receipts.now.items) }
+    ensures position { IsBinarySearchResult (λ x. by_sending x sending.now) receipts.now.items result }
+{
+    receipts.search(&Sought { sending })
+}
+
+/// Whether the message is among receipts. It is looked up by binary search.
+fn is_among(receipts: &TieredVec<Sending>, sending: &Sending) -> bool
+    requires { AscendBySending receipts.now.items }
+    ensures { IsTrue result ↔ Contains receipts.now.items sending.now }
+{
+    gap_among(receipts, sending).is_ok()
+}
+
+/// Puts a message among receipts, where it is not there yet. There is room for it.
+fn put(receipts: &mut TieredVec<Sending>, sending: Sending)
+    requires ascending { AscendBySending receipts.old.items }
+    requires room { 1 ≤ receipts.old.room }
+    ensures ascending { AscendBySending receipts.new.items }
+    ensures members { (s : TheSending) → Contains receipts.new.items s ↔ (Contains receipts.old.items s ⊎ (s ≡ sending)) }
+    ensures room { receipts.old.room ≤ receipts.new.room + 1 }
+{
+    let Err(place) = gap_among(receipts, &sending) else {
+        return;
+    };
+    receipts.insert(place, sending);
+}
+
+/// The message of which the entry at a position of a segment is the receipt.
+fn receipt<P>(kept: &KeptItem<P>, position: u32) -> Option<Sending>
+    ensures { result ≡ receipt_in kept.now.item.fields kept.now.findings position }
+{
+    if position == 0 || kept.as_item().is_some() {
+        return None;
+    }
+    match kept.subject() {
+        None => None,
+        Some(node) => received(kept, node, position),
+    }
+}
+
+/// The same of the item and the position that a row names.
+fn receipt_at<P>(items: &[KeptItem<P>], row: Row) -> Option<Sending>
+    ensures { result ≡ receipt_at items.now row }
+{
+    match items.get(row.item as usize) {
+        None => None,
+        Some(kept) => receipt(kept, row.position),
+    }
+}
+
+/// Puts what the row's statement is a receipt of into the table of its node, if it is one. There is room for it.
+pub(crate) fn put_receipt<P>(items: &[KeptItem<P>], table: &mut Table, row: Row)
+    requires told { IsTold items.now table.old }
+    requires own { (a : Statement) → stated_at items.now row ≡ Some a → a.node ≡ table.old.node }
+    requires room { 1 ≤ table.old.receipts.room }
+    ensures told { IsTold items.now table.new }
+    ensures step { ReceiptStep items.now row table.old table.new }
+    ensures counts { (table.new.promised ≡ table.old.promised) × (table.new.bodies ≡ table.old.bodies) }
+{
+    if let Some(sending) = receipt_at(items, row) {
+        put(&mut table.receipts, sending);
+    }
+}
+
+/// What the message of a send challenge is told apart by.
+fn sent<P>(challenge: &KeptItem<P>) -> Option<Sending>
+    ensures { result ≡ sent challenge.now.item.fields }
+{
+    let Some(item) = challenge.as_item() else {
+        return None;
+    };
+    match item.form() {
+        Form::Auth(_) | Form::Segment(_) | Form::Audit(_) | Form::Ack(_) => None,
+        Form::Send(message) => Some(Sending {
+            from: message.from,
+            to: message.to,
+            seq: message.seq,
+        }),
+    }
+}
+
+/// Whether segments have a receipt of the message of a send challenge, by the table of its sender; nothing where that has none, or where
+/// the item is no send challenge.
+pub(crate) fn is_received<P>(
+    items: &[KeptItem<P>],
+    tables: &[Table],
+    challenge: &KeptItem<P>,
+) -> Option<bool>
+    requires ascending { AscendByNode tables.now }
+    requires told { AllTables (IsTold items.now) tables.now }
+    requires receipts { AllTables (λ t. AreReceipts items.now t) tables.now }
+    ensures { IfSome result (λ b. IsReceiptTold items.now challenge.now.item.fields b) }
+{
+    let Some(sending) = sent(challenge) else {
+        return None;
+    };
+    let Some(i) = place_of(tables, sending.from) else {
+        return None;
+    };
+    Some(is_among(&tables[i].receipts, &sending))
+}
