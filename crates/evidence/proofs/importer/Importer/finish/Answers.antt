@@ -9,14 +9,14 @@ use Rattle.evidence_set.specs.ItemSets.{Items, Join, set_of}
 use Rattle.evidence.proofs.Importing.{on_more}
 use Rattle.evidence.proofs.importer.Importer.finish.Goals as goal
 
-pub add-requires-clause-checked : goal.add-requires-clause-checked
-add-requires-clause-checked g c =
+pub add_all-requires-clause-checked : goal.add_all-requires-clause-checked
+add_all-requires-clause-checked g c =
     let i = c.self.inside in
     let same = ap (λ (v : Importing). v.directory) c.self.view_is ∙ sym c.requires in
     subst (λ (ds : Listing). All (IsChecked ds g.P.Program.means) c.in_ok-items.items.items) same (c.in_ok-items.ensures.checked i.directory c.self.invariant)
 
-pub add-requires-clause-ascending : goal.add-requires-clause-ascending
-add-requires-clause-ascending g c = c.in_ok-items.ensures.ascending c.self.inside.directory c.self.invariant
+pub add_all-requires-clause-ascending : goal.add_all-requires-clause-ascending
+add_all-requires-clause-ascending g c = c.in_ok-items.ensures.ascending c.self.inside.directory c.self.invariant
 
 pub returns-clause-joined : goal.returns-clause-joined
 returns-clause-joined g c =
