@@ -21,7 +21,7 @@ use Rattle.node_tables.specs.within.Bringing.{AreUndenied, again_at, again_by}
 use Rattle.node_tables.proofs.Told.{says_held}
 
 -- statements of one number and one hash contradict the same
-denies_alike : (a b : Authenticator) → b.seq ≡ a.seq → b.hash ≡ a.hash → (x : Fields) → denies b x ≡ denies a x
+pub denies_alike : (a b : Authenticator) → b.seq ≡ a.seq → b.hash ≡ a.hash → (x : Fields) → denies b x ≡ denies a x
 denies_alike a b seq hash (form.Auth c) = refl
 denies_alike a b seq hash (form.Segment s) = ap (λ n. contradicts n b.hash s) seq ∙ ap (λ h. contradicts a.seq h s) hash
 denies_alike a b seq hash (form.Audit c) = refl

@@ -33,7 +33,7 @@ module _ (items : List Checked) (rows : List Row) (held : List Authenticator) (n
   long = same_length (stated_at items) rows held names
 
   -- the numbers do not fall
-  rise : (i j : ℕ) (d : Authenticator) → i ≤ j → j < length held → (get_or held i d).seq ≤ (get_or held j d).seq
+  pub rise : (i j : ℕ) (d : Authenticator) → i ≤ j → j < length held → (get_or held i d).seq ≤ (get_or held j d).seq
   rise i j d le inside = ⊎_elim
       (λ lt. elim (below_means (get_or held i d) (get_or held j d) (below_at by_fields held i j d up lt inside)) [
         | inl lower ↦ let same = own (get_or held i d) (get_or held j d) (Contains-get_or held i d (omega (arith, lt, inside))) (Contains-get_or held j d inside) in absurd (omega (arith, lower, same))

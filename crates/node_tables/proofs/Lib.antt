@@ -1,5 +1,6 @@
 pub mod Acknowledged
 pub mod Again
+pub mod Alike
 pub mod Answerers
 pub mod Asked
 pub mod Beside

@@ -1,6 +1,6 @@
 //! Putting a segment into the table of its node.
 
-ghost use Rattle.std.specs.Prelude.{◌≡◌, ◌↔◌, ◌⊎◌, ◌<◌, ◌≤◌, ◌+◌, IfNone, IfSome, Some, false, length, option_copied, slice_get, slice_index_or, true, vec_capacity, vec_len};
+ghost use Rattle.std.specs.Prelude.{◌≡◌, ◌↔◌, ◌⊎◌, ◌<◌, ◌≤◌, ◌+◌, IfNone, IfSome, None, Some, false, length, option_copied, slice_get, slice_index_or, true, vec_capacity, vec_len};
 ghost use Rattle.std.specs.List.{AllWithin, Contains};
 ghost use Rattle.std.specs.List.Sorted.{IsPartitionPoint, IsPartitionedBy};
 ghost use Rattle.authenticators.specs.declared.authenticator.Authenticator.{Authenticator as Statement};
@@ -11,7 +11,7 @@ ghost use Rattle.node_tables.specs.declared.span.Span.{Span as TheSpan};
 ghost use Rattle.node_tables.specs.Places.{span_room};
 ghost use Rattle.node_tables.specs.Rows.{stated_at};
 ghost use Rattle.node_tables.specs.Tables.{DoNotFall, IsSegmentAt, IsTold, denies_at};
-ghost use Rattle.node_tables.specs.within.Bringing.{AreBetween, IsBroughtBySegment, IsNextBySegment, SegmentBringsNothing, SegmentStep, below_by, denied_by_row, side, up_to_by};
+ghost use Rattle.node_tables.specs.within.Bringing.{AreAlike, AreBetween, IsBroughtBySegment, IsNextBySegment, SegmentBringsNothing, SegmentStep, below_by, denied_by_row, number_by, side, up_to_by};
 
 use crate::edge::{edge_at, side};
 use crate::exposure::ExposingPlaces;
@@ -143,21 +143,54 @@ fn denier_at<P>(
     }
 }
 
-/// The first of the rows from one place to another whose statement contradicts the item.
+/// The number of the statement of the row at the place.
+fn number_at<P>(items: &[KeptItem<P>], rows: &TieredVec<Row>, place: usize) -> Option<u64>
+    ensures { (d : TheRow) → place < length rows.now.items → result ≡ number_by (stated_at items.now (slice_index_or rows.now.items place d)) }
+{
+    match rows.get(place) {
+        None => None,
+        Some(row) => match said_at(items, *row) {
+            None => None,
+            Some(said) => Some(said.seq),
+        },
+    }
+}
+
+/// The place behind the rows that have the number of the one at the place, or the end, where that has none.
+fn behind_number<P>(items: &[KeptItem<P>], table: &Table, place: usize, end: usize) -> usize
+    requires told { IsTold items.now table.now }
+    requires inside { place < end }
+    requires most { end ≤ length table.now.rows.items }
+    ensures more { place < result }
+    ensures within { result ≤ length table.now.rows.items }
+    ensures alike { AreAlike items.now table.now.rows.items place result }
+{
+    match number_at(items, &table.rows, place) {
+        None => end,
+        Some(number) => edge_up_to(items, &table.rows, number),
+    }
+}
+
+/// The first of the rows from one place to another whose statement contradicts the item. Of those with one number, which have one hash,
+/// it looks at the first.
 fn denier<P>(
     items: &[KeptItem<P>],
-    rows: &TieredVec<Row>,
+    table: &Table,
     near: &Range<usize>,
     kept: &KeptItem<P>,
 ) -> Option<Row>
-    requires { near.now.end ≤ length rows.now.items }
-    ensures none { IfNone result (AllWithin (λ (r : TheRow). denied_by_row (stated_at items.now r) kept.now.item.fields ≡ false) rows.now.items near.now.start near.now.end) }
-    ensures some { IfSome result (λ r. Contains rows.now.items r × (denied_by_row (stated_at items.now r) kept.now.item.fields ≡ true)) }
+    requires told { IsTold items.now table.now }
+    requires quiet { table.now.exposure ≡ None }
+    requires inside { near.now.end ≤ length table.now.rows.items }
+    ensures none { IfNone result (AllWithin (λ (r : TheRow). denied_by_row (stated_at items.now r) kept.now.item.fields ≡ false) table.now.rows.items near.now.start near.now.end) }
+    ensures some { IfSome result (λ r. Contains table.now.rows.items r × (denied_by_row (stated_at items.now r) kept.now.item.fields ≡ true)) }
 {
-    for place in near.start..near.end {
-        if let Some(row) = denier_at(items, rows, place, kept) {
+    let mut place = near.start;
+    while place < near.end {
+        if let Some(row) = denier_at(items, &table.rows, place, kept) {
             return Some(row);
         }
+        place = behind_number(items, table, place, near.end);
     }
     None
 }
@@ -170,6 +203,7 @@ fn brought_by_segment<P>(
     kept: &KeptItem<P>,
 ) -> Option<ExposingPlaces>
     requires told { IsTold items.now table.now }
+    requires quiet { table.now.exposure ≡ None }
     requires here { slice_get items.now span.now.item ≡ Some kept.now }
     requires reach { (a : Statement) → denies_at items.now a span.now.item ≡ true → (span.now.low ≤ a.seq) × (a.seq ≤ span.now.last) }
     ensures none { IfNone result (SegmentBringsNothing items.now table.now.rows.items span.now.item) }
@@ -179,7 +213,7 @@ fn brought_by_segment<P>(
         return Some(ExposingPlaces::Deviates(span.item));
     }
     let near = rows_between(items, table, span.low, span.last);
-    match denier(items, &table.rows, &near, kept) {
+    match denier(items, table, &near, kept) {
         None => None,
         Some(row) => Some(ExposingPlaces::Denied(row, span.item)),
     }

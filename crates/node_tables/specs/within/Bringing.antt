@@ -127,6 +127,15 @@ pub record AreBetween (items : List Checked) (rows : List Row) (low last start e
   pub inside : end ≤ length rows
   pub around : (k : ℕ) (r : Row) (a : Authenticator) → k < length rows → stated_at items (slice_index_or rows k r) ≡ Some a → low ≤ a.seq → a.seq ≤ last → (start ≤ k) × (k < end)
 
+-- The number of the statement that a row names.
+abbrev pub number_by : Option Authenticator → Option ℕ
+number_by None = None
+number_by (Some a) = Some a.seq
+
+-- Rows from one place to another have the number of the first of them.
+abbrev pub AreAlike : List Checked → List Row → (start end : ℕ) → Type 0
+AreAlike items rows start end = (k : ℕ) (r : Row) (a b : Authenticator) → start ≤ k → k < end → k < length rows → stated_at items (slice_index_or rows start r) ≡ Some a → stated_at items (slice_index_or rows k r) ≡ Some b → b.seq ≡ a.seq
+
 -- The segment brings nothing against the node.
 pub record SegmentBringsNothing (items : List Checked) (rows : List Row) (place : ℕ) : Type 0 where
   pub undenied : (a : Authenticator) → Says items rows a → denies_at items a place ≡ false
