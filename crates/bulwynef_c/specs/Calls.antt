@@ -31,10 +31,19 @@ use Rattle.byte_calls.specs.declared.refusal.Refusal.{Refusal}
 use Rattle.byte_calls.specs.declared.refusal.Refusal.TheVariants as refusal
 use Rattle.byte_calls.specs.Nodes.{Replies, RefusesReply, accepted, begun, key_of, known, ticked_by}
 use Rattle.byte_calls.specs.Refusals.{of_import, of_node}
-use Rattle.byte_calls.specs.Stores.{Takes, opened, valid_item_of}
+use Rattle.byte_calls.specs.Stores.{AreFewer, Takes, opened, valid_item_of}
 use Rattle.byte_calls.specs.Transfers.{packed, shortened}
 use Rattle.bulwynef_c.specs.declared.object.Object.{Object}
 use Rattle.bulwynef_c.specs.declared.object.Object.TheVariants as object
+
+-- ---- programs
+
+-- The number is that of a program, or of none.
+abbrev pub IsProgram : ℕ → Type 0
+IsProgram program = (program ≡ 1) ⊎ (program ≡ 2) ⊎ (program ≡ 3)
+
+abbrev pub IsNoProgram : ℕ → Type 0
+IsNoProgram program = (program ≡ 1 → ⊥) × (program ≡ 2 → ⊥) × (program ≡ 3 → ⊥)
 
 -- ---- stores
 
@@ -91,6 +100,14 @@ IsStoreOf program s (object.RelayNode n) = ⊥
 IsStoreOf program s (object.MailboxNode n) = ⊥
 IsStoreOf program s (object.Text t) = ⊥
 
+-- Why none is opened.
+abbrev pub OpenFails : ℕ → List ℕ → Refusal → Type 0
+OpenFails program text f = (IsProgram program × Fails refusal.Memory f (opened text)) ⊎ (IsNoProgram program × (f ≡ refusal.BadProgram))
+
+-- Why a store is not given the items of another one.
+abbrev pub MergeFails : Contents → Contents → Refusal → Type 0
+MergeFails s other f = (f ≡ refusal.Memory) ⊎ ((f ≡ refusal.OtherDirectory) × (s.directory ≡ other.directory → ⊥))
+
 -- Why there is no indication: the node is not listed.
 abbrev pub IndicationFails : ℕ → Contents → Refusal → Type 0
 IndicationFails node s f = (f ≡ refusal.UnknownNode) × (is_listed s.directory node ≡ false)
@@ -100,6 +117,12 @@ abbrev pub ProofFails : ℕ → {S : Type 0} → Meaning S → Contents → Refu
 ProofFails node program s f =
     (f ≡ refusal.Memory) ⊎ ((f ≡ refusal.UnknownNode) × (is_listed s.directory node ≡ false))
     ⊎ ((f ≡ refusal.NotExposed) × (IsExposed s.directory program s.items node → ⊥))
+
+-- Why there is no challenge at a place: the node is not listed, there are fewer, or memory ran out.
+abbrev pub ChallengeFails : ℕ → ℕ → Contents → Refusal → Type 0
+ChallengeFails node place s f =
+    (f ≡ refusal.Memory) ⊎ ((f ≡ refusal.UnknownNode) × (is_listed s.directory node ≡ false))
+    ⊎ ((f ≡ refusal.OutOfRange) × AreFewer s node place)
 
 -- The number tells whether the first store has each item of the second.
 abbrev pub Includes : ℕ → Contents → Contents → Type 0
@@ -121,7 +144,7 @@ IsNodeOf program text id first key (object.Text t) = ⊥
 abbrev pub NodeFails : ℕ → List ℕ → ℕ → ℕ → PrivateKey → Refusal → Type 0
 NodeFails program text id first key f =
     ((program ≡ 1) × Fails refusal.Memory f (begun tally text id first key)) ⊎ ((program ≡ 2) × Fails refusal.Memory f (begun relay text id first key))
-    ⊎ ((program ≡ 3) × Fails refusal.Memory f (begun mailbox text id first key)) ⊎ (f ≡ refusal.BadProgram)
+    ⊎ ((program ≡ 3) × Fails refusal.Memory f (begun mailbox text id first key)) ⊎ (IsNoProgram program × (f ≡ refusal.BadProgram))
 
 abbrev pub CheckpointFails : {S : Type 0} → Meaning S → NodeState S → Refusal → Type 0
 CheckpointFails program n f = Fails refusal.Memory f (told_as of_node (checkpointed program n))

@@ -1,8 +1,5 @@
 -- What lies behind handles, before and after a call.
-use Rattle.std.specs.Prelude.{◌≡◌, ◌⊎◌, ℕ, List, Option, Some, None, Bool, length, slice_get}
-use Rattle.std.specs.Prelude.{nat_eq}
-use Rattle.std.specs.Map.{lookup}
-use Rattle.outcome.specs.Outcome.{Fails, told_as}
+use Rattle.std.specs.Prelude.{◌≡◌, ◌⊎◌, ⊤, ℕ, List, Option, Some, None, length}
 use Rattle.mailbox.specs.MailboxMeaning.{mailbox}
 use Rattle.mailbox.specs.declared.held.Held.{Held}
 use Rattle.ref_programs.specs.TallyMeaning.{tally}
@@ -163,6 +160,10 @@ NodeRefuses P (object.RelayNode n) f = P ℕ relay n f
 NodeRefuses P (object.MailboxNode n) f = P Held mailbox n f
 NodeRefuses P (object.Text t) f = f ≡ refusal.OtherKind
 
+-- The refusal of two stores of one program, or that of what are none.
+abbrev pub PairRefuses : (Contents → Contents → Refusal → Type 0) → Object → Object → Refusal → Type 0
+PairRefuses P x o f = StoresStand (λ s t. P s t f) x o ⊎ ((f ≡ refusal.OtherKind) × (StoresStand (λ s t. ⊤) x o → ⊥))
+
 -- Why a text is not copied into a room of this length.
 abbrev pub CopyRefuses : ℕ → Object → Refusal → Type 0
 CopyRefuses room (object.TallyStore s) f = f ≡ refusal.OtherKind
@@ -199,3 +200,8 @@ Both R (Some x) y = Is (R x) y
 abbrev pub Says : (Object → Refusal → Type 0) → Option Object → ℕ → Type 0
 Says P None n = n ≡ refusal_number refusal.Closed
 Says P (Some x) n = (f : Refusal) × (n ≡ refusal_number f) × P x f
+
+-- The same of two handles, of which the first is looked at first.
+abbrev pub SaysOfTwo : (Object → Object → Refusal → Type 0) → Option Object → Option Object → ℕ → Type 0
+SaysOfTwo P None y n = n ≡ refusal_number refusal.Closed
+SaysOfTwo P (Some x) y n = Says (P x) y n

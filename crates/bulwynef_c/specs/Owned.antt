@@ -1,4 +1,4 @@
--- what a handle owns
+-- What a handle owns.
 use Rattle.std.specs.Prelude.{Option, Some, None, Bool, is_some}
 use mir.Syntax.{Ty}
 use base.Fml.{Fml, ftrue, fsep, feq}
@@ -7,7 +7,7 @@ use Rattle.std.specs.Box.Ownership.{box_owns}
 use Rattle.bulwynef_c.specs.declared.object.Object.{Object}
 use Rattle.bulwynef_c.specs.contracts.object.Object.{the_row}
 
--- the block that a value lies in
+-- The block that a value lies in.
 abbrev pub block_of : (Ty → Ptr → Fml) → Ptr → Option Object → Fml
 block_of holds p None = ftrue
 block_of holds p (Some x) = box_owns holds the_row p x

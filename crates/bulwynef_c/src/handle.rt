@@ -1,4 +1,6 @@
-ghost use Rattle.std.specs.Prelude.{◌≡◌, ◌<◌, length, ℕ, Option, Some, None, IsSome, is_some};
+//! Handles: what a caller in C holds of an object.
+
+ghost use Rattle.std.specs.Prelude.{◌≡◌, Option, Some, None, IsSome, is_some};
 ghost use Rattle.bulwynef_c.specs.declared.object.Object.{Object as TheObject};
 ghost use Rattle.bulwynef_c.specs.Codes.{object_code};
 ghost use Rattle.bulwynef_c.specs.Owned.{owned};
@@ -8,6 +10,8 @@ use crate::object::Object;
 use std::alloc::{Allocator, Global};
 use std::marker::Model;
 
+/// A place of the caller's, behind which lies an object or nothing. In C it is `struct bulwynef_handle { void *at; bool is_open; }`, and
+/// zeros are one behind which nothing lies.
 #[repr(C)]
 #[derive(Drop)]
 pub struct Handle {
@@ -22,6 +26,7 @@ impl Model for Handle {
 }
 
 impl Handle {
+    /// A handle behind which nothing lies.
     pub fn none(alloc: Global) -> Handle
         ensures { result.value ≡ None }
     {
@@ -32,6 +37,7 @@ impl Handle {
         }
     }
 
+    /// A handle to what a pointer owns.
     fn of_loose(loose: Loose<Object, Global>) -> Handle
         ensures { result.value ≡ Some loose.value }
     {
@@ -43,6 +49,7 @@ impl Handle {
         }
     }
 
+    /// The pointer to what lies there.
     fn into_loose(self) -> Loose<Object, Global>
         requires { IsSome self.value }
         ensures { Some result.value ≡ self.value }
@@ -58,18 +65,21 @@ impl Handle {
         }
     }
 
+    /// Whether something lies there.
     pub fn is_open(&mut self) -> bool
         ensures { (result ≡ is_some self.old.value) × (self.new.value ≡ self.old.value) }
     {
         self.is_open
     }
 
+    /// A handle to the object.
     pub fn of(value: Box<Object, Global>) -> Handle
         ensures { result.value ≡ Some value.value }
     {
         Handle::of_loose(Loose::of(value))
     }
 
+    /// The object, where something lies there.
     pub fn into_box(self) -> Box<Object, Global>
         requires { IsSome self.value }
         ensures { Some result.value ≡ self.value }

@@ -1,4 +1,4 @@
-//! What programs in C and other languages call: `out/libbulwynef_c.a`, by the header `c/bulwynef.h`.
+//! The calls of the library for programs in C and other languages, as a static library, by the header `c/bulwynef.h`.
 //!
 //! Stores, nodes and texts lie behind handles ([`handle::Handle`], [`object::Object`]). Each export takes what lies behind a handle
 //! out, calls a function of `byte_calls` or of a library, and puts it back; its contract says what lies there before and after, in the
@@ -13,6 +13,7 @@ mod loose;
 mod messages;
 mod nodes;
 pub mod object;
+mod of_program;
 mod stores;
 mod taking;
 mod texts;

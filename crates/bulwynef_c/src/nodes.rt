@@ -1,12 +1,14 @@
 //! Nodes behind handles: how they begin and what they do by themselves.
 
-ghost use Rattle.std.specs.Prelude.{◌≡◌, ◌⊎◌, IfErr, IfOk, Ok, OnErr, OnOk};
+ghost use Rattle.std.specs.Prelude.{◌≡◌, ◌⊎◌, IfErr, IfOk, Ok, OnErr, OnOk, false, is_some, true};
 ghost use Rattle.outcome.specs.Outcome.{Fails};
 ghost use Rattle.commitment.specs.Nodes.{checkpointed};
 ghost use Rattle.commitment.specs.Keyrings.{leaves_left};
 ghost use Rattle.lms_sign.specs.Signing.{PrivateKey};
-ghost use Rattle.byte_calls.specs.declared.refusal.Refusal.TheVariants.{BadProgram, Memory};
+ghost use Rattle.byte_calls.specs.declared.refusal.Refusal.{Refusal as TheRefusal};
+ghost use Rattle.byte_calls.specs.declared.refusal.Refusal.TheVariants.{Memory};
 ghost use Rattle.byte_calls.specs.Nodes.{key_of, ticked_by};
+ghost use Rattle.byte_calls.specs.Refusals.{number_of as refusal_number};
 ghost use Rattle.bulwynef_c.specs.Calls.{CheckpointFails, IsNodeOf, NodeFails, Rekeys, RekeyFails};
 ghost use Rattle.bulwynef_c.specs.Handles.{Both, Is, IsNode, NodeBecomes, NodeRefuses, Says};
 
@@ -66,6 +68,8 @@ pub extern "C" fn bulwynef_node_new(
     node: &mut Handle,
 ) -> u8
     ensures begun { result ≡ 0 → (key : PrivateKey) × (key_of lms_type ots_type key_id.now seed.now ≡ Ok key) × Is (IsNodeOf program directory.now id first_seq key) node.new.value }
+    ensures still_open { is_some node.old.value ≡ true → result ≡ 114 }
+    ensures number { is_some node.old.value ≡ false → (result ≡ 0 → ⊥) → (result ≡ 99) ⊎ ((f : TheRefusal) × (result ≡ refusal_number f) × (Fails Memory f (key_of lms_type ots_type key_id.now seed.now) ⊎ ((key : PrivateKey) × (key_of lms_type ots_type key_id.now seed.now ≡ Ok key) × NodeFails program directory.now id first_seq key f))) }
     ensures refused { (result ≡ 0 → ⊥) → node.new.value ≡ node.old.value }
 {
     if node.is_open() {
@@ -177,6 +181,7 @@ pub extern "C" fn bulwynef_node_next_key(
     seed: &[u8],
 ) -> u8
     ensures done { result ≡ 0 → (key : PrivateKey) × (key_of lms_type ots_type key_id.now seed.now ≡ Ok key) × Both (NodeBecomes (λ S p n m. Rekeys key n m)) node.old.value node.new.value }
+    ensures number { (result ≡ 0 → ⊥) → ((f : TheRefusal) × (result ≡ refusal_number f) × Fails Memory f (key_of lms_type ots_type key_id.now seed.now)) ⊎ ((key : PrivateKey) × (key_of lms_type ots_type key_id.now seed.now ≡ Ok key) × Says (NodeRefuses (λ S p n e. RekeyFails key n e)) node.old.value result) }
     ensures refused { (result ≡ 0 → ⊥) → node.new.value ≡ node.old.value }
 {
     let key = match nodes::secret_key(alloc, lms_type, ots_type, key_id, seed) {

@@ -1,25 +1,27 @@
 //! Stores of evidence behind handles: what is handed to them.
 
-ghost use Rattle.std.specs.Prelude.{◌≡◌, ◌+◌, ◌⊎◌, IfErr, IfOk, None, OnErr, OnOk, Ok, Err, Some};
-ghost use Rattle.outcome.specs.Outcome.{Fails};
+ghost use Rattle.std.specs.Prelude.{◌≡◌, ◌⊎◌, ⊤, IfErr, IfOk, OnErr, Ok, false, is_some, true};
 ghost use Rattle.evidence.specs.Contents.{Contents};
-ghost use Rattle.byte_calls.specs.declared.refusal.Refusal.TheVariants.{BadProgram, Memory, OtherDirectory};
+ghost use Rattle.byte_calls.specs.declared.refusal.Refusal.{Refusal as TheRefusal};
+ghost use Rattle.byte_calls.specs.declared.refusal.Refusal.TheVariants.{OtherKind};
 ghost use Rattle.byte_calls.specs.Refusals.{number_of as refusal_number};
 ghost use Rattle.byte_calls.specs.Stores.{opened};
-ghost use Rattle.bulwynef_c.specs.Calls.{ImportFails, IsStoreOf, Joins, Merges, TakeFails, TakesItem, flag};
-ghost use Rattle.bulwynef_c.specs.Handles.{Both, Is, Says, StoreBecomes, StoreRefuses, StoreTakesOf};
+ghost use Rattle.bulwynef_c.specs.Calls.{ImportFails, IsStoreOf, Joins, MergeFails, Merges, OpenFails, TakeFails, TakesItem, flag};
+ghost use Rattle.bulwynef_c.specs.Handles.{Both, Is, PairRefuses, Says, SaysOfTwo, StoreBecomes, StoreRefuses, StoreTakesOf};
 
 use crate::handle::Handle;
 use crate::object::Object;
+use crate::of_program::{mailbox_store, relay_store, tally_store};
 use crate::taking::{put, taken, told};
 use byte_calls::{Refusal, stores};
 use mailbox::Mailbox;
 use ref_programs::{Relay, Tally};
 use std::alloc::Global;
 
+/// A store of the program.
 fn object_of(alloc: Global, program: u8, directory: &[u8]) -> Result<Object, Refusal>
     ensures made { IfOk result (λ x. (s : Contents) × (opened directory.now ≡ Ok s) × IsStoreOf program s x) }
-    ensures refused { IfErr result (λ f. (f ≡ BadProgram) ⊎ Fails Memory f (opened directory.now)) }
+    ensures refused { IfErr result (λ f. OpenFails program directory.now f) }
 {
     match program {
         1 => {
@@ -48,6 +50,8 @@ pub extern "C" fn bulwynef_store_open(
     store: &mut Handle,
 ) -> u8
     ensures opened { result ≡ 0 → (s : Contents) × (opened directory.now ≡ Ok s) × Is (IsStoreOf program s) store.new.value }
+    ensures still_open { is_some store.old.value ≡ true → result ≡ 114 }
+    ensures number { is_some store.old.value ≡ false → (result ≡ 0 → ⊥) → (result ≡ 99) ⊎ ((f : TheRefusal) × (result ≡ refusal_number f) × OpenFails program directory.now f) }
     ensures refused { (result ≡ 0 → ⊥) → store.new.value ≡ store.old.value }
 {
     if store.is_open() {
@@ -59,6 +63,7 @@ pub extern "C" fn bulwynef_store_open(
     }
 }
 
+/// Adds the items of a store's text.
 fn import_into(object: &mut Object, text: &[u8]) -> Result<u64, Refusal>
     ensures joined { IfOk result (λ new. StoreBecomes (Joins text.now new) object.old object.new) }
     ensures refused { IfErr result (λ f. StoreRefuses (λ S p s e. ImportFails text.now s e) object.old f) }
@@ -99,6 +104,7 @@ pub extern "C" fn bulwynef_store_import(
     }
 }
 
+/// Adds the item of a text.
 fn take_into(alloc: Global, object: &mut Object, text: &[u8]) -> Result<bool, Refusal>
     ensures taken { IfOk result (λ new. StoreBecomes (TakesItem text.now (flag new)) object.old object.new) }
     ensures refused { IfErr result (λ f. StoreRefuses (λ S p s e. TakeFails text.now s e) object.old f) }
@@ -139,14 +145,16 @@ pub extern "C" fn bulwynef_store_take(
     }
 }
 
+/// Adds the items of another store of the same program.
 fn merge_into(object: &mut Object, other: &Object) -> Result<u64, Refusal>
     ensures merged { IfOk result (λ new. StoreTakesOf (Merges new) other.now object.old object.new) }
+    ensures refused { IfErr result (λ f. PairRefuses MergeFails object.old other.now f) }
     ensures unchanged { OnErr result (object.new ≡ object.old) }
 {
-    match (object, other) {
-        (Object::TallyStore(store), Object::TallyStore(other)) => stores::merge(store, other),
-        (Object::RelayStore(store), Object::RelayStore(other)) => stores::merge(store, other),
-        (Object::MailboxStore(store), Object::MailboxStore(other)) => stores::merge(store, other),
+    match object {
+        Object::TallyStore(store) => stores::merge(store, tally_store(other)?),
+        Object::RelayStore(store) => stores::merge(store, relay_store(other)?),
+        Object::MailboxStore(store) => stores::merge(store, mailbox_store(other)?),
         _ => Err(Refusal::OtherKind),
     }
 }
@@ -161,6 +169,7 @@ pub extern "C" fn bulwynef_store_merge(
     added: &mut u64,
 ) -> u8
     ensures merged { result ≡ 0 → Is (λ o. Both (StoreTakesOf (Merges added.new) o) store.old.value store.new.value) other.old.value }
+    ensures number { (result ≡ 0 → ⊥) → SaysOfTwo (PairRefuses MergeFails) store.old.value other.old.value result }
     ensures refused { (result ≡ 0 → ⊥) → store.new.value ≡ store.old.value }
     ensures other { other.new.value ≡ other.old.value }
 {

@@ -1,6 +1,6 @@
 //! Stores of evidence: what is handed to them, and what they answer, as bytes and numbers.
 
-ghost use Rattle.std.specs.Prelude.{◌≡◌, ◌+◌, ◌⊎◌, ◌↔◌, false, IfErr, IfOk, IfSome, IsSome, OnErr, OnOk};
+ghost use Rattle.std.specs.Prelude.{◌≡◌, ◌+◌, ◌⊎◌, ◌↔◌, false, IfErr, IfOk, IfSome, IsSome, OnErr, OnOk, map};
 ghost use Rattle.outcome.specs.Outcome.{Fails, Gives, told_as};
 ghost use Rattle.authenticators.specs.Directory.{is_listed};
 ghost use Rattle.proofs.specs.Cases.{Case};
@@ -13,9 +13,9 @@ ghost use Rattle.evidence_set.specs.Indications.{IsExposed, IsIndication};
 ghost use Rattle.evidence_set.specs.ItemSets.{Items, Join, count};
 ghost use Rattle.evidence.specs.Contents.{with_items};
 ghost use Rattle.evidence.specs.Importing.{import_set};
-ghost use Rattle.byte_calls.specs.declared.refusal.Refusal.TheVariants.{Memory, OtherDirectory, UnknownNode};
+ghost use Rattle.byte_calls.specs.declared.refusal.Refusal.TheVariants.{Memory, OtherDirectory, OutOfRange, UnknownNode};
 ghost use Rattle.byte_calls.specs.Refusals.{of_import};
-ghost use Rattle.byte_calls.specs.Stores.{Takes, opened, valid_item_of};
+ghost use Rattle.byte_calls.specs.Stores.{AreFewer, AreUnanswered, IsUnansweredAt, Takes, opened, valid_item_of};
 
 use crate::refusal::Refusal;
 use authenticators::{Directory, NodeId};
@@ -104,6 +104,39 @@ pub fn proof<P: Program, S: Evidence<P>>(
             let text = proof.encode(alloc)?;
             Ok(Some(text))
         }
+    }
+}
+
+/// The challenges against the node that no item answers.
+fn unanswered<P: Program, S: Evidence<P>>(store: &S, node: u32) -> Result<Vec<&Item>, Refusal>
+    ensures all { IfOk result (λ found. AreUnanswered (S.contents store.now) node (map (λ i. i.now) found.items)) }
+    ensures refused { IfErr result (λ f. (f ≡ Memory) ⊎ ((f ≡ UnknownNode) × (is_listed (S.contents store.now).directory node ≡ false))) }
+{
+    match store.open_challenges(NodeId(node)) {
+        Ok(found) => Ok(found),
+        Err(AskFault::UnknownNode) => Err(Refusal::UnknownNode),
+        Err(AskFault::Memory) => Err(Refusal::Memory),
+    }
+}
+
+/// The text of the challenge at the place, from 0, of those against the node that no item answers, in the order of their bytes.
+/// `UnknownNode` (44) where the directory does not list the node, `OutOfRange` (116) where there are fewer.
+pub fn challenge<P: Program, S: Evidence<P>>(
+    alloc: Global,
+    store: &S,
+    node: u32,
+    place: usize,
+) -> Result<Vec<u8>, Refusal>
+    ensures text { IfOk result (λ text. IsUnansweredAt (S.contents store.now) node place text.items) }
+    ensures refused { IfErr result (λ f. (f ≡ Memory) ⊎ ((f ≡ UnknownNode) × (is_listed (S.contents store.now).directory node ≡ false)) ⊎ ((f ≡ OutOfRange) × AreFewer (S.contents store.now) node place)) }
+{
+    let found = unanswered(store, node)?;
+    match found.get(place) {
+        Some(item) => {
+            let text = item.encode(alloc)?;
+            Ok(text)
+        }
+        None => Err(Refusal::OutOfRange),
     }
 }
 
