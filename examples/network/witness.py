@@ -1,8 +1,8 @@
 """A witness: a store of evidence in a process of its own.
 
-It takes what relays hand it, keeps each statement that it sees, challenges relays to show their logs in turns, hands challenges that
-are open to their relays, and exchanges what it has with the other witness by outlines, summaries and packs. What it has it writes down
-now and then, and takes up again where it is started anew.
+It takes the statements that relays hand it, challenges relays in turns to show their logs, hands challenges that nothing answers to their
+relays, and exchanges what it has with the other witness by outlines, summaries and packs. What it has it writes down now and then, and
+takes up again where it is started anew.
 """
 
 import asyncio
@@ -14,91 +14,120 @@ import time
 import protocol
 from bulwynef import Indication, Program, Refusal, Store
 
+# How many open challenges of a relay are handed to it in a turn
+AT_ONCE = 6
+
 
 class Witness:
     def __init__(self, told):
         self.told = told
         self.ports = {int(node): port for node, port in told["ports"].items()}
         self.store = Store(bytes.fromhex(told["directory"]), Program.MAILBOX)
-        self.link = protocol.Link(told["seed_of_link"], told["lose"], told["repeat"], told["delay"])
-        # the latest statement of each relay, the challenges that were handed in, and when each relay was first exposed
-        self.latest, self.challenges, self.exposed_at = {}, {node: [] for node in self.ports}, {}
-        self.began, self.is_over, self.turn = time.monotonic(), asyncio.Event(), 0
+        self.link = protocol.Link(told)
+        # of each relay: the latest statement that was seen, the one up to which its log is here, and when it was first exposed
+        self.latest, self.shown, self.exposed_at = {}, {}, {}
+        # by a message's name, its acknowledgement
+        self.acks, self.asked_last, self.taken, self.refused = {}, set(), 0, 0
+        self.began, self.is_over, self.turns = time.monotonic(), False, 0
         if os.path.exists(told["kept"]):
             with open(told["kept"], "rb") as kept:
-                self.store.load(kept.read())
+                self.taken = self.store.load(kept.read())
 
-    def take(self, item):
-        """Takes an item and the statements in it, and keeps in mind what it challenges."""
-        self.store.take(item)
-        if item[0] in (protocol.MESSAGE, protocol.ACK):
-            for statement in protocol.statements(item):
-                self.store.take(protocol.auth_item(statement))
-                node, seq = statement[:2]
-                if node in self.ports and seq > self.latest.get(node, (0, 0))[1]:
-                    self.latest[node] = statement
-        if item[0] == protocol.MESSAGE:
-            self.challenges[protocol.Message(item).receiver].append(item)
+    # ---- what others ask
 
-    def note(self):
-        for node in self.ports:
-            if node not in self.exposed_at and self.store.indication(node) is Indication.EXPOSED:
-                self.exposed_at[node] = time.monotonic() - self.began
-
-    async def handle(self, kind, body):
+    def handle(self, kind, body):
         try:
             if kind == protocol.TAKE:
+                return self.take_all(body)
+            if kind == protocol.CHALLENGE:
                 self.take(body)
-                self.note()
-                return b""
+                return self.acks.get(protocol.Message(body).name, b"")
             if kind == protocol.OUTLINE:
                 return self.store.outline()
             if kind == protocol.PACK:
                 return self.store.pack(body)
-        except Refusal as refusal:
-            return f"refused {refusal.number}".encode() if kind == protocol.TAKE else None
+        except Refusal:
+            self.refused += 1
+            return None
         if kind == protocol.REPORT:
             return json.dumps(self.report()).encode()
-        if kind == protocol.END:
-            self.is_over.set()
-            return b""
-        return None
+        if kind == protocol.EXPORT:
+            return self.store.export()
+        self.is_over = self.is_over or kind == protocol.END
+        return b""
+
+    def take_all(self, body):
+        """Takes each item; what is refused is no evidence, and is dropped."""
+        for item in protocol.in_turn(body):
+            try:
+                self.take(item)
+            except Refusal:
+                self.refused += 1
+        return b""
+
+    def take(self, item):
+        """Takes an item, and keeps in mind what it tells."""
+        self.taken += self.store.take(item)
+        if item[0] == protocol.AUTH:
+            self.see(protocol.statement_of(item))
+        elif item[0] == protocol.MESSAGE:
+            self.see(protocol.Message(item).sent())
+        elif item[0] == protocol.ACK:
+            message = protocol.Message(item)
+            self.acks[message.name] = item
+            self.see(message.received())
+
+    def see(self, statement):
+        node, seq = statement[:2]
+        if node in self.ports and seq > self.latest.get(node, (0, 0))[1]:
+            self.latest[node] = statement
 
     def report(self):
         said = {node: self.store.indication(node).name.lower() for node in self.ports}
         proofs = {node: self.store.proof(node).hex() for node in self.ports if said[node] == "exposed"}
-        return {"said": said, "proofs": proofs, "export": self.store.export().hex(), "exposed_at": self.exposed_at}
+        told = {"said": said, "proofs": proofs, "exposed_at": self.exposed_at, "taken": self.taken, "refused": self.refused}
+        return {**told, **self.link.counts()}
+
+    # ---- what it does by itself
+
+    def audit(self, node):
+        """Challenges a relay to show its log from where it was shown last up to the latest statement of its that was seen; not before it
+        answered what was asked of it. Whether it did."""
+        last, first = self.latest.get(node), self.shown.get(node)
+        if self.store.challenges(node):
+            return False
+        if last and (first is None or first[1] < last[1]):
+            self.store.take(protocol.audit_item(first, last))
+        return True
 
     async def settle(self, node):
-        """Hands the open challenges of a relay to it, and takes its answers."""
-        left = []
-        for challenge in self.challenges[node]:
-            answer = await self.link.ask(self.ports[node], protocol.ANSWER, challenge)
-            if answer:
-                try:
-                    self.take(answer)
-                    continue
-                except Refusal:
-                    pass
-            left.append(challenge)
-        self.challenges[node] = left
-
-    async def audit(self, node):
-        """Challenges a relay to show its log up to the latest statement of its that was seen."""
-        if node not in self.latest:
-            return
-        challenge = protocol.audit_item(self.latest[node])
-        if self.store.take(challenge):
-            self.challenges[node].append(challenge)
+        """Hands open challenges of a relay to it, and takes its answers."""
+        for challenge in self.store.challenges(node)[:AT_ONCE]:
+            answer = await self.link.ask(self.ports[node], protocol.ANSWER, challenge, "audits", 10.0)
+            if not answer:
+                continue
+            try:
+                self.take(answer)
+                if challenge[0] == protocol.AUDIT and answer[0] == protocol.SEGMENT:
+                    self.shown[node] = protocol.last_of_audit(challenge)
+            except Refusal:
+                self.refused += 1
 
     async def exchange(self):
-        """Asks the other witness for what it lacks here."""
-        port = self.told["other"]
-        outline = await self.link.ask(port, protocol.OUTLINE)
+        """Asks the other witness for what is not here."""
+        outline = await self.link.ask(self.told["other"], protocol.OUTLINE, b"", "exchange", 10.0)
         if outline:
-            pack = await self.link.ask(port, protocol.PACK, self.store.summary(outline))
+            pack = await self.link.ask(self.told["other"], protocol.PACK, self.store.summary(outline), "exchange", 10.0)
             if pack:
-                self.store.apply(pack)
+                try:
+                    self.taken += self.store.apply(pack)
+                except Refusal:
+                    self.refused += 1
+
+    def note(self):
+        for node in self.ports:
+            if node not in self.exposed_at and self.store.indication(node) is Indication.EXPOSED:
+                self.exposed_at[node] = time.time()
 
     def keep(self):
         """Writes the export down, whole or not at all."""
@@ -108,20 +137,25 @@ class Witness:
             os.fsync(kept.fileno())
         os.replace(self.told["kept"] + ".new", self.told["kept"])
 
-    async def live(self):
+    def audit_in_turn(self):
+        """Audits one relay after the other; and each once more when the time is over."""
         nodes = sorted(self.ports)
-        while not self.is_over.is_set():
-            self.turn += 1
-            node = nodes[self.turn % len(nodes)]
-            if time.monotonic() - self.began < self.told["seconds"] and self.turn % self.told["audit_every"] == 0:
-                await self.audit(node)
-            for each in nodes:
-                await self.settle(each)
-            await self.exchange()
+        if time.monotonic() - self.began < self.told["seconds"]:
+            self.audit(nodes[self.turns % len(nodes)])
+        else:
+            self.asked_last.update(node for node in nodes if node not in self.asked_last and self.audit(node))
+
+    async def live(self):
+        while not self.is_over:
+            self.turns += 1
+            self.audit_in_turn()
+            await asyncio.gather(*(self.settle(node) for node in self.ports))
+            if self.turns % 4 == 0:
+                await self.exchange()
             self.note()
-            if self.turn % 8 == 0:
+            if self.turns % 16 == 0:
                 self.keep()
-            await asyncio.sleep(self.told["pause"])
+            await asyncio.sleep(0.25)
         self.keep()
 
 
@@ -129,7 +163,7 @@ async def main():
     witness = Witness(json.load(sys.stdin))
     async with await protocol.serve(witness.told["port"], witness.handle):
         print("ready", flush=True)
-        await asyncio.wait_for(witness.live(), witness.told["seconds"] + 120)
+        await asyncio.wait_for(witness.live(), witness.told["seconds"] + 180)
 
 
 if __name__ == "__main__":
