@@ -51,8 +51,8 @@ struct bulwynef_handle { void *at; bool is_open; };
 uint8_t bulwynef_check_proof(uint8_t program, const uint8_t *directory, size_t directory_len, const uint8_t *proof, size_t proof_len,
                              uint32_t *node);
 
-/* The 56 bytes of the public key of a seed, as a directory has them. 117 the room is not 56 bytes, the identifier not 16, or the seed not
-   32; 2 and 3 an unknown type; 4 a tree above H10. */
+/* The 56 bytes of the public key of a seed, as a directory has them. Refused, in this order: 117 the room is not 56 bytes; 2 and 3 an
+   unknown type; 117 the identifier is not 16 bytes, or the seed not 32; 4 a tree above H10. */
 uint8_t bulwynef_public_key(uint32_t lms_type, uint32_t ots_type, const uint8_t *key_id, size_t key_id_len, const uint8_t *seed,
                             size_t seed_len, uint8_t *key, size_t key_len);
 
@@ -86,6 +86,10 @@ uint8_t bulwynef_store_indication(struct bulwynef_handle *store, uint32_t node, 
            bulwynef_close(&text);
        } */
 uint8_t bulwynef_store_proof(struct bulwynef_handle *store, uint32_t node, struct bulwynef_handle *text);
+
+/* The challenge at a place, from 0, of those against a node that no item answers, in the order of their bytes: an item of tag 3 or 4, which
+   goes to the node (bulwynef_node_answer), and whose answer is taken. 44 it is not listed, 116 there are fewer. */
+uint8_t bulwynef_store_challenge(struct bulwynef_handle *store, uint32_t node, size_t place, struct bulwynef_handle *text);
 
 /* The one text of the items: stores of the same items have equal exports. */
 uint8_t bulwynef_store_export(struct bulwynef_handle *store, struct bulwynef_handle *text);

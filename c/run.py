@@ -1,8 +1,8 @@
 #!/usr/bin/env python3
-"""Builds libbulwynef.a's programs as C11 and as C++, and runs them: the scene and the refusals of c/test.c, each allocation refused in
-turn, and the evidence of examples/ beside what second_opinion/check.py says of it.
+"""Builds the test of libbulwynef.a as C11 and as C++, and runs it: the scene and the refusals of c/test.c, each allocation refused in turn,
+and the evidence of examples/ beside what second_opinion/check.py says of it.
 
-    run.py                     what the gate runs: wants crates/bulwynef_c/out/libbulwynef_c.a, which `rt ci` and `rt lib` leave
+    run.py                     what the gate runs: wants crates/bulwynef_c/out/libbulwynef_c.a, which `rt lib` makes there
     run.py --cases FOLDER      also each case N of a folder with N.args, N.stdin, N.stdout and N.status
     run.py --sanitize          also with AddressSanitizer and UndefinedBehaviorSanitizer on the C side
     run.py --valgrind          also the scene and the refusals under valgrind
@@ -21,9 +21,11 @@ TOP = os.path.dirname(os.path.dirname(os.path.abspath(__file__)))
 HERE = f"{TOP}/c"
 OUT = f"{HERE}/out"
 BUILT = f"{TOP}/crates/bulwynef_c/out/libbulwynef_c.a"
-EXAMPLES = ("answer", "exchange", "hidden_entry", "second_key", "silence", "status_equivocation", "wrong_output")
+EXAMPLES = "answer equivocation exchange hidden_entry second_key silence spreading status_equivocation two_witnesses wrong_output".split()
+SECOND = [sys.executable, f"{TOP}/second_opinion/check.py"]
 WARNINGS = ["-Wall", "-Wextra", "-Werror"]
-KNOWN = ("status", "merge", "prove", "check")
+# How many words each command has beside --relay
+COUNTS = {"status": 1, "merge": 1, "check": 1, "prove": 2}
 
 
 def build(name, compiler, *flags):
@@ -40,36 +42,39 @@ def archive():
     subprocess.run(["ar", "r", f"{OUT}/libbulwynef.a", f"{OUT}/heap.o"], check=True, stderr=subprocess.DEVNULL)
 
 
-def said(words, source):
-    with open(source, "rb") as text:
-        ran = subprocess.run(words, stdin=text, capture_output=True, timeout=300)
-    return ran.returncode, ran.stdout.decode(), ran.stderr.decode()
+def said(words, given):
+    ran = subprocess.run(words, input=given.encode("latin-1"), capture_output=True, timeout=300)
+    return ran.returncode, ran.stdout.decode("latin-1"), ran.stderr.decode("latin-1")
 
 
-def differs_on_examples(program):
-    wrong = 0
-    for name in EXAMPLES:
-        source = f"{TOP}/examples/{name}.txt"
-        for what in ("status", "check"):
-            status, text, why = said([sys.executable, f"{TOP}/second_opinion/check.py", what], source)
-            wanted = text if status == 0 else " ".join(why.split()[:2]) + "\n"
-            _, got, _ = said([program, what], source)
-            if got != wanted:
-                print(f"{name} {what}: {got!r} and not {wanted!r}")
-                wrong += 1
-    return wrong
+def read(path):
+    with open(path, encoding="latin-1", newline="") as file:
+        return file.read()
+
+
+def differs_on_example(program, name):
+    """What the program says of an example otherwise than the second opinion: of each node, and by a proof of each that is exposed."""
+    text = read(f"{TOP}/examples/{name}.txt")
+    wanted = [said([*SECOND, "--store", "-"], text)[1], " ".join(said([*SECOND, "-"], text)[2].split()[:2]) + "\n"]
+    found = [said([program, what], text)[1] for what in ("status", "check")]
+    for node in [line.split()[0] for line in wanted[0].splitlines() if line.endswith(" exposed")]:
+        wanted.append(f"exposes {node}\n")
+        found.append(said([*SECOND, "-"], text.splitlines()[0] + "\n" + said([program, "prove", node], text)[1])[1])
+    return [f"{name}: {one!r} and not {other!r}" for one, other in zip(found, wanted) if one != other]
 
 
 def differs_on_case(program, folder, name):
-    with open(f"{folder}/{name}.args") as file:
-        words = file.read().split()
-    if not words or words[0] not in KNOWN or any(word.startswith("-") and word != "--relay" for word in words):
+    words = read(f"{folder}/{name}.args").split()
+    if len([word for word in words if word != "--relay"]) != COUNTS.get(words[0] if words else ""):
         return None
-    wanted = [open(f"{folder}/{name}.{part}").read() for part in ("status", "stdout", "stderr")]
-    status, text, _ = said([program, *words], f"{folder}/{name}.stdin")
-    if wanted[0].strip() == "0":
-        return (status, text) != (0, wanted[1])
-    return (status, text) != (1, " ".join(wanted[2].split()[:2]) + "\n")
+    given, *wanted = (read(f"{folder}/{name}.{part}") for part in ("stdin", "status", "stdout", "stderr"))
+    status, text, _ = said([program, *words], given)
+    if wanted[0].strip() != "0":
+        return (status, text) != (1, " ".join(wanted[2].split()[:2]) + "\n")
+    if words[0] == "prove" and wanted[1] != "none\n":
+        relay = [word for word in words if word.startswith("-")]
+        return said([program, "check", *relay], given.split("\n")[0] + "\n" + text)[1] != f"exposes {words[1]}\n"
+    return (status, text) != (0, wanted[1])
 
 
 def differs_on_cases(program, folder):
@@ -102,10 +107,12 @@ def main():
     if words.valgrind:
         runs.append(["valgrind", "--quiet", "--leak-check=full", "--error-exitcode=9", program, "self"])
     wrong = sum(subprocess.run(run).returncode != 0 for run in runs)
-    wrong += differs_on_examples(program)
+    for line in [line for name in EXAMPLES for line in differs_on_example(program, name)]:
+        print(line)
+        wrong += 1
     if words.cases:
         wrong += differs_on_cases(program, words.cases)
-    print(f"c: {len(runs)} runs and {2 * len(EXAMPLES)} examples, {wrong} wrong")
+    print(f"c: {len(runs)} runs and {len(EXAMPLES)} examples, {wrong} wrong")
     return 1 if wrong else 0
 
 

@@ -118,7 +118,8 @@ static struct bytes size_of_empty(void) { struct bytes b; b.at = (uint8_t *)call
 static void scene(void) {
     struct bulwynef_handle one = {0, false}, two = {0, false}, liar = {0, false}, a = {0, false}, b = {0, false}, t = {0, false};
     struct bytes message = nothing(), ack = nothing(), again = nothing(), other = nothing(), lie = nothing(), outline = nothing(),
-                 summary = nothing(), pack = nothing(), left_text = nothing(), right_text = nothing(), proof = nothing();
+                 summary = nothing(), pack = nothing(), left_text = nothing(), right_text = nothing(), proof = nothing(),
+                 open_one = nothing();
     uint8_t said = 9, is_new = 9, includes = 9;
     uint32_t node = 0, leaves = 0;
     uint64_t added = 0, seq = 0;
@@ -141,6 +142,9 @@ static void scene(void) {
     WANT(bulwynef_store_indication(&a, 2, &said), 0);
     HOLDS(said == BULWYNEF_SUSPECTED);
     WANT(bulwynef_store_proof(&a, 2, &t), 115);
+    WANT(bulwynef_store_challenge(&a, 2, 0, &t), 0);
+    open_one = text_of(&t);
+    HOLDS(same(open_one, message));
     WANT(answered(&two, message, &ack), 0);
     WANT(answered(&two, message, &again), 0);
     HOLDS(same(ack, again));
@@ -150,6 +154,7 @@ static void scene(void) {
     WANT(bulwynef_store_take(&a, ack.at, ack.len, &is_new), 0);
     WANT(bulwynef_store_indication(&a, 2, &said), 0);
     HOLDS(said == BULWYNEF_TRUSTED);
+    WANT(bulwynef_store_challenge(&a, 2, 0, &t), 116);
     WANT(tick(&one, 6), 0);
     WANT(first_message(&one, &other), 0);
     WANT(answered(&liar, other, &lie), 0);
@@ -186,7 +191,7 @@ end:
     bulwynef_close(&one); bulwynef_close(&two); bulwynef_close(&liar); bulwynef_close(&a); bulwynef_close(&b); bulwynef_close(&t);
     bulwynef_close(&a);
     drop(&message); drop(&ack); drop(&again); drop(&other); drop(&lie); drop(&outline); drop(&summary); drop(&pack); drop(&left_text);
-    drop(&right_text); drop(&proof);
+    drop(&right_text); drop(&proof); drop(&open_one);
     if (!wrong && live) { fprintf(stderr, "%ld blocks are left\n", live); wrong = 1; }
 }
 
@@ -244,6 +249,8 @@ static void refusals(void) {
     WANT(bulwynef_store_indication(&a, 3, &said), 44);
     WANT(bulwynef_store_proof(&a, 3, &t), 44);
     WANT(bulwynef_store_proof(&a, 1, &t), 115);
+    WANT(bulwynef_store_challenge(&a, 3, 0, &t), 44);
+    WANT(bulwynef_store_challenge(&a, 1, 0, &t), 116);
     HOLDS(said == 9 && added == 77 && is_new == 9 && !t.is_open);
     WANT(bulwynef_store_import(&a, empty.at, empty.len, &added), 0);
     HOLDS(added == 0);

@@ -38,6 +38,7 @@ CALLS = {
     "store_includes": [HANDLE, HANDLE, ctypes.POINTER(U8)],
     "store_indication": [HANDLE, U32, ctypes.POINTER(U8)],
     "store_proof": [HANDLE, U32, HANDLE],
+    "store_challenge": [HANDLE, U32, SIZE, HANDLE],
     "store_export": [HANDLE, HANDLE],
     "store_outline": [HANDLE, HANDLE],
     "store_summary": [HANDLE, HANDLE],

@@ -1,12 +1,12 @@
 """Stores of evidence, and proofs."""
 
 import enum
-from typing import Optional
+from typing import List, Optional
 
 from .errors import Refusal
 from .library import U8, U32, U64, Opened, Program, call, text, told
 
-NOT_EXPOSED = 115
+NOT_EXPOSED, OUT_OF_RANGE = 115, 116
 
 
 class Indication(enum.IntEnum):
@@ -57,6 +57,17 @@ class Store(Opened):
             if refusal.number != NOT_EXPOSED:
                 raise
             return None
+
+    def challenges(self, node: int) -> List[bytes]:
+        """The challenges against a node that no item answers, in the order of their bytes."""
+        found: List[bytes] = []
+        while True:
+            try:
+                found.append(text("store_challenge", self.at, node, len(found)))
+            except Refusal as refusal:
+                if refusal.number != OUT_OF_RANGE:
+                    raise
+                return found
 
     def export(self) -> bytes:
         """The one text of the items."""
