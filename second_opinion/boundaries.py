@@ -1,7 +1,7 @@
 """Statements at and beside the ends of segments, signatures that are none, and logs at the ends of the programs' numbers, with the answers
 that FORMATS has for them: "A node's keys", "The reference programs", and the last paragraphs of "Proof" and of "Items of evidence".
 
-They are signed here, by keys of `reference/nodes.py`, which sign more than once by a leaf: nobody else has them.
+They are signed here, by keys of `checks/reference/nodes.py`, which sign more than once by a leaf: nobody else has them.
 """
 
 import sys
@@ -9,7 +9,7 @@ import sys
 from check import sha256, sized, u8, u32, u64
 from stored import TOP, Case, proof_of, store_of
 
-sys.path.append(f"{TOP}/reference")
+sys.path.append(f"{TOP}/checks/reference")
 
 from nodes import Key, entry_hash
 

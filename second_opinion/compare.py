@@ -3,9 +3,9 @@
 
     compare.py [PROGRAM] [--seconds S] [--seed N] [--cases FOLDER] [--first]
 
-Without words: what the repository has stored, what is signed and bundled here, and some mutated inputs beside fuzz/answers.py, which
+Without words: what the repository has stored, what is signed and bundled here, and some mutated inputs beside checks/fuzz/answers.py, which
 reads the formats by other code. The gate runs it so, and it wants no build. With a PROGRAM, a build of node_sim, the mutated inputs of
-fuzz/run.py are handed to it and to check.py, for so many seconds (60); without one fuzz/answers.py is asked for so many. A FOLDER has
+checks/fuzz/run.py are handed to it and to check.py, for so many seconds (60); without one checks/fuzz/answers.py is asked for so many. A FOLDER has
 inputs NNN.args and NNN.stdin with what is wanted, NNN.stdout and NNN.stderr.
 
 Ends with 1 where an answer differs, and where fewer cases were found than a source must have.
@@ -32,7 +32,7 @@ import stored
 from check import Refused, sha256, u32, u64
 
 HERE = os.path.dirname(os.path.abspath(__file__))
-sys.path.append(f"{stored.TOP}/fuzz")
+sys.path.append(f"{stored.TOP}/checks/fuzz")
 # How many cases each source has at least
 LEAST = {"tour": 13, "mailbox": 7, "explained": 10, "page": 11, "refusals": 34, "boundaries": 237, "vectors": 363, "cuts": 9640}
 LEAST.update({"verdicts": 83, "proofs": 264, "falling": 201, "bundles": 140, "process": 28, "why": 200, "program": 1, "cases": 1})
@@ -287,7 +287,7 @@ def is_alike(words, text):
 
 
 def mutated_inputs(seed):
-    """The inputs of fuzz/run.py that are read alike, known ones first."""
+    """The inputs of checks/fuzz/run.py that are read alike, known ones first."""
     import run as fuzz
 
     inputs = fuzz.Inputs(seed)
@@ -299,7 +299,7 @@ def mutated_inputs(seed):
 
 
 def hold_mutated(tried, options, least):
-    """Each input beside the program, or else beside what fuzz/answers.py allows; for some seconds, and not less than so many."""
+    """Each input beside the program, or else beside what checks/fuzz/answers.py allows; for some seconds, and not less than so many."""
     from answers import answers
 
     end = time.monotonic() + options.seconds

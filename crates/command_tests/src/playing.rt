@@ -40,7 +40,7 @@ fn digest_of(alloc: Global, played: &Played) -> Result<Hash, Fail> {
     Ok(Hash(Sha256::digest(&text)))
 }
 
-/// The items are those of `reference/scenarios.py`, and the directory lists the nodes as the scenario does, each with two keys.
+/// The items are those of `checks/reference/scenarios.py`, and the directory lists the nodes as the scenario does, each with two keys.
 #[test]
 fn each_kind_of_node_plays(rt: HostRuntime) -> Result<(), Fail> {
     let played = played(rt.alloc(), SCENARIO)??;
@@ -60,7 +60,7 @@ fn each_kind_of_node_plays(rt: HostRuntime) -> Result<(), Fail> {
     Ok(())
 }
 
-/// The items are those of `reference/scenarios.py`.
+/// The items are those of `checks/reference/scenarios.py`.
 #[test]
 fn each_act_has_its_effect(rt: HostRuntime) -> Result<(), Fail> {
     let played = played(rt.alloc(), EFFECTS)??;

@@ -1,4 +1,4 @@
-//! Telling `growths/refuse.c` whose growths it is to count: by two growths of sizes that nothing else asks for.
+//! Telling `checks/growths/refuse.c` whose growths it is to count: by two growths of sizes that nothing else asks for.
 
 use outcome::Memory;
 use std::alloc::Global;

@@ -1,4 +1,4 @@
-//! Calls, one a scene, of which `growths/run.py` refuses each growth of memory in turn.
+//! Calls, one a scene, of which `checks/growths/run.py` refuses each growth of memory in turn.
 //!
 //! The first word is the scene's name; `all` plays every scene, behind a line `== NAME`. A scene sets up what the call wants and writes
 //! the state (`before`). It makes the call, and tells the growths of that call alone by two others ([`arming`]). Then it writes what

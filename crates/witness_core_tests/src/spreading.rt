@@ -145,7 +145,7 @@ fn spread<S: Evidence<Tally>>(
     })
 }
 
-/// The text of the five items, by `reference/transfers.py`.
+/// The text of the five items, by `checks/reference/transfers.py`.
 pub(crate) const ALL: &str = "8af19b1037cb92115a60db6dc921667c3dfd040908060122c1c5eb1d40f0cc86";
 
 /// Whether all four texts are that of the five items.

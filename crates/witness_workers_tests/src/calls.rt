@@ -120,7 +120,7 @@ fn is_shown_as(alloc: Global, hash: Hash, want: &str) -> Result<bool, Fail> {
     Ok(shown.as_str() == want)
 }
 
-/// The SHA-256 value of the text, by `reference/shared_stores.py`.
+/// The SHA-256 value of the text, by `checks/reference/shared_stores.py`.
 const TEXT: &str = "6622c0fa4345faec1513002bd9240ab939b3c556c2332d1a90eca3f50d50aba1";
 
 /// Whether the callers were told so: each item is new, both expose node 1, nothing is merged, and the text has this value.

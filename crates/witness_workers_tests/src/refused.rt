@@ -1,4 +1,4 @@
-//! Checking where one growth of the run is refused, which `growths/run.sh` does. Where none is, all is as it is with ample memory.
+//! Checking where one growth of the run is refused, as `rt try --test --fail-alloc N` does. Where none is, all is as it is with ample memory.
 
 use crate::checking::{Answer, items_and_directory, numbers};
 use authenticators::Directory;

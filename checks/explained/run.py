@@ -1,0 +1,144 @@
+#!/usr/bin/env python3
+"""Holds what `explain` writes of each file of examples/ to what is stored in examples/explained/, text and page, by both builds.
+
+A scenario is refused. A file of one store is explained as it is; one of several is refused so, and explained once `node_sim merge` has made one store of
+them. Of each node that the store exposes, what `node_sim prove` writes is explained as well. Then inputs that are refused: each is
+made of an example by a change of one place, and the line that tells it must name that place, by this script's own reading of the formats.
+
+Wants crates/explain/out/explain and crates/node_sim/out/node_sim, which `rt ci` and `rt run` leave. `checks/explained/run.py --write` stores
+what the build by LLVM writes.
+"""
+
+import os
+import subprocess
+import sys
+
+TOP = os.path.dirname(os.path.dirname(os.path.dirname(os.path.abspath(__file__))))
+EXAMPLES, STORED = f"{TOP}/examples", f"{TOP}/examples/explained"
+EXPLAIN = [f"{TOP}/crates/explain/out/explain{ending}" for ending in ("", ".by-rattle")]
+NODE_SIM = f"{TOP}/crates/node_sim/out/node_sim"
+
+failed = []
+passed = 0
+
+
+def run(words, text):
+    done = subprocess.run(words, input=text, capture_output=True, timeout=120)
+    return done.returncode, done.stdout, done.stderr
+
+
+def hold(what, is_so, found=""):
+    global passed
+    if is_so:
+        passed += 1
+    else:
+        failed.append(what)
+        print(f"FAILED {what} {found}")
+
+
+def made(words, text):
+    status, out, error = run([NODE_SIM, *words], text)
+    assert status == 0, (words, error)
+    return out
+
+
+def inputs():
+    """Each name with its subject and its input: what examples/ has, merged where it has several stores, and the proofs of it."""
+    for file in sorted(os.listdir(EXAMPLES)):
+        name, ending = os.path.splitext(file)
+        if ending != ".txt":
+            continue
+        with open(f"{EXAMPLES}/{file}", "rb") as it:
+            text = it.read()
+        lines = text.splitlines(keepends=True)
+        if name == "scenario":
+            yield name, "store", text
+            continue
+        if len(lines) > 2:
+            yield f"{name}.stores", "store", text
+            text = lines[0] + made(["merge"], text)
+        yield name, "store", text
+        for line in made(["status"], text).split(b"\n"):
+            if line.endswith(b" exposed"):
+                node = line.split()[0].decode()
+                yield f"{name}.proof{node}", "proof", lines[0] + made(["prove", node], text)
+
+
+def compare(name, subject, text, build):
+    """Both forms of one input; a refusal has one alone."""
+    status, out, error = run([build, subject], text)
+    told = out if status == 0 else error
+    kinds = [(".txt", told)]
+    if status == 0:
+        kinds.append((".html", run([build, subject, "--html"], text)[1]))
+    for ending, found in kinds:
+        file = f"{STORED}/{name}{ending}"
+        if "--write" in sys.argv and build == EXPLAIN[0]:
+            with open(file, "wb") as it:
+                it.write(found)
+        stored = open(file, "rb").read() if os.path.isfile(file) else None
+        hold(f"{name}{ending} by {os.path.basename(build)}", stored == found)
+    hold(f"{name} ends", status == (0 if not error else 1) and (not out or not error), error)
+
+
+def items_of(store):
+    """Where each item of a store begins, and how long it is."""
+    at, found = 16, []
+    while at < len(store):
+        size = int.from_bytes(store[at : at + 4], "big")
+        found.append((at + 4, size))
+        at += 4 + size
+    return found
+
+
+def refusals():
+    """Inputs that are refused, and what the line must begin with and hold."""
+    with open(f"{EXAMPLES}/equivocation.txt", "rb") as it:
+        directory, store = it.read().split(b"\n")[:2]
+    raw = bytes.fromhex(store.decode())
+    (first, _), (second, size) = items_of(raw)
+
+    def changed(at, value):
+        return directory + b"\n" + (raw[:at] + value + raw[at + len(value) :]).hex().encode() + b"\n"
+
+    node, number = int.from_bytes(raw[second + 1 : second + 5], "big"), int.from_bytes(raw[second + 5 : second + 13], "big")
+    statement = f"line 2, item 1, a statement of node {node}, entry {number}: "
+    last = second + size - 1
+    yield changed(last, bytes([raw[last] ^ 1])), "refused 49 BadSignature: " + statement
+    yield changed(second + 1, b"\0\0\0\x63"), f"refused 44 UnknownNode: line 2, item 1, a statement of node 99, entry {number}: "
+    yield changed(second, b"\x09"), "refused 41 BadTag: line 2, item 1: "
+    yield changed(first - 4, b"\0\0\0\x06"), f"refused 40 Truncated: line 2, item 0, a statement of node {node}: "
+    yield directory + b"\n" + raw[: second + 13].hex().encode(), f"refused 40 Truncated: {statement}"
+    yield directory + b"\n" + (raw + b"\0").hex().encode(), "refused 43 Trailing: line 2, behind 2 items: "
+    yield changed(0, b"X"), "refused 60 BadMagic: line 2: "
+    yield directory + b"\n" + store[:9] + b"g" + store[10:], "refused 103 BadHex: line 2, character 9: "
+    yield directory[:-1] + b"\n" + store, "refused 103 BadHex: line 1: "
+    yield directory[:20] + b"\n" + store, "refused 24 Truncated: line 1: "
+    yield directory, "refused 104 LineCount: "
+    yield b"", "refused 104 LineCount: "
+
+
+def main():
+    builds = [build for build in EXPLAIN if os.path.isfile(build)]
+    if not builds:
+        sys.exit("crates/explain/out/explain is missing: rt ci and rt run leave it")
+    os.makedirs(STORED, exist_ok=True)
+    for build in builds:
+        names = set()
+        for name, subject, text in inputs():
+            names.add(name)
+            compare(name, subject, text, build)
+        stored = {os.path.splitext(file)[0] for file in os.listdir(STORED) if file.endswith((".txt", ".html"))}
+        hold("each stored output is of an example", stored <= names, stored - names)
+        for text, wanted in refusals():
+            status, out, error = run([build, "store"], text)
+            hold(wanted, status == 1 and not out and error.decode().startswith(wanted) and error.count(b"\n") == 1, error)
+            plain = run([NODE_SIM, "status"], text)
+            hold(f"status tells {wanted}", error.split(b":")[0] == plain[2].strip(), plain[2])
+        for words in ([], ["status"], ["store", "--text"], ["store", "proof"]):
+            hold(f"words {words}", run([build, *words], b"")[0] == 2)
+    print(f"explained: {passed} held, {len(failed)} not")
+    sys.exit(1 if failed else 0)
+
+
+main()

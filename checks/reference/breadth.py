@@ -1,0 +1,103 @@
+#!/usr/bin/env python3
+"""Holds the functions of the crates to six arguments and eight clauses, but for those that breadth.txt lists.
+
+    breadth.py [list]
+
+breadth.txt has a line for each function that is broader: its crate, its name, its arguments and its clauses. The script fails where the
+sources have others: so a broad function is seen when it comes. With `list` it writes what the sources have; the list is to get shorter.
+"""
+import re
+import sys
+from pathlib import Path
+
+sys.dont_write_bytecode = True
+
+TOP = Path(__file__).resolve().parents[2]
+LISTED = Path(__file__).resolve().parent / "breadth.txt"
+MOST_ARGUMENTS, MOST_CLAUSES = 6, 8
+HEAD = re.compile(r"^(?P<indent> *)(?:pub(?:\([a-z]+\))? )?(?:final )?fn (?P<name>\w+)", re.M)
+CLAUSE = re.compile(r"^\s+(?:requires|ensures) ", re.M)
+
+
+def behind(text, place, opening, closing):
+    """The place behind the bracket that closes the one at the place. An arrow's head closes nothing."""
+    depth = 0
+    for at in range(place, len(text)):
+        if text[at] == opening:
+            depth += 1
+        elif text[at] == closing and text[at - 1] != "-":
+            depth -= 1
+            if depth == 0:
+                return at + 1
+    raise ValueError(f"no {closing} at {place}")
+
+
+def arguments_of(text):
+    """How many arguments stand in the brackets: what commas part that stand in no other bracket."""
+    depth, parts, seen = 0, 0, False
+    for at, sign in enumerate(text):
+        if sign in "([{<":
+            depth += 1
+        elif sign in ")]}" or (sign == ">" and text[at - 1] != "-"):
+            depth -= 1
+        if sign == "," and depth == 1:
+            parts, seen = parts + seen, False
+        elif depth == 1 and not sign.isspace() and sign != "(":
+            seen = True
+    return parts + seen
+
+
+def functions_of(text):
+    """The name of each function, how many arguments it has, and how many clauses."""
+    for match in HEAD.finditer(text):
+        place = match.end()
+        if text[place] == "<":
+            place = behind(text, place, "<", ">")
+        end = behind(text, place, "(", ")")
+        body = re.search(rf"^{match['indent']}\{{|[;{{]$|\{{\}}$", text[end:], re.M)
+        yield match["name"], arguments_of(text[place:end]), len(CLAUSE.findall(text[end : end + body.start()]))
+
+
+def broad():
+    """What the sources have: the arguments and clauses of each function that is too broad, by its crate and name; and how many there are in all."""
+    found, count = {}, 0
+    for path in sorted((TOP / "crates").glob("*/src/**/*.rt")):
+        crate = path.relative_to(TOP / "crates").parts[0]
+        for name, arguments, clauses in functions_of(path.read_text(encoding="utf-8")):
+            count += 1
+            if arguments > MOST_ARGUMENTS or clauses > MOST_CLAUSES:
+                known = found.get((crate, name), (0, 0))
+                found[crate, name] = max(known[0], arguments), max(known[1], clauses)
+    return found, count
+
+
+def listed():
+    rows = [line.split() for line in LISTED.read_text(encoding="utf-8").splitlines()]
+    return {(crate, name): (int(arguments), int(clauses)) for crate, name, arguments, clauses in rows}
+
+
+def told(breadth):
+    return "{} arguments and {} clauses".format(*breadth) if breadth else f"no more than {MOST_ARGUMENTS} arguments and {MOST_CLAUSES} clauses"
+
+
+def faults_of(found, known):
+    for crate, name in sorted({*found, *known}):
+        has, says = found.get((crate, name)), known.get((crate, name))
+        if has != says:
+            yield f"{crate}: {name} has {told(has)}, and breadth.txt gives it {told(says)}"
+
+
+def main():
+    found, count = broad()
+    if sys.argv[1:] == ["list"]:
+        lines = [f"{crate} {name} {arguments} {clauses}\n" for (crate, name), (arguments, clauses) in sorted(found.items())]
+        LISTED.write_text("".join(lines), encoding="utf-8")
+    faults = list(faults_of(found, listed()))
+    print(*faults, sep="\n", end="\n" if faults else "")
+    if not faults:
+        print(f"of {count} functions {len(found)} have more than six arguments or eight clauses, as listed")
+    return 1 if faults else 0
+
+
+if __name__ == "__main__":
+    sys.exit(main())

@@ -1,0 +1,76 @@
+#!/usr/bin/env python3
+"""Holds the table of refusals in docs/FORMATS.md to the sources; where they differ it says so and ends with status 1. With the word
+`write` it writes the table anew.
+
+Each enum of faults gives a variant's number and name by `number` and `name`, and a line for a person. A row has a number and a name,
+the line of the lowest crate that tells it, and the types that do. `Reason` is why a log deviates, and no refusal. Crates come as in crates.txt, lowest first.
+"""
+
+import re
+import sys
+from pathlib import Path
+
+import layers
+from words import Part
+
+TOP = Path(__file__).resolve().parents[2]
+PAGE = "docs/FORMATS.md"
+
+ARM = re.compile(r"((?:\w+::\w+(?:\(_\))?\s*\|\s*)*\w+::\w+(?:\(_\))?)\s*=>\s*(\d+|\"\w+\")")
+VARIANT = re.compile(r"(\w+)::(\w+)")
+LINE = re.compile(r'((?:^\s*///.*\n)*)(?:^\s*#\[error\("([^"]*)"\)\]\n)?^\s*(\w+),$', re.M)
+
+
+def crates():
+    """The crates, each behind those that it stands on."""
+    return [crate.name for crate in layers.read_crates()[1].values() if crate.layer != layers.TESTS]
+
+
+def lines_of(text, kind):
+    """What is told to a person of each variant of an enum: the line that it derives, or its comment."""
+    body = re.search(rf"\benum {kind}\b.*?\{{\n(.*?)^\}}", text, re.M | re.S)[1]
+    told = {}
+    for comment, line, variant in LINE.findall(body):
+        words = " ".join(part.strip().removeprefix("///").strip() for part in comment.strip().splitlines())
+        words = re.sub(r"^\d+: ", "", words)
+        told[variant] = line or words[:1].lower() + words[1:].rstrip(".")
+    return told
+
+
+def refusals():
+    """(number, name): the types that tell it, lowest first, and the first one's line."""
+    rows = {}
+    for crate in crates():
+        for path in sorted((TOP / "crates" / crate / "src").glob("**/*.rt")):
+            text = path.read_text(encoding="utf-8")
+            given = {}
+            for variants, value in ARM.findall(text):
+                for kind, variant in VARIANT.findall(variants):
+                    given.setdefault((kind, variant), []).append(value)
+            for (kind, variant), values in given.items():
+                number = next((int(value) for value in values if value.isdigit()), None)
+                name = next((value.strip('"') for value in values if value.startswith('"')), None)
+                if number is None or name is None or kind == "Reason" or not re.search(rf"\benum {kind}\b", text):
+                    continue
+                row = rows.setdefault((number, name), ([], lines_of(text, kind).get(variant, "")))
+                row[0].append(f"`{crate}::{kind}`")
+    return rows
+
+
+def table():
+    rows = ["| Number | Name | It says that | Told by |", "|---|---|---|---|"]
+    for (number, name), (kinds, line) in sorted(refusals().items()):
+        rows.append(f"| {number} | {name} | {line} | {', '.join(kinds)} |")
+    return "\n".join(rows) + "\n"
+
+
+def main():
+    wanted = table()
+    if not Part(PAGE, "checks/reference/refusals.py").held_to(wanted, sys.argv[1:] == ["write"]):
+        return 1
+    print(f"{PAGE} has the sources' {wanted.count(chr(10)) - 2} refusals")
+    return 0
+
+
+if __name__ == "__main__":
+    sys.exit(main())
