@@ -9,7 +9,7 @@ and `silent` answers nothing from a third of the time on; `--faults ""` has none
 with --kill a witness is killed in the midst of each and started again. At the end of each epoch both witnesses must export the same
 bytes; each faulty relay must be exposed, or suspected where it is silent, and each other one trusted; and each proof must convince a
 process that has the directory and the proof alone, by the library, and second_opinion/check.py. Ends with 1 where that is not so.
---keep leaves the directory and the export of each epoch as `explain store` reads them. Needs the package of python/ (BULWYNEF_LIBRARY may
+--keep leaves the directory and the export of each epoch as `mailbox_sim status` reads them. Needs the package of python/ (BULWYNEF_LIBRARY may
 name the shared library).
 """
 
