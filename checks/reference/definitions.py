@@ -108,7 +108,7 @@ class Sources:
 
     def beneath(self, spec):
         """The files that a file uses."""
-        return [(use.crate, use.path[0]) for use in self.uses.get(spec, []) if use.path[0] != "declared"]
+        return [(use.crate, use.path[0]) for use in self.uses.get(spec, []) if use.path[0] not in ("declared", "contracts")]
 
     def cited(self, imports, text):
         """The imports of which some name stands in the text; operators are taken to stand there."""

@@ -1,0 +1,160 @@
+/* Bulwynef for C, and for what calls C: stores of evidence, nodes that answer for what they did, and proofs that a third party checks.
+ *
+ * Link with libbulwynef.a, which c/run.py builds of the crate bulwynef_c, and with heap.c. Each call is proved against its contract
+ * (crates/bulwynef_c/src). docs/FORMATS.md has the bytes of every text.
+ *
+ * Every call but two answers a number: 0, or that of a refusal, and then nothing has changed, but where it says so below. No call
+ * aborts, blocks, keeps a pointer, or writes behind the room that it is handed.
+ *
+ * A handle is a place of the caller's, zeroed at first: struct bulwynef_handle h = {0}. A call opens it; bulwynef_close closes it, and
+ * frees what lies behind it. What the library cannot see, and the caller owes:
+ *  - a pointer points to as many bytes as the length beside it says, for the call. Where the length is 0 it may be any pointer but a
+ *    null one. What a call writes overlaps nothing else that it is handed, and two handles of one call are two.
+ *    (One handle given twice is refused as it turns out: 110 as two stores, 114 as a store and a text.)
+ *  - the fields of a handle are the library's. A handle may be moved; where a copy is made, one of the two is used no more, and closed
+ *    no more: an open handle is closed once. One that is let go open, or overwritten, leaks.
+ *  - one call at a time has a handle. It stays on its thread, or is handed over by what orders the threads, as a lock or a join does.
+ *  - malloc, realloc and free are one allocator, aligned to 16.
+ *  - entropy is 32 random bytes, fresh for each call that signs. A seed signs in one process at a time, once: a node's key that has
+ *    signed begins no second node (docs/DEPLOYING.md).
+ *
+ * Of every call on handles: 110 it is closed, 111 it is of something else or of another program, 99 memory ran out. A text is answered
+ * behind a second handle, which has to be closed: 114 where it is open.
+ */
+#ifndef BULWYNEF_H
+#define BULWYNEF_H
+#include <stdbool.h>
+#include <stddef.h>
+#include <stdint.h>
+#ifdef __cplusplus
+extern "C" {
+#endif
+
+/* the programs that nodes follow */
+enum { BULWYNEF_TALLY = 1, BULWYNEF_RELAY = 2, BULWYNEF_MAILBOX = 3 };
+/* what a store says of a node */
+enum { BULWYNEF_TRUSTED = 0, BULWYNEF_SUSPECTED = 1, BULWYNEF_EXPOSED = 2 };
+/* RFC 8554: the types of trees and of one-time signatures. A key of H5 signs 32 statements, one of H10 1,024. */
+enum { BULWYNEF_H5 = 5, BULWYNEF_H10 = 6 };
+enum { BULWYNEF_W1 = 1, BULWYNEF_W2 = 2, BULWYNEF_W4 = 3, BULWYNEF_W8 = 4 };
+enum { BULWYNEF_KEY_ID_LEN = 16, BULWYNEF_SEED_LEN = 32, BULWYNEF_ENTROPY_LEN = 32, BULWYNEF_PUBLIC_KEY_LEN = 56 };
+
+struct bulwynef_handle { void *at; bool is_open; };
+
+/* ---- without a handle */
+
+/* 0, and *node is the node that the proof convicts before anybody who has the directory and the program. Refused, in this order: 113 no
+   such program; 2, 3, 20 to 26 of the directory's text; 40 to 43 of the proof's; 44 to 51 of the proof. *node is then as it was.
+
+       uint32_t node;
+       if (bulwynef_check_proof(BULWYNEF_TALLY, directory, directory_len, proof, proof_len, &node) == 0) printf("exposes %u\n", node); */
+uint8_t bulwynef_check_proof(uint8_t program, const uint8_t *directory, size_t directory_len, const uint8_t *proof, size_t proof_len,
+                             uint32_t *node);
+
+/* The 56 bytes of the public key of a seed, as a directory has them. Refused, in this order: 117 the room is not 56 bytes; 2 and 3 an
+   unknown type; 117 the identifier is not 16 bytes, or the seed not 32; 4 a tree above H10. */
+uint8_t bulwynef_public_key(uint32_t lms_type, uint32_t ots_type, const uint8_t *key_id, size_t key_id_len, const uint8_t *seed,
+                            size_t seed_len, uint8_t *key, size_t key_len);
+
+/* ---- stores of evidence */
+
+/* A store without items, under the directory of a text. 114 the handle is open; 113 no such program; 2, 3, 20 to 26 of the text. */
+uint8_t bulwynef_store_open(uint8_t program, const uint8_t *directory, size_t directory_len, struct bulwynef_handle *store);
+
+/* Adds an item, and tells whether it is new (1) or was there (0). 40 to 43 of its text, 44 to 49 of the item. */
+uint8_t bulwynef_store_take(struct bulwynef_handle *store, const uint8_t *item, size_t item_len, uint8_t *is_new);
+
+/* Adds the items of a store's export, all or none, and tells how many are new. 40 to 49, 60, 61. */
+uint8_t bulwynef_store_import(struct bulwynef_handle *store, const uint8_t *text, size_t text_len, uint64_t *added);
+
+/* Adds the items of another store, all or none. 112 it is under another directory. The other store is as it was, always. */
+uint8_t bulwynef_store_merge(struct bulwynef_handle *store, struct bulwynef_handle *other, uint64_t *added);
+
+/* 1 where each item of the other store is in the store, else 0. */
+uint8_t bulwynef_store_includes(struct bulwynef_handle *store, struct bulwynef_handle *other, uint8_t *includes);
+
+/* What the items say of a node: BULWYNEF_TRUSTED, _SUSPECTED or _EXPOSED. 44 it is not listed. */
+uint8_t bulwynef_store_indication(struct bulwynef_handle *store, uint32_t node, uint8_t *indication);
+
+/* A proof that convicts the node. 44 it is not listed, 115 the items do not expose it.
+
+       struct bulwynef_handle text = {0};
+       if (bulwynef_store_proof(&store, node, &text) == 0) {
+           size_t len = bulwynef_text_len(&text);
+           uint8_t *proof = malloc(len);
+           if (proof) bulwynef_text_copy(&text, proof, len);
+           bulwynef_close(&text);
+       } */
+uint8_t bulwynef_store_proof(struct bulwynef_handle *store, uint32_t node, struct bulwynef_handle *text);
+
+/* The challenge at a place, from 0, of those against a node that no item answers, in the order of their bytes: an item of tag 3 or 4, which
+   goes to the node (bulwynef_node_answer), and whose answer is taken. 44 it is not listed, 116 there are fewer. */
+uint8_t bulwynef_store_challenge(struct bulwynef_handle *store, uint32_t node, size_t place, struct bulwynef_handle *text);
+
+/* The one text of the items: stores of the same items have equal exports. */
+uint8_t bulwynef_store_export(struct bulwynef_handle *store, struct bulwynef_handle *text);
+
+/* ---- what stores give one another: an outline, a summary against it, and a pack of what the summary does not name */
+
+uint8_t bulwynef_store_outline(struct bulwynef_handle *store, struct bulwynef_handle *text);
+uint8_t bulwynef_store_summary(struct bulwynef_handle *store, struct bulwynef_handle *text);
+/* 40, 43, 60 of the outline's text */
+uint8_t bulwynef_store_short_summary(struct bulwynef_handle *store, const uint8_t *outline, size_t outline_len,
+                                     struct bulwynef_handle *text);
+/* 40, 41, 43, 60 to 62 of the summary's text */
+uint8_t bulwynef_store_pack(struct bulwynef_handle *store, const uint8_t *summary, size_t summary_len, struct bulwynef_handle *text);
+/* Adds the items of a pack, all or none. 40 to 49, 60, 61. */
+uint8_t bulwynef_store_apply(struct bulwynef_handle *store, const uint8_t *pack, size_t pack_len, uint64_t *added);
+
+/* ---- nodes */
+
+/* Node `id` of the directory, which signs by the key of the seed; its log begins with the number first_seq. 114 the handle is open; as
+   bulwynef_public_key refuses the key; 113 no such program; 2, 3, 20 to 26 of the directory's text; 30 the node is not listed; 31 the key
+   is none of its keys there. */
+uint8_t bulwynef_node_new(uint8_t program, const uint8_t *directory, size_t directory_len, uint32_t id, uint64_t first_seq,
+                          uint32_t lms_type, uint32_t ots_type, const uint8_t *key_id, size_t key_id_len, const uint8_t *seed,
+                          size_t seed_len, struct bulwynef_handle *node);
+
+/* The timer ticks at a moment, which may tell the program something (docs/PROGRAMS.md). 117 the entropy is not 32 bytes, 36 the key has
+   too few leaves left, 37 the log is full. */
+uint8_t bulwynef_node_timer(struct bulwynef_handle *node, uint64_t moment, const uint8_t *entropy, size_t entropy_len);
+
+/* The number of the message that waits at the place, from 0, for its acknowledgement; 116 where fewer wait. */
+uint8_t bulwynef_node_waiting(struct bulwynef_handle *node, size_t place, uint64_t *seq);
+
+/* A message that was sent, as an item of tag 4: it goes to its receiver, and to a witness where it is not acknowledged. 116 none has
+   this number. It can be asked for as often as one likes. */
+uint8_t bulwynef_node_message(struct bulwynef_handle *node, uint64_t seq, struct bulwynef_handle *text);
+
+/* Answers an item of tag 4, a message: it is received, and its acknowledgement is an item of tag 5; or of tag 3, an audit, by a segment,
+   an item of tag 2. What was answered before is answered as it was. 117 the entropy is not 32 bytes; 40 to 49 of the item; 72 it is no
+   challenge, 70 it is another node's, 71 it names what is not in the log; 36, 37. Where the answer is 99 the node may have received the
+   message: the same call again answers it. */
+uint8_t bulwynef_node_answer(struct bulwynef_handle *node, const uint8_t *challenge, size_t challenge_len, const uint8_t *entropy,
+                             size_t entropy_len, struct bulwynef_handle *text);
+
+/* Accepts an acknowledgement, an item of tag 5: its message waits no longer. 40 to 43, 41 also of another item; 38 it is of no message
+   that was sent, or not valid for it. */
+uint8_t bulwynef_node_accept_ack(struct bulwynef_handle *node, const uint8_t *ack, size_t ack_len);
+
+/* Logs a checkpoint, from which an audit can begin, and tells its number. 37. */
+uint8_t bulwynef_node_checkpoint(struct bulwynef_handle *node, uint64_t *seq);
+
+/* How many statements the key in use still signs. */
+uint8_t bulwynef_node_remaining(struct bulwynef_handle *node, uint32_t *leaves);
+
+/* Signs by another of the node's keys from now on. As bulwynef_public_key refuses the key; 31 it is none of the node's, or was used. */
+uint8_t bulwynef_node_next_key(struct bulwynef_handle *node, uint32_t lms_type, uint32_t ots_type, const uint8_t *key_id,
+                               size_t key_id_len, const uint8_t *seed, size_t seed_len);
+
+/* ---- texts that were answered */
+
+size_t bulwynef_text_len(struct bulwynef_handle *text);                                  /* 0 of what is no text */
+uint8_t bulwynef_text_copy(struct bulwynef_handle *text, uint8_t *out, size_t out_len);  /* 117 unless out_len is the text's length */
+
+void bulwynef_close(struct bulwynef_handle *handle);                                     /* a closed one stays closed */
+
+#ifdef __cplusplus
+}
+#endif
+#endif

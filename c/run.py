@@ -1,0 +1,120 @@
+#!/usr/bin/env python3
+"""Builds the test of libbulwynef.a as C11 and as C++, and runs it: the scene and the refusals of c/test.c, each allocation refused in turn,
+and the evidence of examples/ beside what second_opinion/check.py says of it.
+
+    run.py                     what the gate runs: wants crates/bulwynef_c/out/libbulwynef_c.a, which `rt lib` makes there
+    run.py --cases FOLDER      also each case N of a folder with N.args, N.stdin, N.stdout and N.status
+    run.py --sanitize          also with AddressSanitizer and UndefinedBehaviorSanitizer on the C side
+    run.py --valgrind          also the scene and the refusals under valgrind
+    run.py --archive           only puts the archive and heap.c into c/out/libbulwynef.a
+
+Ends with 1 where something differs.
+"""
+
+import argparse
+import os
+import shutil
+import subprocess
+import sys
+
+TOP = os.path.dirname(os.path.dirname(os.path.abspath(__file__)))
+HERE = f"{TOP}/c"
+OUT = f"{HERE}/out"
+BUILT = f"{TOP}/crates/bulwynef_c/out/libbulwynef_c.a"
+EXAMPLES = "answer equivocation exchange hidden_entry second_key silence spreading status_equivocation two_witnesses wrong_output".split()
+SECOND = [sys.executable, f"{TOP}/second_opinion/check.py"]
+WARNINGS = ["-Wall", "-Wextra", "-Werror"]
+# How many words each command has beside --relay
+COUNTS = {"status": 1, "merge": 1, "check": 1, "prove": 2}
+
+
+def build(name, compiler, *flags):
+    """A program of c/test.c over the archive as Rattle built it; the test has a heap of its own."""
+    program = f"{OUT}/{name}"
+    subprocess.run([*compiler, *WARNINGS, *flags, "-o", program, f"{HERE}/test.c", "-x", "none", BUILT], check=True)
+    return program
+
+
+def archive():
+    """c/out/libbulwynef.a: what Rattle built, and heap.c, in one file."""
+    subprocess.run(["cc", "-std=c11", "-O2", "-fPIC", *WARNINGS, "-c", "-o", f"{OUT}/heap.o", f"{HERE}/heap.c"], check=True)
+    shutil.copy(BUILT, f"{OUT}/libbulwynef.a")
+    subprocess.run(["ar", "r", f"{OUT}/libbulwynef.a", f"{OUT}/heap.o"], check=True, stderr=subprocess.DEVNULL)
+
+
+def said(words, given):
+    ran = subprocess.run(words, input=given.encode("latin-1"), capture_output=True, timeout=300)
+    return ran.returncode, ran.stdout.decode("latin-1"), ran.stderr.decode("latin-1")
+
+
+def read(path):
+    with open(path, encoding="latin-1", newline="") as file:
+        return file.read()
+
+
+def differs_on_example(program, name):
+    """What the program says of an example otherwise than the second opinion: of each node, and by a proof of each that is exposed."""
+    text = read(f"{TOP}/examples/{name}.txt")
+    wanted = [said([*SECOND, "--store", "-"], text)[1], " ".join(said([*SECOND, "-"], text)[2].split()[:2]) + "\n"]
+    found = [said([program, what], text)[1] for what in ("status", "check")]
+    for node in [line.split()[0] for line in wanted[0].splitlines() if line.endswith(" exposed")]:
+        wanted.append(f"exposes {node}\n")
+        found.append(said([*SECOND, "-"], text.splitlines()[0] + "\n" + said([program, "prove", node], text)[1])[1])
+    return [f"{name}: {one!r} and not {other!r}" for one, other in zip(found, wanted) if one != other]
+
+
+def differs_on_case(program, folder, name):
+    words = read(f"{folder}/{name}.args").split()
+    if len([word for word in words if word != "--relay"]) != COUNTS.get(words[0] if words else ""):
+        return None
+    given, *wanted = (read(f"{folder}/{name}.{part}") for part in ("stdin", "status", "stdout", "stderr"))
+    status, text, _ = said([program, *words], given)
+    if wanted[0].strip() != "0":
+        return (status, text) != (1, " ".join(wanted[2].split()[:2]) + "\n")
+    if words[0] == "prove" and wanted[1] != "none\n":
+        relay = [word for word in words if word.startswith("-")]
+        return said([program, "check", *relay], given.split("\n")[0] + "\n" + text)[1] != f"exposes {words[1]}\n"
+    return (status, text) != (0, wanted[1])
+
+
+def differs_on_cases(program, folder):
+    names = sorted(file.removesuffix(".args") for file in os.listdir(folder) if file.endswith(".args"))
+    told = {name: differs_on_case(program, folder, name) for name in names}
+    wrong = [name for name, differs in told.items() if differs]
+    tried = sum(differs is not None for differs in told.values())
+    print(f"{tried} cases of {folder}, {len(wrong)} differ: {' '.join(wrong[:20])}")
+    return 0 if tried and not wrong else 1
+
+
+def main():
+    parser = argparse.ArgumentParser(description=__doc__, formatter_class=argparse.RawDescriptionHelpFormatter)
+    parser.add_argument("--cases")
+    parser.add_argument("--sanitize", action="store_true")
+    parser.add_argument("--valgrind", action="store_true")
+    parser.add_argument("--archive", action="store_true")
+    words = parser.parse_args()
+    if not os.path.exists(BUILT):
+        sys.exit(f"{BUILT} is not there: `rt lib` in crates/bulwynef_c makes it")
+    os.makedirs(OUT, exist_ok=True)
+    archive()
+    if words.archive:
+        return 0
+    program = build("test", ["cc", "-std=c11"], "-O2")
+    programs = [program, build("test_cpp", ["g++", "-x", "c++"], "-O2")]
+    if words.sanitize:
+        programs.append(build("test_san", ["cc", "-std=c11"], "-O1", "-g", "-fsanitize=address,undefined", "-fno-sanitize-recover=all"))
+    runs = [[each, what] for each in programs for what in ("self", "fails")]
+    if words.valgrind:
+        runs.append(["valgrind", "--quiet", "--leak-check=full", "--error-exitcode=9", program, "self"])
+    wrong = sum(subprocess.run(run).returncode != 0 for run in runs)
+    for line in [line for name in EXAMPLES for line in differs_on_example(program, name)]:
+        print(line)
+        wrong += 1
+    if words.cases:
+        wrong += differs_on_cases(program, words.cases)
+    print(f"c: {len(runs)} runs and {len(EXAMPLES)} examples, {wrong} wrong")
+    return 1 if wrong else 0
+
+
+if __name__ == "__main__":
+    sys.exit(main())

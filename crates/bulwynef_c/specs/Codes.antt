@@ -1,0 +1,8 @@
+-- How what lies behind a handle is stored in a model.
+use Rattle.std.specs.Prelude.{Option}
+use Rattle.std.specs.Coded.{Coded, codes}
+use Rattle.evidence.specs.Contents.{items_code}
+use Rattle.bulwynef_c.specs.declared.object.Object.{Object}
+
+pub object_code : Coded (Option Object)
+object_code = Prim.hlevel (codes, items_code)

@@ -1,0 +1,246 @@
+//! Stores of evidence behind handles: what they are asked.
+
+ghost use Rattle.std.specs.Prelude.{◌≡◌, ◌⊎◌, ⊤, IfErr, IfOk, None, Some, false, is_some, true};
+ghost use Rattle.evidence_set.specs.Exports.{export_of};
+ghost use Rattle.byte_calls.specs.declared.refusal.Refusal.TheVariants.{Memory, NotExposed, OtherKind};
+ghost use Rattle.byte_calls.specs.Stores.{IsUnansweredAt};
+ghost use Rattle.bulwynef_c.specs.Calls.{ChallengeFails, ConvictsBy, Includes, Indicates, IndicationFails, ProofFails, flag, number_of};
+ghost use Rattle.bulwynef_c.specs.Handles.{Is, IsStore, IsText, PairRefuses, Says, SaysOfTwo, StoreRefuses, StoresStand};
+
+use crate::handle::Handle;
+use crate::object::Object;
+use crate::of_program::{mailbox_store, relay_store, tally_store};
+use crate::taking::{put, taken, told};
+use byte_calls::{Refusal, stores};
+use evidence::Evidence;
+use evidence_set::Indication;
+use std::alloc::Global;
+
+fn number(indication: Indication) -> u8
+    ensures { result ≡ number_of indication }
+{
+    match indication {
+        Indication::Trusted => 0,
+        Indication::Suspected => 1,
+        Indication::Exposed => 2,
+    }
+}
+
+/// The number of an indication: 0 trusted, 1 suspected, 2 exposed.
+fn indicated(object: &Object, node: u32) -> Result<u8, Refusal>
+    ensures told { IfOk result (λ n. IsStore (λ S p s. Indicates node n p s) object.now) }
+    ensures refused { IfErr result (λ f. StoreRefuses (λ S p s e. IndicationFails node s e) object.now f) }
+{
+    let indication = match object {
+        Object::TallyStore(store) => stores::indication(store, node)?,
+        Object::RelayStore(store) => stores::indication(store, node)?,
+        Object::MailboxStore(store) => stores::indication(store, node)?,
+        _ => return Err(Refusal::OtherKind),
+    };
+    Ok(number(indication))
+}
+
+/// `uint8_t bulwynef_store_indication(struct bulwynef_handle *store, uint32_t node, uint8_t *indication)`: 0 trusted, 1 suspected,
+/// 2 exposed.
+#[unsafe(no_mangle)]
+pub extern "C" fn bulwynef_store_indication(
+    alloc: Global,
+    store: &mut Handle,
+    node: u32,
+    indication: &mut u8,
+) -> u8
+    ensures told { result ≡ 0 → Is (IsStore (λ S p s. Indicates node indication.new p s)) store.old.value }
+    ensures number { (result ≡ 0 → ⊥) → Says (StoreRefuses (λ S p s e. IndicationFails node s e)) store.old.value result }
+    ensures unchanged { store.new.value ≡ store.old.value }
+{
+    let Some(object) = taken(alloc, store) else {
+        return told(Refusal::Closed);
+    };
+    let answer = indicated(&object, node);
+    *store = Handle::of(object);
+    match answer {
+        Ok(n) => {
+            *indication = n;
+            0
+        }
+        Err(refusal) => told(refusal),
+    }
+}
+
+/// Whether the store has each item of the other one.
+fn included(object: &Object, other: &Object) -> Result<bool, Refusal>
+    ensures told { IfOk result (λ b. StoresStand (Includes (flag b)) object.now other.now) }
+    ensures refused { IfErr result (λ f. PairRefuses (λ s o e. ⊥) object.now other.now f) }
+{
+    match object {
+        Object::TallyStore(store) => Ok(store.includes(tally_store(other)?)),
+        Object::RelayStore(store) => Ok(store.includes(relay_store(other)?)),
+        Object::MailboxStore(store) => Ok(store.includes(mailbox_store(other)?)),
+        _ => Err(Refusal::OtherKind),
+    }
+}
+
+/// `uint8_t bulwynef_store_includes(struct bulwynef_handle *store, struct bulwynef_handle *other, uint8_t *includes)`: 1 where each item
+/// of the other store is in the store, else 0.
+#[unsafe(no_mangle)]
+pub extern "C" fn bulwynef_store_includes(
+    alloc: Global,
+    store: &mut Handle,
+    other: &mut Handle,
+    includes: &mut u8,
+) -> u8
+    ensures told { result ≡ 0 → Is (λ o. Is (λ x. StoresStand (Includes includes.new) x o) store.old.value) other.old.value }
+    ensures number { (result ≡ 0 → ⊥) → SaysOfTwo (PairRefuses (λ s o e. ⊥)) store.old.value other.old.value result }
+    ensures unchanged { store.new.value ≡ store.old.value }
+    ensures other { other.new.value ≡ other.old.value }
+{
+    let Some(object) = taken(alloc, store) else {
+        return told(Refusal::Closed);
+    };
+    let Some(lent) = taken(alloc, other) else {
+        *store = Handle::of(object);
+        return told(Refusal::Closed);
+    };
+    let answer = included(&object, &lent);
+    *store = Handle::of(object);
+    *other = Handle::of(lent);
+    match answer {
+        Ok(all) => {
+            *includes = if all { 1 } else { 0 };
+            0
+        }
+        Err(refusal) => told(refusal),
+    }
+}
+
+/// The text of a store's items.
+fn exported(object: &Object) -> Result<Vec<u8>, Refusal>
+    ensures text { IfOk result (λ text. IsStore (λ S p s. text.items ≡ export_of s.items) object.now) }
+    ensures refused { IfErr result (λ f. StoreRefuses (λ S p s e. e ≡ Memory) object.now f) }
+{
+    match object {
+        Object::TallyStore(store) => stores::export(store),
+        Object::RelayStore(store) => stores::export(store),
+        Object::MailboxStore(store) => stores::export(store),
+        _ => Err(Refusal::OtherKind),
+    }
+}
+
+/// `uint8_t bulwynef_store_export(struct bulwynef_handle *store, struct bulwynef_handle *text)`: the one text of the store's items, `PRSTORE2`.
+#[unsafe(no_mangle)]
+pub extern "C" fn bulwynef_store_export(alloc: Global, store: &mut Handle, text: &mut Handle) -> u8
+    ensures text { result ≡ 0 → Is (λ x. Is (IsText (λ t. IsStore (λ S p s. t ≡ export_of s.items) x)) text.new.value) store.old.value }
+    ensures still_open { is_some text.old.value ≡ true → result ≡ 114 }
+    ensures number { is_some text.old.value ≡ false → (result ≡ 0 → ⊥) → (result ≡ 99) ⊎ Says (StoreRefuses (λ S p s e. e ≡ Memory)) store.old.value result }
+    ensures refused { (result ≡ 0 → ⊥) → text.new.value ≡ text.old.value }
+    ensures store { store.new.value ≡ store.old.value }
+{
+    if text.is_open() {
+        return told(Refusal::StillOpen);
+    }
+    let Some(object) = taken(alloc, store) else {
+        return told(Refusal::Closed);
+    };
+    let answer = exported(&object);
+    *store = Handle::of(object);
+    match answer {
+        Ok(bytes) => put(alloc, text, Object::Text(bytes)),
+        Err(refusal) => told(refusal),
+    }
+}
+
+/// The text of a proof, or that there is none.
+fn convicting(text: Option<Vec<u8>>) -> Result<Vec<u8>, Refusal>
+    ensures some { IfOk result (λ t. text ≡ Some t) }
+    ensures none { IfErr result (λ f. (f ≡ NotExposed) × (text ≡ None)) }
+{
+    match text {
+        Some(text) => Ok(text),
+        None => Err(Refusal::NotExposed),
+    }
+}
+
+/// The text of a proof against the node.
+fn proof_of(alloc: Global, object: &Object, node: u32) -> Result<Vec<u8>, Refusal>
+    ensures convicts { IfOk result (λ text. IsStore (λ S p s. ConvictsBy node text.items p s) object.now) }
+    ensures refused { IfErr result (λ f. StoreRefuses (λ S p s e. ProofFails node p s e) object.now f) }
+{
+    match object {
+        Object::TallyStore(store) => convicting(stores::proof(alloc, store, node)?),
+        Object::RelayStore(store) => convicting(stores::proof(alloc, store, node)?),
+        Object::MailboxStore(store) => convicting(stores::proof(alloc, store, node)?),
+        _ => Err(Refusal::OtherKind),
+    }
+}
+
+/// `uint8_t bulwynef_store_proof(struct bulwynef_handle *store, uint32_t node, struct bulwynef_handle *text)`: a proof that convicts the node, where the
+/// items expose it; 115 where they do not.
+#[unsafe(no_mangle)]
+pub extern "C" fn bulwynef_store_proof(
+    alloc: Global,
+    store: &mut Handle,
+    node: u32,
+    text: &mut Handle,
+) -> u8
+    ensures text { result ≡ 0 → Is (λ x. Is (IsText (λ t. IsStore (λ S p s. ConvictsBy node t p s) x)) text.new.value) store.old.value }
+    ensures still_open { is_some text.old.value ≡ true → result ≡ 114 }
+    ensures number { is_some text.old.value ≡ false → (result ≡ 0 → ⊥) → (result ≡ 99) ⊎ Says (StoreRefuses (λ S p s e. ProofFails node p s e)) store.old.value result }
+    ensures refused { (result ≡ 0 → ⊥) → text.new.value ≡ text.old.value }
+    ensures store { store.new.value ≡ store.old.value }
+{
+    if text.is_open() {
+        return told(Refusal::StillOpen);
+    }
+    let Some(object) = taken(alloc, store) else {
+        return told(Refusal::Closed);
+    };
+    let answer = proof_of(alloc, &object, node);
+    *store = Handle::of(object);
+    match answer {
+        Ok(bytes) => put(alloc, text, Object::Text(bytes)),
+        Err(refusal) => told(refusal),
+    }
+}
+
+/// The text of an open challenge.
+fn challenge_of(alloc: Global, object: &Object, node: u32, place: usize) -> Result<Vec<u8>, Refusal>
+    ensures text { IfOk result (λ text. IsStore (λ S p s. IsUnansweredAt s node place text.items) object.now) }
+    ensures refused { IfErr result (λ f. StoreRefuses (λ S p s e. ChallengeFails node place s e) object.now f) }
+{
+    match object {
+        Object::TallyStore(store) => stores::challenge(alloc, store, node, place),
+        Object::RelayStore(store) => stores::challenge(alloc, store, node, place),
+        Object::MailboxStore(store) => stores::challenge(alloc, store, node, place),
+        _ => Err(Refusal::OtherKind),
+    }
+}
+
+/// `uint8_t bulwynef_store_challenge(struct bulwynef_handle *store, uint32_t node, size_t place, struct bulwynef_handle *text)`: the
+/// challenge at the place, from 0, of those against the node that no item answers; 116 where there are fewer.
+#[unsafe(no_mangle)]
+pub extern "C" fn bulwynef_store_challenge(
+    alloc: Global,
+    store: &mut Handle,
+    node: u32,
+    place: usize,
+    text: &mut Handle,
+) -> u8
+    ensures text { result ≡ 0 → Is (λ x. Is (IsText (λ t. IsStore (λ S p s. IsUnansweredAt s node place t) x)) text.new.value) store.old.value }
+    ensures still_open { is_some text.old.value ≡ true → result ≡ 114 }
+    ensures number { is_some text.old.value ≡ false → (result ≡ 0 → ⊥) → (result ≡ 99) ⊎ Says (StoreRefuses (λ S p s e. ChallengeFails node place s e)) store.old.value result }
+    ensures refused { (result ≡ 0 → ⊥) → text.new.value ≡ text.old.value }
+    ensures store { store.new.value ≡ store.old.value }
+{
+    if text.is_open() {
+        return told(Refusal::StillOpen);
+    }
+    let Some(object) = taken(alloc, store) else {
+        return told(Refusal::Closed);
+    };
+    let answer = challenge_of(alloc, &object, node, place);
+    *store = Handle::of(object);
+    match answer {
+        Ok(bytes) => put(alloc, text, Object::Text(bytes)),
+        Err(refusal) => told(refusal),
+    }
+}

@@ -1,0 +1,20 @@
+//! The calls of the library for programs in C and other languages, as a static library, by the header `c/bulwynef.h`.
+//!
+//! Stores, nodes and texts lie behind handles ([`handle::Handle`], [`object::Object`]). Each export takes what lies behind a handle
+//! out, calls a function of `byte_calls` or of a library, and puts it back; its contract says what lies there before and after, in the
+//! words of that function, and which refusal comes. No export has a `requires`. `specs/Handles.antt` has what is said of handles.
+#![tactic(auto)]
+
+mod asking;
+mod checking;
+pub mod handle;
+mod keys;
+mod loose;
+mod messages;
+mod nodes;
+pub mod object;
+mod of_program;
+mod stores;
+mod taking;
+mod texts;
+mod transfers;

@@ -1,0 +1,182 @@
+//! Nodes behind handles: what they say to one another and to witnesses.
+
+ghost use Rattle.std.specs.Prelude.{◌≡◌, ◌⊎◌, IfErr, IfOk, Ok, OnErr, OnOk, false, is_some, true};
+ghost use Rattle.outcome.specs.Outcome.{Fails};
+ghost use Rattle.item_forms.specs.Spelling.{spelling};
+ghost use Rattle.byte_calls.specs.declared.refusal.Refusal.TheVariants.{Memory};
+ghost use Rattle.byte_calls.specs.Nodes.{RefusesReply, Replies, accepted};
+ghost use Rattle.bulwynef_c.specs.Calls.{Answers, AnswerFails, Sends, SendFails, Waits, WaitFails};
+ghost use Rattle.bulwynef_c.specs.Handles.{Both, Is, IsNode, IsText, NodeBecomes, NodeRefuses, Says};
+
+use crate::handle::Handle;
+use crate::object::Object;
+use crate::taking::{put, taken, told};
+use byte_calls::{Refusal, nodes};
+use item_forms::Item;
+use mailbox::Mailbox;
+use ref_programs::{Relay, Tally};
+use std::alloc::Global;
+
+fn waiting(object: &Object, place: usize) -> Result<u64, Refusal>
+    ensures told { IfOk result (λ seq. IsNode (λ S p n. Waits place seq n) object.now) }
+    ensures refused { IfErr result (λ f. NodeRefuses (λ S p n e. WaitFails place n e) object.now f) }
+{
+    match object {
+        Object::TallyNode(node) => nodes::waiting(node, place),
+        Object::RelayNode(node) => nodes::waiting(node, place),
+        Object::MailboxNode(node) => nodes::waiting(node, place),
+        _ => Err(Refusal::OtherKind),
+    }
+}
+
+/// `uint8_t bulwynef_node_waiting(struct bulwynef_handle *node, size_t place, uint64_t *seq)`: the number of the message that waits for
+/// its acknowledgement at the place, from 0; 116 where fewer wait.
+#[unsafe(no_mangle)]
+pub extern "C" fn bulwynef_node_waiting(
+    alloc: Global,
+    node: &mut Handle,
+    place: usize,
+    seq: &mut u64,
+) -> u8
+    ensures told { result ≡ 0 → Is (IsNode (λ S p n. Waits place seq.new n)) node.old.value }
+    ensures number { (result ≡ 0 → ⊥) → Says (NodeRefuses (λ S p n e. WaitFails place n e)) node.old.value result }
+    ensures unchanged { node.new.value ≡ node.old.value }
+{
+    let Some(object) = taken(alloc, node) else {
+        return told(Refusal::Closed);
+    };
+    let answer = waiting(&object, place);
+    *node = Handle::of(object);
+    match answer {
+        Ok(found) => {
+            *seq = found;
+            0
+        }
+        Err(refusal) => told(refusal),
+    }
+}
+
+fn message_text(alloc: Global, object: &Object, seq: u64) -> Result<Vec<u8>, Refusal>
+    ensures text { IfOk result (λ text. IsNode (λ S p n. Sends seq text.items n) object.now) }
+    ensures refused { IfErr result (λ f. NodeRefuses (λ S p n e. SendFails seq n e) object.now f) }
+{
+    match object {
+        Object::TallyNode(node) => nodes::message(alloc, node, seq),
+        Object::RelayNode(node) => nodes::message(alloc, node, seq),
+        Object::MailboxNode(node) => nodes::message(alloc, node, seq),
+        _ => Err(Refusal::OtherKind),
+    }
+}
+
+/// `uint8_t bulwynef_node_message(struct bulwynef_handle *node, uint64_t seq, struct bulwynef_handle *text)`: a message that the node
+/// sent, as a challenge to acknowledge it (an item of tag 4).
+#[unsafe(no_mangle)]
+pub extern "C" fn bulwynef_node_message(
+    alloc: Global,
+    node: &mut Handle,
+    seq: u64,
+    text: &mut Handle,
+) -> u8
+    ensures text { result ≡ 0 → Is (λ x. Is (IsText (λ t. IsNode (λ S p n. Sends seq t n) x)) text.new.value) node.old.value }
+    ensures still_open { is_some text.old.value ≡ true → result ≡ 114 }
+    ensures number { is_some text.old.value ≡ false → (result ≡ 0 → ⊥) → (result ≡ 99) ⊎ Says (NodeRefuses (λ S p n e. SendFails seq n e)) node.old.value result }
+    ensures refused { (result ≡ 0 → ⊥) → text.new.value ≡ text.old.value }
+    ensures node { node.new.value ≡ node.old.value }
+{
+    if text.is_open() {
+        return told(Refusal::StillOpen);
+    }
+    let Some(object) = taken(alloc, node) else {
+        return told(Refusal::Closed);
+    };
+    let answer = message_text(alloc, &object, seq);
+    *node = Handle::of(object);
+    match answer {
+        Ok(bytes) => put(alloc, text, Object::Text(bytes)),
+        Err(refusal) => told(refusal),
+    }
+}
+
+fn reply(
+    alloc: Global,
+    object: &mut Object,
+    challenge: &[u8],
+    entropy: &[u8],
+) -> Result<Item, Refusal>
+    ensures answered { IfOk result (λ item. NodeBecomes (λ S p n m. Replies p challenge.now entropy.now item.fields n m) object.old object.new) }
+    ensures refused { IfErr result (λ f. NodeRefuses (λ S p n e. AnswerFails challenge.now entropy.now p n e) object.old f) }
+    ensures unchanged { OnErr result (object.new ≡ object.old) }
+{
+    match object {
+        Object::TallyNode(node) => nodes::answer(alloc, node, &Tally, challenge, entropy),
+        Object::RelayNode(node) => nodes::answer(alloc, node, &Relay, challenge, entropy),
+        Object::MailboxNode(node) => nodes::answer(alloc, node, &Mailbox, challenge, entropy),
+        _ => Err(Refusal::OtherKind),
+    }
+}
+
+/// `uint8_t bulwynef_node_answer(struct bulwynef_handle *node, const uint8_t *challenge, size_t challenge_len, const uint8_t *entropy,
+/// size_t entropy_len, struct bulwynef_handle *text)`: to a message, its acknowledgement (an item of tag 5); to an audit, a segment (tag
+/// 2). Where memory ran out for the text alone (99) the node has answered, and the same call again gives the same answer.
+#[unsafe(no_mangle)]
+pub extern "C" fn bulwynef_node_answer(
+    alloc: Global,
+    node: &mut Handle,
+    challenge: &[u8],
+    entropy: &[u8],
+    text: &mut Handle,
+) -> u8
+    ensures answered { result ≡ 0 → Is (IsText (λ t. Both (NodeBecomes (λ S p n m. Answers challenge.now entropy.now t p n m)) node.old.value node.new.value)) text.new.value }
+    ensures still_open { is_some text.old.value ≡ true → result ≡ 114 }
+    ensures number { is_some text.old.value ≡ false → (result ≡ 0 → ⊥) → (result ≡ 99) ⊎ Says (NodeRefuses (λ S p n e. AnswerFails challenge.now entropy.now p n e)) node.old.value result }
+    ensures kept { (result ≡ 0 → ⊥) → (result ≡ 99 → ⊥) → node.new.value ≡ node.old.value }
+    ensures refused { (result ≡ 0 → ⊥) → text.new.value ≡ text.old.value }
+{
+    if text.is_open() {
+        return told(Refusal::StillOpen);
+    }
+    let Some(mut object) = taken(alloc, node) else {
+        return told(Refusal::Closed);
+    };
+    let answer = reply(alloc, &mut object, challenge, entropy);
+    *node = Handle::of(object);
+    match answer {
+        Ok(item) => match item.encode(alloc) {
+            Ok(bytes) => put(alloc, text, Object::Text(bytes)),
+            Err(_) => 99,
+        },
+        Err(refusal) => told(refusal),
+    }
+}
+
+fn accept(alloc: Global, object: &mut Object, ack: &[u8]) -> Result<(), Refusal>
+    ensures done { OnOk result (NodeBecomes (λ S p n m. accepted n ack.now ≡ Ok m) object.old object.new) }
+    ensures refused { IfErr result (λ f. NodeRefuses (λ S p n e. Fails Memory e (accepted n ack.now)) object.old f) }
+    ensures unchanged { OnErr result (object.new ≡ object.old) }
+{
+    match object {
+        Object::TallyNode(node) => nodes::accept(alloc, node, ack),
+        Object::RelayNode(node) => nodes::accept(alloc, node, ack),
+        Object::MailboxNode(node) => nodes::accept(alloc, node, ack),
+        _ => Err(Refusal::OtherKind),
+    }
+}
+
+/// `uint8_t bulwynef_node_accept_ack(struct bulwynef_handle *node, const uint8_t *ack, size_t ack_len)`: accepts an acknowledgement
+/// (an item of tag 5): its message waits no longer.
+#[unsafe(no_mangle)]
+pub extern "C" fn bulwynef_node_accept_ack(alloc: Global, node: &mut Handle, ack: &[u8]) -> u8
+    ensures done { result ≡ 0 → Both (NodeBecomes (λ S p n m. accepted n ack.now ≡ Ok m)) node.old.value node.new.value }
+    ensures number { (result ≡ 0 → ⊥) → Says (NodeRefuses (λ S p n e. Fails Memory e (accepted n ack.now))) node.old.value result }
+    ensures refused { (result ≡ 0 → ⊥) → node.new.value ≡ node.old.value }
+{
+    let Some(mut object) = taken(alloc, node) else {
+        return told(Refusal::Closed);
+    };
+    let answer = accept(alloc, &mut object, ack);
+    *node = Handle::of(object);
+    match answer {
+        Ok(()) => 0,
+        Err(refusal) => told(refusal),
+    }
+}

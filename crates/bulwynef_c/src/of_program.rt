@@ -1,0 +1,45 @@
+//! Stores of one program.
+
+ghost use Rattle.std.specs.Prelude.{◌≡◌, ⊤, IfErr, IfOk};
+ghost use Rattle.byte_calls.specs.declared.refusal.Refusal.TheVariants.{OtherKind};
+ghost use Rattle.bulwynef_c.specs.declared.object.Object.TheVariants as kind;
+ghost use Rattle.bulwynef_c.specs.Handles.{IsMailboxStore, IsRelayStore, IsTallyStore};
+
+use crate::object::Object;
+use byte_calls::Refusal;
+use indexed_store::IndexedStore;
+use mailbox::Mailbox;
+use ref_programs::{Relay, Tally};
+
+/// The store, where it is one of Tally.
+pub(crate) fn tally_store(object: &Object) -> Result<&IndexedStore<Tally>, Refusal>
+    ensures store { IfOk result (λ s. object.now ≡ kind.TallyStore s.now) }
+    ensures other { IfErr result (λ f. (f ≡ OtherKind) × (IsTallyStore (λ s. ⊤) object.now → ⊥)) }
+{
+    match object {
+        Object::TallyStore(store) => Ok(store),
+        _ => Err(Refusal::OtherKind),
+    }
+}
+
+/// The store, where it is one of Relay.
+pub(crate) fn relay_store(object: &Object) -> Result<&IndexedStore<Relay>, Refusal>
+    ensures store { IfOk result (λ s. object.now ≡ kind.RelayStore s.now) }
+    ensures other { IfErr result (λ f. (f ≡ OtherKind) × (IsRelayStore (λ s. ⊤) object.now → ⊥)) }
+{
+    match object {
+        Object::RelayStore(store) => Ok(store),
+        _ => Err(Refusal::OtherKind),
+    }
+}
+
+/// The store, where it is one of Mailbox.
+pub(crate) fn mailbox_store(object: &Object) -> Result<&IndexedStore<Mailbox>, Refusal>
+    ensures store { IfOk result (λ s. object.now ≡ kind.MailboxStore s.now) }
+    ensures other { IfErr result (λ f. (f ≡ OtherKind) × (IsMailboxStore (λ s. ⊤) object.now → ⊥)) }
+{
+    match object {
+        Object::MailboxStore(store) => Ok(store),
+        _ => Err(Refusal::OtherKind),
+    }
+}

@@ -1,0 +1,193 @@
+//! Stores of evidence behind handles: what is handed to them.
+
+ghost use Rattle.std.specs.Prelude.{◌≡◌, ◌⊎◌, ⊤, IfErr, IfOk, OnErr, Ok, false, is_some, true};
+ghost use Rattle.evidence.specs.Contents.{Contents};
+ghost use Rattle.byte_calls.specs.declared.refusal.Refusal.{Refusal as TheRefusal};
+ghost use Rattle.byte_calls.specs.declared.refusal.Refusal.TheVariants.{OtherKind};
+ghost use Rattle.byte_calls.specs.Refusals.{number_of as refusal_number};
+ghost use Rattle.byte_calls.specs.Stores.{opened};
+ghost use Rattle.bulwynef_c.specs.Calls.{ImportFails, IsStoreOf, Joins, MergeFails, Merges, OpenFails, TakeFails, TakesItem, flag};
+ghost use Rattle.bulwynef_c.specs.Handles.{Both, Is, PairRefuses, Says, SaysOfTwo, StoreBecomes, StoreRefuses, StoreTakesOf};
+
+use crate::handle::Handle;
+use crate::object::Object;
+use crate::of_program::{mailbox_store, relay_store, tally_store};
+use crate::taking::{put, taken, told};
+use byte_calls::{Refusal, stores};
+use mailbox::Mailbox;
+use ref_programs::{Relay, Tally};
+use std::alloc::Global;
+
+/// A store of the program.
+fn object_of(alloc: Global, program: u8, directory: &[u8]) -> Result<Object, Refusal>
+    ensures made { IfOk result (λ x. (s : Contents) × (opened directory.now ≡ Ok s) × IsStoreOf program s x) }
+    ensures refused { IfErr result (λ f. OpenFails program directory.now f) }
+{
+    match program {
+        1 => {
+            let store = stores::open(alloc, directory)?;
+            Ok(Object::TallyStore(store))
+        }
+        2 => {
+            let store = stores::open(alloc, directory)?;
+            Ok(Object::RelayStore(store))
+        }
+        3 => {
+            let store = stores::open(alloc, directory)?;
+            Ok(Object::MailboxStore(store))
+        }
+        _ => Err(Refusal::BadProgram),
+    }
+}
+
+/// `uint8_t bulwynef_store_open(uint8_t program, const uint8_t *directory, size_t directory_len, struct bulwynef_handle *store)`: a
+/// store without items, under the directory of the text, of nodes that follow the program (1 Tally, 2 Relay, 3 Mailbox).
+#[unsafe(no_mangle)]
+pub extern "C" fn bulwynef_store_open(
+    alloc: Global,
+    program: u8,
+    directory: &[u8],
+    store: &mut Handle,
+) -> u8
+    ensures opened { result ≡ 0 → (s : Contents) × (opened directory.now ≡ Ok s) × Is (IsStoreOf program s) store.new.value }
+    ensures still_open { is_some store.old.value ≡ true → result ≡ 114 }
+    ensures number { is_some store.old.value ≡ false → (result ≡ 0 → ⊥) → (result ≡ 99) ⊎ ((f : TheRefusal) × (result ≡ refusal_number f) × OpenFails program directory.now f) }
+    ensures refused { (result ≡ 0 → ⊥) → store.new.value ≡ store.old.value }
+{
+    if store.is_open() {
+        return told(Refusal::StillOpen);
+    }
+    match object_of(alloc, program, directory) {
+        Ok(object) => put(alloc, store, object),
+        Err(refusal) => told(refusal),
+    }
+}
+
+/// Adds the items of a store's text.
+fn import_into(object: &mut Object, text: &[u8]) -> Result<u64, Refusal>
+    ensures joined { IfOk result (λ new. StoreBecomes (Joins text.now new) object.old object.new) }
+    ensures refused { IfErr result (λ f. StoreRefuses (λ S p s e. ImportFails text.now s e) object.old f) }
+    ensures unchanged { OnErr result (object.new ≡ object.old) }
+{
+    match object {
+        Object::TallyStore(store) => stores::import(store, &Tally, text),
+        Object::RelayStore(store) => stores::import(store, &Relay, text),
+        Object::MailboxStore(store) => stores::import(store, &Mailbox, text),
+        _ => Err(Refusal::OtherKind),
+    }
+}
+
+/// `uint8_t bulwynef_store_import(struct bulwynef_handle *store, const uint8_t *text, size_t text_len, uint64_t *added)`: adds the items
+/// of a store's export, all or none.
+#[unsafe(no_mangle)]
+pub extern "C" fn bulwynef_store_import(
+    alloc: Global,
+    store: &mut Handle,
+    text: &[u8],
+    added: &mut u64,
+) -> u8
+    ensures joined { result ≡ 0 → Both (StoreBecomes (Joins text.now added.new)) store.old.value store.new.value }
+    ensures number { (result ≡ 0 → ⊥) → Says (StoreRefuses (λ S p s e. ImportFails text.now s e)) store.old.value result }
+    ensures refused { (result ≡ 0 → ⊥) → store.new.value ≡ store.old.value }
+{
+    let Some(mut object) = taken(alloc, store) else {
+        return told(Refusal::Closed);
+    };
+    let answer = import_into(&mut object, text);
+    *store = Handle::of(object);
+    match answer {
+        Ok(new) => {
+            *added = new;
+            0
+        }
+        Err(refusal) => told(refusal),
+    }
+}
+
+/// Adds the item of a text.
+fn take_into(alloc: Global, object: &mut Object, text: &[u8]) -> Result<bool, Refusal>
+    ensures taken { IfOk result (λ new. StoreBecomes (TakesItem text.now (flag new)) object.old object.new) }
+    ensures refused { IfErr result (λ f. StoreRefuses (λ S p s e. TakeFails text.now s e) object.old f) }
+    ensures unchanged { OnErr result (object.new ≡ object.old) }
+{
+    match object {
+        Object::TallyStore(store) => stores::take(alloc, store, &Tally, text),
+        Object::RelayStore(store) => stores::take(alloc, store, &Relay, text),
+        Object::MailboxStore(store) => stores::take(alloc, store, &Mailbox, text),
+        _ => Err(Refusal::OtherKind),
+    }
+}
+
+/// `uint8_t bulwynef_store_take(struct bulwynef_handle *store, const uint8_t *item, size_t item_len, uint8_t *is_new)`: adds an item,
+/// and tells whether it is new (1) or was there (0).
+#[unsafe(no_mangle)]
+pub extern "C" fn bulwynef_store_take(
+    alloc: Global,
+    store: &mut Handle,
+    item: &[u8],
+    is_new: &mut u8,
+) -> u8
+    ensures taken { result ≡ 0 → Both (StoreBecomes (TakesItem item.now is_new.new)) store.old.value store.new.value }
+    ensures number { (result ≡ 0 → ⊥) → Says (StoreRefuses (λ S p s e. TakeFails item.now s e)) store.old.value result }
+    ensures refused { (result ≡ 0 → ⊥) → store.new.value ≡ store.old.value }
+{
+    let Some(mut object) = taken(alloc, store) else {
+        return told(Refusal::Closed);
+    };
+    let answer = take_into(alloc, &mut object, item);
+    *store = Handle::of(object);
+    match answer {
+        Ok(new) => {
+            *is_new = if new { 1 } else { 0 };
+            0
+        }
+        Err(refusal) => told(refusal),
+    }
+}
+
+/// Adds the items of another store of the same program.
+fn merge_into(object: &mut Object, other: &Object) -> Result<u64, Refusal>
+    ensures merged { IfOk result (λ new. StoreTakesOf (Merges new) other.now object.old object.new) }
+    ensures refused { IfErr result (λ f. PairRefuses MergeFails object.old other.now f) }
+    ensures unchanged { OnErr result (object.new ≡ object.old) }
+{
+    match object {
+        Object::TallyStore(store) => stores::merge(store, tally_store(other)?),
+        Object::RelayStore(store) => stores::merge(store, relay_store(other)?),
+        Object::MailboxStore(store) => stores::merge(store, mailbox_store(other)?),
+        _ => Err(Refusal::OtherKind),
+    }
+}
+
+/// `uint8_t bulwynef_store_merge(struct bulwynef_handle *store, struct bulwynef_handle *other, uint64_t *added)`: adds the items of
+/// another store under the same directory, all or none.
+#[unsafe(no_mangle)]
+pub extern "C" fn bulwynef_store_merge(
+    alloc: Global,
+    store: &mut Handle,
+    other: &mut Handle,
+    added: &mut u64,
+) -> u8
+    ensures merged { result ≡ 0 → Is (λ o. Both (StoreTakesOf (Merges added.new) o) store.old.value store.new.value) other.old.value }
+    ensures number { (result ≡ 0 → ⊥) → SaysOfTwo (PairRefuses MergeFails) store.old.value other.old.value result }
+    ensures refused { (result ≡ 0 → ⊥) → store.new.value ≡ store.old.value }
+    ensures other { other.new.value ≡ other.old.value }
+{
+    let Some(mut object) = taken(alloc, store) else {
+        return told(Refusal::Closed);
+    };
+    let Some(lent) = taken(alloc, other) else {
+        *store = Handle::of(object);
+        return told(Refusal::Closed);
+    };
+    let answer = merge_into(&mut object, &lent);
+    *store = Handle::of(object);
+    *other = Handle::of(lent);
+    match answer {
+        Ok(new) => {
+            *added = new;
+            0
+        }
+        Err(refusal) => told(refusal),
+    }
+}

@@ -1,0 +1,213 @@
+//! What stores behind handles give one another.
+
+ghost use Rattle.std.specs.Prelude.{◌≡◌, ◌⊎◌, IfErr, IfOk, Ok, OnErr, false, is_some, true};
+ghost use Rattle.outcome.specs.Outcome.{Fails};
+ghost use Rattle.transfer.specs.Digests.{outline_of};
+ghost use Rattle.transfer.specs.Summaries.{whole_summary};
+ghost use Rattle.transfer.specs.SummaryTexts.{outline_text, summary_text};
+ghost use Rattle.byte_calls.specs.declared.refusal.Refusal.TheVariants.{Memory};
+ghost use Rattle.byte_calls.specs.Transfers.{packed, shortened};
+ghost use Rattle.bulwynef_c.specs.Calls.{Applies, ApplyFails};
+ghost use Rattle.bulwynef_c.specs.Handles.{Both, Is, IsStore, IsText, Says, StoreBecomes, StoreRefuses};
+
+use crate::handle::Handle;
+use crate::object::Object;
+use crate::taking::{put, taken, told};
+use byte_calls::{Refusal, transfers};
+use mailbox::Mailbox;
+use ref_programs::{Relay, Tally};
+use std::alloc::Global;
+
+fn outlined(alloc: Global, object: &Object) -> Result<Vec<u8>, Refusal>
+    ensures text { IfOk result (λ text. IsStore (λ S p s. text.items ≡ outline_text (outline_of s.items)) object.now) }
+    ensures refused { IfErr result (λ f. StoreRefuses (λ S p s e. e ≡ Memory) object.now f) }
+{
+    match object {
+        Object::TallyStore(store) => transfers::outline(alloc, store),
+        Object::RelayStore(store) => transfers::outline(alloc, store),
+        Object::MailboxStore(store) => transfers::outline(alloc, store),
+        _ => Err(Refusal::OtherKind),
+    }
+}
+
+/// `uint8_t bulwynef_store_outline(struct bulwynef_handle *store, struct bulwynef_handle *text)`: the store's outline: the digest of
+/// each of its 256 buckets.
+#[unsafe(no_mangle)]
+pub extern "C" fn bulwynef_store_outline(alloc: Global, store: &mut Handle, text: &mut Handle) -> u8
+    ensures text { result ≡ 0 → Is (λ x. Is (IsText (λ t. IsStore (λ S p s. t ≡ outline_text (outline_of s.items)) x)) text.new.value) store.old.value }
+    ensures still_open { is_some text.old.value ≡ true → result ≡ 114 }
+    ensures number { is_some text.old.value ≡ false → (result ≡ 0 → ⊥) → (result ≡ 99) ⊎ Says (StoreRefuses (λ S p s e. e ≡ Memory)) store.old.value result }
+    ensures refused { (result ≡ 0 → ⊥) → text.new.value ≡ text.old.value }
+    ensures store { store.new.value ≡ store.old.value }
+{
+    if text.is_open() {
+        return told(Refusal::StillOpen);
+    }
+    let Some(object) = taken(alloc, store) else {
+        return told(Refusal::Closed);
+    };
+    let answer = outlined(alloc, &object);
+    *store = Handle::of(object);
+    match answer {
+        Ok(bytes) => put(alloc, text, Object::Text(bytes)),
+        Err(refusal) => told(refusal),
+    }
+}
+
+fn summed(alloc: Global, object: &Object) -> Result<Vec<u8>, Refusal>
+    ensures text { IfOk result (λ text. IsStore (λ S p s. text.items ≡ summary_text (whole_summary s.items)) object.now) }
+    ensures refused { IfErr result (λ f. StoreRefuses (λ S p s e. e ≡ Memory) object.now f) }
+{
+    match object {
+        Object::TallyStore(store) => transfers::summary(alloc, store),
+        Object::RelayStore(store) => transfers::summary(alloc, store),
+        Object::MailboxStore(store) => transfers::summary(alloc, store),
+        _ => Err(Refusal::OtherKind),
+    }
+}
+
+/// `uint8_t bulwynef_store_summary(struct bulwynef_handle *store, struct bulwynef_handle *text)`: the summary that lists all of the
+/// store's items.
+#[unsafe(no_mangle)]
+pub extern "C" fn bulwynef_store_summary(alloc: Global, store: &mut Handle, text: &mut Handle) -> u8
+    ensures text { result ≡ 0 → Is (λ x. Is (IsText (λ t. IsStore (λ S p s. t ≡ summary_text (whole_summary s.items)) x)) text.new.value) store.old.value }
+    ensures still_open { is_some text.old.value ≡ true → result ≡ 114 }
+    ensures number { is_some text.old.value ≡ false → (result ≡ 0 → ⊥) → (result ≡ 99) ⊎ Says (StoreRefuses (λ S p s e. e ≡ Memory)) store.old.value result }
+    ensures refused { (result ≡ 0 → ⊥) → text.new.value ≡ text.old.value }
+    ensures store { store.new.value ≡ store.old.value }
+{
+    if text.is_open() {
+        return told(Refusal::StillOpen);
+    }
+    let Some(object) = taken(alloc, store) else {
+        return told(Refusal::Closed);
+    };
+    let answer = summed(alloc, &object);
+    *store = Handle::of(object);
+    match answer {
+        Ok(bytes) => put(alloc, text, Object::Text(bytes)),
+        Err(refusal) => told(refusal),
+    }
+}
+
+fn shortened_by(alloc: Global, object: &Object, outline: &[u8]) -> Result<Vec<u8>, Refusal>
+    ensures text { IfOk result (λ text. IsStore (λ S p s. shortened s.items outline.now ≡ Ok text.items) object.now) }
+    ensures refused { IfErr result (λ f. StoreRefuses (λ S p s e. Fails Memory e (shortened s.items outline.now)) object.now f) }
+{
+    match object {
+        Object::TallyStore(store) => transfers::short_summary(alloc, store, outline),
+        Object::RelayStore(store) => transfers::short_summary(alloc, store, outline),
+        Object::MailboxStore(store) => transfers::short_summary(alloc, store, outline),
+        _ => Err(Refusal::OtherKind),
+    }
+}
+
+/// `uint8_t bulwynef_store_short_summary(struct bulwynef_handle *store, const uint8_t *outline, size_t outline_len, struct
+/// bulwynef_handle *text)`: the store's summary against another one's outline.
+#[unsafe(no_mangle)]
+pub extern "C" fn bulwynef_store_short_summary(
+    alloc: Global,
+    store: &mut Handle,
+    outline: &[u8],
+    text: &mut Handle,
+) -> u8
+    ensures text { result ≡ 0 → Is (λ x. Is (IsText (λ t. IsStore (λ S p s. shortened s.items outline.now ≡ Ok t) x)) text.new.value) store.old.value }
+    ensures still_open { is_some text.old.value ≡ true → result ≡ 114 }
+    ensures number { is_some text.old.value ≡ false → (result ≡ 0 → ⊥) → (result ≡ 99) ⊎ Says (StoreRefuses (λ S p s e. Fails Memory e (shortened s.items outline.now))) store.old.value result }
+    ensures refused { (result ≡ 0 → ⊥) → text.new.value ≡ text.old.value }
+    ensures store { store.new.value ≡ store.old.value }
+{
+    if text.is_open() {
+        return told(Refusal::StillOpen);
+    }
+    let Some(object) = taken(alloc, store) else {
+        return told(Refusal::Closed);
+    };
+    let answer = shortened_by(alloc, &object, outline);
+    *store = Handle::of(object);
+    match answer {
+        Ok(bytes) => put(alloc, text, Object::Text(bytes)),
+        Err(refusal) => told(refusal),
+    }
+}
+
+fn packed_by(alloc: Global, object: &Object, summary: &[u8]) -> Result<Vec<u8>, Refusal>
+    ensures text { IfOk result (λ text. IsStore (λ S p s. packed s.items summary.now ≡ Ok text.items) object.now) }
+    ensures refused { IfErr result (λ f. StoreRefuses (λ S p s e. Fails Memory e (packed s.items summary.now)) object.now f) }
+{
+    match object {
+        Object::TallyStore(store) => transfers::pack(alloc, store, summary),
+        Object::RelayStore(store) => transfers::pack(alloc, store, summary),
+        Object::MailboxStore(store) => transfers::pack(alloc, store, summary),
+        _ => Err(Refusal::OtherKind),
+    }
+}
+
+/// `uint8_t bulwynef_store_pack(struct bulwynef_handle *store, const uint8_t *summary, size_t summary_len, struct
+/// bulwynef_handle *text)`: what another one's summary does not name of the store.
+#[unsafe(no_mangle)]
+pub extern "C" fn bulwynef_store_pack(
+    alloc: Global,
+    store: &mut Handle,
+    summary: &[u8],
+    text: &mut Handle,
+) -> u8
+    ensures text { result ≡ 0 → Is (λ x. Is (IsText (λ t. IsStore (λ S p s. packed s.items summary.now ≡ Ok t) x)) text.new.value) store.old.value }
+    ensures still_open { is_some text.old.value ≡ true → result ≡ 114 }
+    ensures number { is_some text.old.value ≡ false → (result ≡ 0 → ⊥) → (result ≡ 99) ⊎ Says (StoreRefuses (λ S p s e. Fails Memory e (packed s.items summary.now))) store.old.value result }
+    ensures refused { (result ≡ 0 → ⊥) → text.new.value ≡ text.old.value }
+    ensures store { store.new.value ≡ store.old.value }
+{
+    if text.is_open() {
+        return told(Refusal::StillOpen);
+    }
+    let Some(object) = taken(alloc, store) else {
+        return told(Refusal::Closed);
+    };
+    let answer = packed_by(alloc, &object, summary);
+    *store = Handle::of(object);
+    match answer {
+        Ok(bytes) => put(alloc, text, Object::Text(bytes)),
+        Err(refusal) => told(refusal),
+    }
+}
+
+fn apply_to(alloc: Global, object: &mut Object, pack: &[u8]) -> Result<u64, Refusal>
+    ensures joined { IfOk result (λ new. StoreBecomes (Applies pack.now new) object.old object.new) }
+    ensures refused { IfErr result (λ f. StoreRefuses (λ S p s e. ApplyFails pack.now s e) object.old f) }
+    ensures unchanged { OnErr result (object.new ≡ object.old) }
+{
+    match object {
+        Object::TallyStore(store) => transfers::apply(alloc, store, &Tally, pack),
+        Object::RelayStore(store) => transfers::apply(alloc, store, &Relay, pack),
+        Object::MailboxStore(store) => transfers::apply(alloc, store, &Mailbox, pack),
+        _ => Err(Refusal::OtherKind),
+    }
+}
+
+/// `uint8_t bulwynef_store_apply(struct bulwynef_handle *store, const uint8_t *pack, size_t pack_len, uint64_t *added)`: adds the items of
+/// a pack, all or none.
+#[unsafe(no_mangle)]
+pub extern "C" fn bulwynef_store_apply(
+    alloc: Global,
+    store: &mut Handle,
+    pack: &[u8],
+    added: &mut u64,
+) -> u8
+    ensures joined { result ≡ 0 → Both (StoreBecomes (Applies pack.now added.new)) store.old.value store.new.value }
+    ensures number { (result ≡ 0 → ⊥) → Says (StoreRefuses (λ S p s e. ApplyFails pack.now s e)) store.old.value result }
+    ensures refused { (result ≡ 0 → ⊥) → store.new.value ≡ store.old.value }
+{
+    let Some(mut object) = taken(alloc, store) else {
+        return told(Refusal::Closed);
+    };
+    let answer = apply_to(alloc, &mut object, pack);
+    *store = Handle::of(object);
+    match answer {
+        Ok(new) => {
+            *added = new;
+            0
+        }
+        Err(refusal) => told(refusal),
+    }
+}

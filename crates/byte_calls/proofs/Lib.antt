@@ -1,0 +1,4 @@
+pub mod Checked
+pub mod Replied
+pub mod TakenItems
+pub mod Unanswered

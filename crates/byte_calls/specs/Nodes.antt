@@ -1,0 +1,97 @@
+-- Nodes, by the texts and numbers that are handed to them.
+use Rattle.std.specs.Prelude.{◌≡◌, ◌⊎◌, ◌==◌, ℕ, nat_lt, List, length, Option, None, Some, Result, Ok, Err, if◌then◌else◌}
+use Rattle.outcome.specs.Outcome.{◌>>=◌, told_as}
+use Rattle.lms_sign.specs.Parameters.{height, lms_type_of, ots_type_of}
+use Rattle.lms_sign.specs.Signing.{PrivateKey, new_key, public_key}
+use Rattle.lms_sign.specs.KeyText.{key_text}
+use Rattle.authenticators.specs.Directory.{keys_at}
+use Rattle.authenticators.specs.DirectoryText.{directory_of}
+use Rattle.replay_verifier.specs.Meaning.{Meaning}
+use Rattle.commitment.specs.declared.message.Ack.{Ack}
+use Rattle.commitment.specs.declared.message.Message.{Message}
+use Rattle.commitment.specs.Nodes.{NodeState, accepts, begins_by, new_node, ticked}
+use Rattle.item_forms.specs.declared.forms.Fields.{Fields}
+use Rattle.item_forms.specs.declared.forms.Fields.TheVariants as form
+use Rattle.item_forms.specs.Reading.{item_of}
+use Rattle.evidence_item.specs.Validity.{IsValid}
+use Rattle.evidence_set.specs.Challenges.{Answers}
+use Rattle.challenges.specs.declared.fault.AnswerFault.{AnswerFault}
+use Rattle.challenges.specs.Answers.{IsAnswered, IsRefused}
+use Rattle.byte_calls.specs.declared.refusal.Refusal.{Refusal}
+use Rattle.byte_calls.specs.declared.refusal.Refusal.TheVariants as refusal
+use Rattle.byte_calls.specs.Refusals.{of_answering, of_beginning, of_directory, of_node, of_reading}
+use Rattle.byte_calls.specs.Stores.{valid_item_of}
+
+-- What there is, or the refusal where there is nothing.
+abbrev pub known : {A : Type 0} → Refusal → Option A → Result A Refusal
+known f None = Err f
+known f (Some x) = Ok x
+
+-- Bytes that have to be so many.
+abbrev pub of_length : ℕ → List ℕ → Result (List ℕ) Refusal
+of_length n bytes = if length bytes == n then Ok bytes else Err refusal.WrongLength
+
+-- ---- keys
+
+-- The key of two typecodes, an identifier and a seed (RFC 8554, sections 4.1, 5.1 and appendix A). Trees above a height of 10 are not made.
+unfoldable pub key_of : ℕ → ℕ → List ℕ → List ℕ → Result PrivateKey Refusal
+key_of lms ots id seed = do
+  tree ← known refusal.UnknownLmsType (lms_type_of lms)
+  leaf ← known refusal.UnknownOtsType (ots_type_of ots)
+  name ← of_length 16 id
+  secret ← of_length 32 seed
+  if nat_lt 10 (height tree) then Err refusal.HeightTooLarge else Ok (new_key tree leaf name secret)
+
+-- Its public key, as text.
+unfoldable pub key_text_of : ℕ → ℕ → List ℕ → List ℕ → Result (List ℕ) Refusal
+key_text_of lms ots id seed = do
+  key ← key_of lms ots id seed
+  Ok (key_text (public_key key))
+
+-- ---- what a node does
+
+-- The node that begins under the directory of a text.
+unfoldable pub begun : {S : Type 0} → Meaning S → List ℕ → ℕ → ℕ → PrivateKey → Result (NodeState S) Refusal
+begun program text id first key = do
+  directory ← told_as of_directory (directory_of text)
+  ring ← told_as of_beginning (begins_by (keys_at directory id) key)
+  Ok (new_node program directory id ring first)
+
+-- The node once its timer has ticked.
+unfoldable pub ticked_by : {S : Type 0} → Meaning S → NodeState S → ℕ → List ℕ → Result (NodeState S) Refusal
+ticked_by program n moment entropy = do
+  bytes ← of_length 32 entropy
+  done ← told_as of_node (ticked program n moment bytes)
+  Ok done.0
+
+-- The acknowledgement that an item holds.
+abbrev pub ack_in : Fields → Result Ack Refusal
+ack_in (form.Auth a) = Err refusal.BadTag
+ack_in (form.Segment s) = Err refusal.BadTag
+ack_in (form.Audit c) = Err refusal.BadTag
+ack_in (form.Send m) = Err refusal.BadTag
+ack_in (form.Ack a) = Ok (record { from = a.message.to; send_seq = a.message.seq; seq = a.seq; prev = a.prev; sig = a.sig })
+
+-- The node once the acknowledgement of a text is accepted.
+unfoldable pub accepted : {S : Type 0} → NodeState S → List ℕ → Result (NodeState S) Refusal
+accepted n text = do
+  item ← told_as of_reading (item_of text)
+  ack ← ack_in item
+  told_as of_node (accepts n ack)
+
+-- A valid challenge was answered: by a valid item that answers it, and as the node answers.
+pub record Replies {S : Type 0} (program : Meaning S) (challenge entropy : List ℕ) (item : Fields) (old new : NodeState S) : Type 0 where
+  pub asked : Fields
+  pub bytes : List ℕ
+  pub sent : List Message
+  pub is_asked : valid_item_of old.directory challenge ≡ Ok asked
+  pub are_bytes : of_length 32 entropy ≡ Ok bytes
+  pub valid : IsValid old.directory item
+  pub answers : Answers old.directory asked item
+  pub done : IsAnswered program old asked bytes new item sent
+
+-- Why the challenge of a text is not answered: for the entropy's length, for the text or its item, or as a node refuses.
+abbrev pub RefusesReply : {S : Type 0} → Meaning S → List ℕ → List ℕ → NodeState S → Refusal → Type 0
+RefusesReply program challenge entropy n f =
+    (of_length 32 entropy ≡ Err f) ⊎ (valid_item_of n.directory challenge ≡ Err f)
+    ⊎ ((asked : Fields) × (bytes : List ℕ) × (e : AnswerFault) × (valid_item_of n.directory challenge ≡ Ok asked) × (of_length 32 entropy ≡ Ok bytes) × IsRefused program n asked bytes e × (f ≡ of_answering e))

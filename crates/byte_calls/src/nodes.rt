@@ -1,0 +1,255 @@
+//! Nodes: what is handed to them, and what they answer, as texts and numbers.
+
+ghost use Rattle.std.specs.Prelude.{◌≡◌, ◌⊎◌, IfErr, IfOk, List, None, OnErr, Some, nat_eq, slice_get};
+ghost use Rattle.std.specs.Map.{lookup};
+ghost use Rattle.outcome.specs.Outcome.{Fails, Gives, Leaves, told_as};
+ghost use Rattle.evidence_item.specs.Checking.{IsChecked};
+ghost use Rattle.evidence_item.specs.Validity.{IsValid};
+ghost use Rattle.evidence_set.specs.Challenges.{Answers};
+ghost use Rattle.challenges.specs.Answers.{IsAnswered, IsRefused};
+ghost use Rattle.challenges.specs.declared.fault.AnswerFault.{AnswerFault as TheAnswerFault};
+ghost use Rattle.item_forms.specs.declared.forms.Fields.TheVariants as form;
+ghost use Rattle.item_forms.specs.Spelling.{Fits, spelling};
+ghost use Rattle.commitment.specs.declared.message.Message.{Message as TheMessage};
+ghost use Rattle.commitment.specs.Nodes.{checkpointed, rekeyed};
+ghost use Rattle.byte_calls.specs.declared.refusal.Refusal.TheVariants.{Memory, OutOfRange, TooLong, WrongKey};
+ghost use Rattle.byte_calls.specs.Nodes.{Replies, RefusesReply, accepted, ack_in, begun, key_of, key_text_of, known, of_length, ticked_by};
+ghost use Rattle.byte_calls.specs.Refusals.{of_answering, of_node};
+
+use crate::refusal::Refusal;
+use crate::stores::read_item;
+use authenticators::{Directory, NodeId};
+use challenges::answer as answer_challenge;
+use commitment::{Ack, Node};
+use evidence_item::Checked;
+use item_forms::{AckItem, Fields, Item};
+use lms_sign::{LmsType, OtsType, SecretKey};
+use replay_verifier::Program;
+use std::alloc::Global;
+
+/// Bytes that have to be 32.
+fn seed_of(bytes: &[u8]) -> Result<[u8; 32], Refusal>
+    ensures { Gives Memory (λ seed. seed) result (of_length 32 bytes.now) }
+{
+    match <[u8; 32]>::try_from(bytes) {
+        Ok(seed) => Ok(seed),
+        Err(_) => Err(Refusal::WrongLength),
+    }
+}
+
+/// Bytes that have to be 16.
+fn key_id_of(bytes: &[u8]) -> Result<[u8; 16], Refusal>
+    ensures { Gives Memory (λ id. id) result (of_length 16 bytes.now) }
+{
+    match <[u8; 16]>::try_from(bytes) {
+        Ok(id) => Ok(id),
+        Err(_) => Err(Refusal::WrongLength),
+    }
+}
+
+/// The key of two typecodes (RFC 8554, sections 4.1 and 5.1), an identifier of 16 bytes and a seed of 32; no leaf of it has signed. It is
+/// refused, in this order, with `UnknownLmsType` (2), `UnknownOtsType` (3), `WrongLength` (117), and `HeightTooLarge` (4).
+#[tactic(auto, unfolding(crate::specs::Nodes::key_of))]
+pub fn secret_key(
+    alloc: Global,
+    lms_type: u32,
+    ots_type: u32,
+    id: &[u8],
+    seed: &[u8],
+) -> Result<SecretKey, Refusal>
+    ensures { Gives Memory (λ key. key) result (key_of lms_type ots_type id.now seed.now) }
+{
+    let Some(lms_type) = LmsType::from_typecode(lms_type) else {
+        return Err(Refusal::UnknownLmsType);
+    };
+    let Some(ots_type) = OtsType::from_typecode(ots_type) else {
+        return Err(Refusal::UnknownOtsType);
+    };
+    let id = key_id_of(id)?;
+    let seed = seed_of(seed)?;
+    if lms_type.height() > 10 {
+        return Err(Refusal::HeightTooLarge);
+    }
+    match SecretKey::make(alloc, lms_type, ots_type, id, seed) {
+        Ok(key) => Ok(key),
+        Err(_) => Err(Refusal::Memory),
+    }
+}
+
+/// The 56 bytes of the public key of such a key. Refused as [`secret_key`].
+#[tactic(auto, unfolding(crate::specs::Nodes::key_text_of))]
+pub fn public_key(
+    alloc: Global,
+    lms_type: u32,
+    ots_type: u32,
+    id: &[u8],
+    seed: &[u8],
+) -> Result<[u8; 56], Refusal>
+    ensures { Gives Memory (λ key. key) result (key_text_of lms_type ots_type id.now seed.now) }
+{
+    let key = secret_key(alloc, lms_type, ots_type, id, seed)?;
+    Ok(key.public_key().to_bytes())
+}
+
+/// Begins node `id` of the directory of a text: its log has INIT with the number `first_seq`. It is refused as the text is (2, 3, 20 to
+/// 26), then with `NodeNotListed` (30) and `WrongKey` (31).
+#[tactic(auto, unfolding(crate::specs::Nodes::begun))]
+pub fn begin<P: Program + Drop>(
+    alloc: Global,
+    program: P,
+    directory: &[u8],
+    id: u32,
+    first_seq: u64,
+    key: SecretKey,
+) -> Result<Node<P>, Refusal>
+    ensures { Gives Memory (λ node. node) result (begun P.means directory.now id first_seq key) }
+{
+    let directory = Directory::from_bytes(alloc, directory)?;
+    match Node::new(alloc, program, directory, NodeId(id), key, first_seq) {
+        Ok(node) => Ok(node),
+        Err(refused) => Err(Refusal::from(refused.fault)),
+    }
+}
+
+/// Ticks the node's timer. What the node sends waits in it ([`waiting`], [`message`]). `entropy` is 32 random bytes, fresh for each call.
+/// Refused with `WrongLength` (117), `KeySpent` (36) and `LogFull` (37).
+#[tactic(auto, unfolding(crate::specs::Nodes::ticked_by))]
+pub fn tick<P: Program + Drop>(
+    node: &mut Node<P>,
+    moment: u64,
+    entropy: &[u8],
+) -> Result<(), Refusal>
+    ensures { Leaves Memory result node.old node.new (ticked_by P.means node.old moment entropy.now) }
+{
+    let entropy = seed_of(entropy)?;
+    let _messages = node.timer(moment, entropy)?;
+    Ok(())
+}
+
+/// Logs a checkpoint, and answers its number. Refused with `LogFull` (37).
+pub fn checkpoint<P: Program + Drop>(node: &mut Node<P>) -> Result<u64, Refusal>
+    ensures done { IfOk result (λ seq. checkpointed P.means node.old ≡ Ok (node.new, seq)) }
+    ensures refused { IfErr result (λ f. Fails Memory f (told_as of_node (checkpointed P.means node.old))) }
+    ensures unchanged { OnErr result (node.new ≡ node.old) }
+{
+    let seq = node.checkpoint()?;
+    Ok(seq)
+}
+
+/// Signs by this key from now on. Refused with `WrongKey` (31).
+pub fn next_key<P: Program + Drop>(node: &mut Node<P>, key: SecretKey) -> Result<(), Refusal>
+    ensures { Leaves Memory result node.old node.new (known WrongKey (rekeyed node.old key)) }
+{
+    match node.next_key(key) {
+        Ok(()) => Ok(()),
+        Err(_) => Err(Refusal::WrongKey),
+    }
+}
+
+/// The number of the message that waits for its acknowledgement at the place, from 0. `OutOfRange` (116) where fewer wait.
+pub fn waiting<P: Program + Drop>(node: &Node<P>, place: usize) -> Result<u64, Refusal>
+    ensures told { IfOk result (λ seq. slice_get node.now.account.unacknowledged place ≡ Some seq) }
+    ensures refused { IfErr result (λ f. (f ≡ OutOfRange) × (slice_get node.now.account.unacknowledged place ≡ None)) }
+{
+    match node.unacknowledged().get(place) {
+        Some(seq) => Ok(*seq),
+        None => Err(Refusal::OutOfRange),
+    }
+}
+
+/// The text of a message that the node sent, as a challenge to acknowledge it. `OutOfRange` (116) where none has this number.
+pub fn message<P: Program + Drop>(
+    alloc: Global,
+    node: &Node<P>,
+    seq: u64,
+) -> Result<Vec<u8>, Refusal>
+    ensures text { IfOk result (λ text. (m : TheMessage) × (lookup (nat_eq seq) node.now.account.sent ≡ Some m) × (text.items ≡ spelling (form.Send m))) }
+    ensures refused { IfErr result (λ f. (f ≡ Memory) ⊎ ((f ≡ OutOfRange) × (lookup (nat_eq seq) node.now.account.sent ≡ None)) ⊎ ((f ≡ TooLong) × ((m : TheMessage) × (lookup (nat_eq seq) node.now.account.sent ≡ Some m) × ¬ (Fits (form.Send m))))) }
+{
+    let Some(message) = node.message(seq) else {
+        return Err(Refusal::OutOfRange);
+    };
+    let copy = message.try_clone(alloc)?;
+    let Ok(item) = Item::send(copy) else {
+        return Err(Refusal::TooLong);
+    };
+    let text = item.encode(alloc)?;
+    Ok(text)
+}
+
+/// What the node answers to a checked challenge.
+fn reply<P: Program + Drop>(
+    alloc: Global,
+    node: &mut Node<P>,
+    challenge: &Checked<P>,
+    entropy: [u8; 32],
+) -> Result<Item, Refusal>
+    requires { IsChecked node.old.directory P.means challenge.now }
+    ensures done { IfOk result (λ item. (sent : List TheMessage) × IsAnswered P.means node.old challenge.now.item.fields entropy node.new item.fields sent) }
+    ensures valid { IfOk result (λ item. IsValid node.old.directory item.fields) }
+    ensures answers { IfOk result (λ item. Answers node.old.directory challenge.now.item.fields item.fields) }
+    ensures refused { IfErr result (λ f. (e : TheAnswerFault) × IsRefused P.means node.old challenge.now.item.fields entropy e × (f ≡ of_answering e)) }
+    ensures unchanged { OnErr result (node.new ≡ node.old) }
+{
+    match answer_challenge(alloc, node, challenge, entropy) {
+        Ok(answer) => Ok(answer.item),
+        Err(fault) => Err(Refusal::from(fault)),
+    }
+}
+
+/// Answers the challenge of a text by an item that closes it: a message by its acknowledgement, an audit by a segment of the log. The
+/// same message again has the same acknowledgement. Refused with `WrongLength` (117), as the text and its item are (40 to 49), and as a
+/// node refuses to answer (70 to 72, 36, 37).
+pub fn answer<P: Program + Drop>(
+    alloc: Global,
+    node: &mut Node<P>,
+    program: &P,
+    challenge: &[u8],
+    entropy: &[u8],
+) -> Result<Item, Refusal>
+    ensures answered { IfOk result (λ item. Replies P.means challenge.now entropy.now item.fields node.old node.new) }
+    ensures refused { IfErr result (λ f. (f ≡ Memory) ⊎ RefusesReply P.means challenge.now entropy.now node.old f) }
+    ensures unchanged { OnErr result (node.new ≡ node.old) }
+{
+    let entropy = seed_of(entropy)?;
+    let checked = read_item(alloc, program, node.directory(), challenge)?;
+    reply(alloc, node, &checked, entropy)
+}
+
+/// The acknowledgement that an item holds.
+fn ack_of(item: Item) -> Result<Ack, Refusal>
+    ensures { Gives Memory (λ ack. ack) result (ack_in item.fields) }
+{
+    let Fields::Ack(item) = item.into_fields() else {
+        return Err(Refusal::BadTag);
+    };
+    let AckItem {
+        message,
+        seq,
+        prev,
+        sig,
+    } = item;
+    Ok(Ack {
+        from: message.to,
+        send_seq: message.seq,
+        seq,
+        prev,
+        sig,
+    })
+}
+
+/// Accepts the acknowledgement of a text: its message waits no longer. It is refused as the text is (40 to 43), with `BadTag` (41) where
+/// it is another item, and with `BadAck` (38).
+#[tactic(auto, unfolding(crate::specs::Nodes::accepted))]
+pub fn accept<P: Program + Drop>(
+    alloc: Global,
+    node: &mut Node<P>,
+    ack: &[u8],
+) -> Result<(), Refusal>
+    ensures { Leaves Memory result node.old node.new (accepted node.old ack.now) }
+{
+    let item = Item::decode(alloc, ack)?;
+    let ack = ack_of(item)?;
+    node.accept_ack(&ack)?;
+    Ok(())
+}

@@ -1,0 +1,183 @@
+"""What the processes of the network share: frames over TCP on loopback, links that lose, repeat, reorder and delay them, and the bytes of
+items."""
+
+import asyncio
+import hashlib
+import random
+import struct
+from collections import Counter
+
+HOST = "127.0.0.1"
+# What a frame asks for: a message or an audit answered, items taken, a message that nobody acknowledges taken, an outline, a pack against
+# a summary, a report, the export, an end
+ANSWER, TAKE, CHALLENGE, OUTLINE, PACK, REPORT, EXPORT, END = b"ATCOPRXE"
+LONGEST_FRAME = 1 << 28
+SEND, RECV = 2, 3
+# the tags of items
+AUTH, SEGMENT, AUDIT, MESSAGE, ACK = 1, 2, 3, 4, 5
+
+
+# ---- frames: a length in four bytes, a letter, and the rest
+
+
+async def read_frame(reader):
+    length = int.from_bytes(await reader.readexactly(4), "big")
+    if not 1 <= length <= LONGEST_FRAME:
+        raise ConnectionError("a frame has no such length")
+    return await reader.readexactly(length)
+
+
+def framed(body):
+    return len(body).to_bytes(4, "big") + body
+
+
+class Link:
+    """Asks others, over a network that loses, repeats, holds back and delays frames as it is told to. What is held back is overtaken. It
+    counts the bytes of frames by what they are for."""
+
+    def __init__(self, told):
+        self.random = random.Random(told["seed_of_link"])
+        self.lose, self.repeat, self.reorder, self.delay = (told[word] for word in ("lose", "repeat", "reorder", "delay"))
+        self.frames, self.lost, self.bytes = 0, 0, Counter()
+
+    async def ask(self, port, kind, body, purpose, wait=3.0):
+        """The reply; or None where a frame was lost, or nobody answers in time."""
+        again = self.random.random() < self.repeat
+        replies = await asyncio.gather(*(self.once(port, kind, body, purpose, wait) for _ in range(1 + again)))
+        return next((reply for reply in replies if reply is not None), None)
+
+    async def once(self, port, kind, body, purpose, wait):
+        held_back = 8 if self.random.random() < self.reorder else 1
+        await asyncio.sleep(self.random.random() * self.delay * held_back)
+        self.bytes[purpose] += 5 + len(body)
+        if self.is_lost():
+            return None
+        reply = await asked(port, kind, body, wait)
+        if reply is None:
+            return None
+        self.bytes[purpose] += 5 + len(reply)
+        return None if self.is_lost() else reply
+
+    def is_lost(self):
+        self.frames += 1
+        lost = self.random.random() < self.lose
+        self.lost += lost
+        return lost
+
+    def counts(self):
+        return {"frames": self.frames, "lost": self.lost, "bytes": dict(self.bytes)}
+
+
+async def asked(port, kind, body=b"", wait=5.0):
+    """A request and its reply over a connection of their own, with nothing lost on purpose."""
+    try:
+        reader, writer = await asyncio.wait_for(asyncio.open_connection(HOST, port), wait)
+    except (OSError, asyncio.TimeoutError):
+        return None
+    try:
+        writer.write(framed(bytes([kind]) + body))
+        return (await asyncio.wait_for(read_frame(reader), wait))[1:]
+    except (OSError, asyncio.TimeoutError, asyncio.IncompleteReadError):
+        return None
+    finally:
+        writer.close()
+
+
+async def serve(port, handle):
+    """Answers each frame by what `handle` gives for its letter and its rest, and none where it gives None."""
+
+    async def talk(reader, writer):
+        try:
+            frame = await read_frame(reader)
+            reply = handle(frame[0], frame[1:])
+            if reply is not None:
+                writer.write(framed(frame[:1] + reply))
+                await writer.drain()
+        except (OSError, asyncio.IncompleteReadError):
+            pass
+        finally:
+            writer.close()
+
+    return await asyncio.start_server(talk, HOST, port)
+
+
+# ---- items (docs/FORMATS.md): only what a process picks out of them; the library judges them
+
+
+def with_length(data):
+    return len(data).to_bytes(4, "big") + data
+
+
+def field(item, at):
+    """Bytes behind their length, and where they end."""
+    length = int.from_bytes(item[at : at + 4], "big")
+    return item[at + 4 : at + 4 + length], at + 4 + length
+
+
+def in_turn(data):
+    """The items of a frame, each behind its length."""
+    at = 0
+    while at < len(data):
+        item, at = field(data, at)
+        yield item
+
+
+def entry_hash(prev, seq, kind, content):
+    return hashlib.sha256(prev + struct.pack(">QB", seq, kind) + hashlib.sha256(content).digest()).digest()
+
+
+class Message:
+    """The fields of an item of tag 4 or 5."""
+
+    def __init__(self, item):
+        self.sender, self.receiver, self.seq = struct.unpack(">IIQ", item[1:17])
+        self.prev = item[17:49]
+        self.sig, at = field(item, 49)
+        self.payload, at = field(item, at)
+        if item[0] == ACK:
+            (self.ack_seq,) = struct.unpack(">Q", item[at : at + 8])
+            self.ack_prev = item[at + 8 : at + 40]
+            self.ack_sig, _ = field(item, at + 40)
+
+    @property
+    def name(self):
+        return self.sender, self.receiver, self.seq
+
+    def sent(self):
+        """The sender's statement: node, number, hash and signature."""
+        content = self.receiver.to_bytes(4, "big") + self.payload
+        return self.sender, self.seq, entry_hash(self.prev, self.seq, SEND, content), self.sig
+
+    def received(self):
+        """The receiver's statement, of an item of tag 5."""
+        content = struct.pack(">IQ", self.sender, self.seq) + self.prev + with_length(self.sig) + self.payload
+        return self.receiver, self.ack_seq, entry_hash(self.ack_prev, self.ack_seq, RECV, content), self.ack_sig
+
+
+def fields_of(statement):
+    _, seq, digest, sig = statement
+    return seq.to_bytes(8, "big") + digest + with_length(sig)
+
+
+def auth_item(statement):
+    return bytes([AUTH]) + statement[0].to_bytes(4, "big") + fields_of(statement)
+
+
+def statement_of(item):
+    """The statement of an item of tag 1."""
+    node, seq = struct.unpack(">IQ", item[1:13])
+    return node, seq, item[13:45], field(item, 45)[0]
+
+
+def audit_item(first, last):
+    """The demand for a node's log from one statement of its, or from the beginning, up to another."""
+    front = bytes([AUDIT]) + last[0].to_bytes(4, "big") + bytes([first is not None])
+    return front + (fields_of(first) if first else b"") + fields_of(last)
+
+
+def last_of_audit(item):
+    """The statement up to which an item of tag 3 asks for a log."""
+    node, at = int.from_bytes(item[1:5], "big"), 6
+    if item[5]:
+        _, at = field(item, at + 40)
+    return node, int.from_bytes(item[at : at + 8], "big"), item[at + 8 : at + 40], field(item, at + 40)[0]

@@ -1,0 +1,264 @@
+#!/usr/bin/env python3
+"""A network that runs: five mail relays and two witnesses, each a process of its own, over TCP on loopback.
+
+    run.py [--seconds N] [--faults drops=2,modifies=3,forks=4,silent=5] [--epochs N] [--kill] [--keep FOLDER]
+           [--lose P] [--repeat P] [--reorder P] [--delay S] [--seed N] [--mails N] [--w 4]
+
+Faults: `drops` acknowledges mails and goes on as if they had not come, `modifies` sends something else on, `forks` tells two histories,
+and `silent` answers nothing from a third of the time on; `--faults ""` has none. Each epoch has a directory and fresh nodes of its own;
+with --kill a witness is killed in the midst of each and started again. At the end of each epoch both witnesses must export the same
+bytes; each faulty relay must be exposed, or suspected where it is silent, and each other one trusted; and each proof must convince a
+process that has the directory and the proof alone, by the library, and second_opinion/check.py. Ends with 1 where that is not so.
+--keep leaves the directory and the export of each epoch as `mailbox_sim status` reads them. Needs the package of python/ (BULWYNEF_LIBRARY may
+name the shared library).
+"""
+
+import argparse
+import asyncio
+import hashlib
+import json
+import os
+import signal
+import socket
+import sys
+import tempfile
+import time
+from collections import Counter
+
+HERE = os.path.dirname(os.path.abspath(__file__))
+TOP = os.path.dirname(os.path.dirname(HERE))
+try:
+    import bulwynef
+except ImportError:
+    sys.path.insert(0, os.path.join(TOP, "python"))
+sys.path.insert(0, HERE)
+
+import protocol
+from bulwynef import Key, directory
+
+RELAYS, WITNESSES, KEEPER = range(1, 6), 2, 1
+MOST_SECONDS = 1800
+WANTED = {"drops": "exposed", "modifies": "exposed", "forks": "exposed", "silent": "suspected"}
+H10, TYPES_OF_W = 6, {1: 1, 2: 2, 4: 3, 8: 4}
+# The keeper signs some four times for a mail, and a key of H10 signs 1,024 times.
+KEYS = {KEEPER: 4}
+CHECK = "import sys; from bulwynef import Program, check_proof; print(check_proof(*map(bytes.fromhex, sys.stdin.read().split()), Program.MAILBOX))"
+SECOND = [os.path.join(TOP, "second_opinion", "check.py"), "--program", "mailbox", "-"]
+
+
+def free_ports(count):
+    """Ports that nobody listens to now."""
+    sockets = [socket.socket() for _ in range(count)]
+    for it in sockets:
+        it.bind((protocol.HOST, 0))
+    ports = [it.getsockname()[1] for it in sockets]
+    for it in sockets:
+        it.close()
+    return ports
+
+
+def environment():
+    return {**os.environ, "PYTHONPATH": os.pathsep.join(it for it in sys.path if it)}
+
+
+async def started(script, told):
+    """A process that has begun to listen. It is told what it is by its standard input, so no seed stands in a command line."""
+    words = [sys.executable, os.path.join(HERE, script)]
+    process = await asyncio.create_subprocess_exec(*words, stdin=asyncio.subprocess.PIPE, stdout=asyncio.subprocess.PIPE, env=environment())
+    process.stdin.write(json.dumps(told).encode())
+    await process.stdin.drain()
+    process.stdin.close()
+    line = await asyncio.wait_for(process.stdout.readline(), 120)
+    if line != b"ready\n":
+        raise RuntimeError(f"{script} did not begin")
+    return process
+
+
+async def said_by(words, given):
+    """What a process writes to what it is given."""
+    pipe = asyncio.subprocess.PIPE
+    process = await asyncio.create_subprocess_exec(sys.executable, *words, stdin=pipe, stdout=pipe, env=environment())
+    said, _ = await process.communicate(given.encode())
+    return said.decode().strip()
+
+
+class Epoch:
+    """One directory, fresh relays, and the witnesses' evidence of them."""
+
+    def __init__(self, words, number, folder):
+        self.words, self.number, self.folder = words, number, folder
+        self.keys = {node: [Key.new(H10, TYPES_OF_W[words.w]) for _ in range(KEYS.get(node, 1))] for node in RELAYS}
+        self.listed = directory({node: [key.public() for key in keys] for node, keys in self.keys.items()})
+        ports = free_ports(len(RELAYS) + WITNESSES)
+        self.relay_ports, self.witness_ports = dict(zip(RELAYS, ports)), ports[len(RELAYS) :]
+        self.relays, self.witnesses, self.wrong = {}, {}, []
+
+    # ---- processes
+
+    def told(self, who):
+        """What each process is told."""
+        words = self.words
+        told = {word: getattr(words, word) for word in ("lose", "repeat", "reorder", "delay", "seconds")}
+        return {**told, "seed_of_link": words.seed * 1000 + self.number * 100 + who, "directory": self.listed.hex(), "ports": self.relay_ports}
+
+    async def start_relay(self, node):
+        senders = len(RELAYS) - 1
+        keys = [(key.key_id.hex(), key.seed.hex(), key.lms_type, key.ots_type) for key in self.keys[node]]
+        told = {"me": node, "keys": keys, "witnesses": self.witness_ports, "fault": self.words.faults.get(node)}
+        told |= {"most_mails": self.words.mails // senders, "every": max(0.2, self.words.seconds * senders / self.words.mails)}
+        self.relays[node] = await started("relay.py", self.told(node) | told)
+
+    async def start_witness(self, which):
+        kept = os.path.join(self.folder, f"epoch{self.number}.witness{which}")
+        told = {"port": self.witness_ports[which], "other": self.witness_ports[1 - which], "kept": kept}
+        self.witnesses[which] = await started("witness.py", self.told(10 + which) | told)
+
+    async def kill_one(self):
+        """A witness dies, and is started again: it takes its export up where it wrote it down last."""
+        process = self.witnesses[0]
+        process.send_signal(signal.SIGKILL)
+        await process.wait()
+        await asyncio.sleep(1)
+        await self.start_witness(0)
+        print(f"epoch {self.number}: a witness was killed and started again", flush=True)
+
+    async def end(self):
+        for port in [*self.relay_ports.values(), *self.witness_ports]:
+            await protocol.asked(port, protocol.END, wait=3)
+        for process in [*self.relays.values(), *self.witnesses.values()]:
+            try:
+                await asyncio.wait_for(process.wait(), 10)
+            except asyncio.TimeoutError:
+                process.kill()
+                await process.wait()
+
+    # ---- what is said
+
+    async def report(self, port):
+        reply = await protocol.asked(port, protocol.REPORT, wait=20)
+        return json.loads(reply) if reply else None
+
+    async def reports(self, ports):
+        return await asyncio.gather(*(self.report(port) for port in ports))
+
+    async def live(self):
+        """Both witnesses and all relays at work, with a line every other second."""
+        await asyncio.gather(*(self.start_witness(which) for which in range(WITNESSES)), *(self.start_relay(node) for node in RELAYS))
+        began, is_killed = time.monotonic(), not self.words.kill
+        while time.monotonic() - began < self.words.seconds:
+            await asyncio.sleep(2)
+            if not is_killed and time.monotonic() - began > self.words.seconds / 2:
+                is_killed = True
+                await self.kill_one()
+            await self.tell(time.monotonic() - began)
+
+    async def tell(self, age):
+        told, *relays = await self.reports([self.witness_ports[1], *self.relay_ports.values()])
+        if told:
+            mails = sum(it["mails"] for it in relays if it)
+            said = "  ".join(f"{node} {what}" for node, what in told["said"].items())
+            print(f"epoch {self.number} {age:5.0f} s {mails:5} mails {told['taken']:6} items   {said}", flush=True)
+
+    async def settled(self):
+        """The reports and exports of both witnesses, once these are equal and say what they should; or the last ones, after a while."""
+        until, found = time.monotonic() + 90, ([None], [None])
+        while time.monotonic() < until:
+            reports = await self.reports(self.witness_ports)
+            exports = await asyncio.gather(*(protocol.asked(port, protocol.EXPORT, wait=20) for port in self.witness_ports))
+            found = reports, exports
+            if all(reports) and exports[0] and exports[0] == exports[1] and not self.differs(reports[0]):
+                return found
+            await asyncio.sleep(1)
+        return found
+
+    def differs(self, report):
+        wanted = {str(node): WANTED.get(self.words.faults.get(node), "trusted") for node in RELAYS}
+        return [f"{node} is {report['said'][node]} and not {what}" for node, what in wanted.items() if report["said"][node] != what]
+
+    async def judge(self, reports, exports):
+        """What is not as it should be after the epoch."""
+        if not all(reports) or not all(exports):
+            return ["a witness does not answer"]
+        wrong = [] if exports[0] == exports[1] else ["the witnesses export other bytes"]
+        proofs = {(node, proof) for report in reports for node, proof in report["proofs"].items()}
+        for node, proof in proofs:
+            lines = f"{self.listed.hex()}\n{proof}\n"
+            said = await said_by(["-c", CHECK], lines), await said_by(SECOND, lines)
+            wrong += [] if said == (node, f"exposes {node}") else [f"the proof against {node} does not convince: {said}"]
+        print(f"epoch {self.number}: {len(proofs)} proofs were checked by two other processes each", flush=True)
+        return [each for report in reports for each in self.differs(report)] + wrong
+
+    def sum_up(self, reports, relays):
+        """What went over the network, and when faults were exposed."""
+        every = [it for it in [*reports, *relays] if it]
+        mails, plain, signed = (sum(it[what] for it in relays if it) for what in ("mails", "mail_bytes", "signatures"))
+        frames, lost = (sum(it[what] for it in every) for what in ("frames", "lost"))
+        for_what = sum((Counter(it["bytes"]) for it in every), Counter())
+        per_mail = ", ".join(f"{what} {count // max(mails, 1)}" for what, count in sorted(for_what.items()))
+        print(f"epoch {self.number}: {mails} mails, {mails / self.words.seconds:.1f} a second, {plain // max(mails, 1)} bytes a mail")
+        print(f"epoch {self.number}: {frames} frames, {lost} lost; {signed / max(mails, 1):.1f} signatures a mail; bytes a mail: {per_mail}")
+        for node, told in zip(self.relay_ports, relays):
+            seen = [report["exposed_at"][str(node)] for report in reports if report and str(node) in report["exposed_at"]]
+            if told and told["fault_at"] and seen:
+                print(f"epoch {self.number}: {node} {self.words.faults.get(node)}: exposed {min(seen) - told['fault_at']:.1f} s after its fault")
+
+    def keep(self, exports):
+        path = os.path.join(self.words.keep, f"epoch{self.number}.txt")
+        with open(path, "w", encoding="ascii") as file:
+            file.write(f"{self.listed.hex()}\n{exports[0].hex()}\n")
+        print(f"epoch {self.number}: {path}, sha256 of the export {hashlib.sha256(exports[0]).hexdigest()}")
+
+    async def run(self):
+        try:
+            await self.live()
+            reports, exports = await self.settled()
+            relays = await self.reports(self.relay_ports.values())
+            wrong = await self.judge(reports, exports)
+        finally:
+            await self.end()
+        self.sum_up(reports, relays)
+        if self.words.keep and exports[0]:
+            self.keep(exports)
+        for each in wrong:
+            print(f"epoch {self.number}: {each}")
+        return not wrong
+
+
+def faults_of(text):
+    try:
+        faults = {int(node): fault for fault, node in (it.split("=") for it in text.split(",") if it)}
+    except ValueError:
+        faults = {0: text}
+    if any(fault not in WANTED or node not in RELAYS for node, fault in faults.items()):
+        raise argparse.ArgumentTypeError(f"a fault is one of {', '.join(WANTED)}, and a relay one of 1 to 5, as drops=3,silent=5")
+    return faults
+
+
+def words_of():
+    parser = argparse.ArgumentParser(description=__doc__, formatter_class=argparse.RawDescriptionHelpFormatter)
+    parser.add_argument("--seconds", type=float, default=60)
+    for word, usual in (("lose", 0.05), ("repeat", 0.05), ("reorder", 0.05), ("delay", 0.05)):
+        parser.add_argument(f"--{word}", type=float, default=usual)
+    parser.add_argument("--seed", type=int, default=1)
+    parser.add_argument("--faults", type=faults_of, default="drops=2,modifies=3,forks=4,silent=5")
+    parser.add_argument("--epochs", type=int, default=1)
+    parser.add_argument("--kill", action="store_true")
+    parser.add_argument("--keep")
+    parser.add_argument("--mails", type=int, default=400, help="at most so many mails an epoch")
+    parser.add_argument("--w", type=int, default=8, choices=TYPES_OF_W, help="the width of the one-time signatures")
+    words = parser.parse_args()
+    words.seconds = min(words.seconds, MOST_SECONDS)
+    return words
+
+
+async def main():
+    words, good = words_of(), True
+    with tempfile.TemporaryDirectory(prefix="bulwynef-network-") as folder:
+        for number in range(1, words.epochs + 1):
+            good = await Epoch(words, number, folder).run() and good
+    print("as it should be" if good else "not as it should be")
+    return 0 if good else 1
+
+
+if __name__ == "__main__":
+    sys.exit(asyncio.run(main()))

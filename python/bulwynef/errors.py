@@ -1,0 +1,68 @@
+"""Why a call is refused."""
+
+from typing import Dict, Tuple
+
+# number: name, sentence (docs/FORMATS.md, "Refusals")
+SENTENCES: Dict[int, Tuple[str, str]] = {
+    2: ("UnknownLmsType", "The LMS typecode of a key is not known."),
+    3: ("UnknownOtsType", "The LM-OTS typecode of a key is not known."),
+    4: ("HeightTooLarge", "The tree of a key is too high for the key to be made."),
+    20: ("DuplicateNode", "The directory lists a node twice."),
+    21: ("DuplicateKey", "The directory lists a key twice."),
+    22: ("TooManyNodes", "The directory lists more nodes than it may."),
+    23: ("BadMagic", "The directory does not begin as one."),
+    24: ("Truncated", "The directory is cut off."),
+    25: ("Trailing", "Bytes are left over after the directory."),
+    26: ("KeyCount", "The directory lists a node with no key, or with more than it may have."),
+    27: ("UnlistedNode", "A key is of a node that is not listed."),
+    30: ("UnknownNode", "The node that is to begin is not listed in the directory."),
+    31: ("WrongKey", "The key is none of the node's, was used by it before, or has signed already."),
+    32: ("NotMine", "The message is for another node."),
+    33: ("UnknownSender", "The sender is not listed in the directory, or is this node."),
+    34: ("BadSignature", "The message's signature is by none of the sender's keys."),
+    35: ("PayloadTooLong", "The payload of a message is too long."),
+    36: ("KeySpent", "The key in use has too few leaves left."),
+    37: ("LogFull", "The log is full."),
+    38: ("BadAck", "The acknowledgement is of no message that was sent, or is not valid for it."),
+    39: ("NumberTaken", "Another message of this number was received."),
+    40: ("Truncated", "A text is cut off."),
+    41: ("BadTag", "A tag, a flag or a form is none of those that there are, or not the one that is asked for."),
+    42: ("TooLong", "A length or a count is above its limit."),
+    43: ("Trailing", "Bytes are left over."),
+    44: ("UnknownNode", "A node is not listed."),
+    45: ("SelfMessage", "A message is from a node to itself."),
+    46: ("EmptySegment", "A segment has no entry."),
+    47: ("BadStart", "A segment begins neither with a log's first entry nor with a CHECKPOINT."),
+    48: ("BadRange", "The range of an audit challenge is empty."),
+    49: ("BadSignature", "A signature of an item is not valid."),
+    50: ("NoContradiction", "The parts of a proof do not contradict each other, or are of two nodes."),
+    51: ("Conforms", "The segment that a proof presents conforms."),
+    60: ("BadMagic", "A text does not begin as what it is read as."),
+    61: ("NotAscending", "The items of a store, or the digests of a summary, do not ascend."),
+    62: ("NothingKept", "No bucket of a short summary is kept."),
+    70: ("NotForMe", "The challenge is against another node."),
+    71: ("NotInLog", "The challenge names an entry that is not in the log."),
+    72: ("NoAnswerNeeded", "The item is no challenge."),
+    99: ("Memory", "A growth of memory was refused."),
+    110: ("Closed", "The handle is closed."),
+    111: ("OtherKind", "The handle is of something else, or of another program."),
+    112: ("OtherDirectory", "The two stores are under two directories."),
+    113: ("BadProgram", "The program is none of those that there are."),
+    114: ("StillOpen", "The handle is open."),
+    115: ("NotExposed", "The items do not expose the node."),
+    116: ("OutOfRange", "There is nothing at this place or with this number."),
+    117: ("WrongLength", "The bytes, or the room for them, are not as many as they have to be."),
+}
+
+
+class Refusal(Exception):
+    """A call was refused, and changed nothing: with a number, a name and a sentence."""
+
+    number: int
+    name: str
+    sentence: str
+
+    def __init__(self, number: int) -> None:
+        self.number = number
+        self.name, self.sentence = SENTENCES.get(number, ("Unknown", "The number is none that there is."))
+        super().__init__(f"refused {number} {self.name}: {self.sentence}")

@@ -1,0 +1,43 @@
+#!/usr/bin/env python3
+"""Installs the package into a folder of its own, offline, and runs its tests, the examples of its page, and the network of
+examples/network for a short time. Wants c/out/libbulwynef.a, which c/run.py makes. What is missing of pip and pytest comes from Debian."""
+
+import os
+import subprocess
+import sys
+import tempfile
+
+HERE = os.path.dirname(os.path.abspath(__file__))
+TOP = os.path.dirname(HERE)
+PYTHON = "/usr/bin/python3"
+PACKAGES = {"pip": "python3-pip", "pytest": "python3-pytest"}
+NETWORK = [f"{TOP}/examples/network/run.py", "--seconds", "12", "--mails", "48", "--w", "4"]
+
+
+def has(module):
+    return subprocess.run([PYTHON, "-c", f"import {module}"], stderr=subprocess.DEVNULL).returncode == 0
+
+
+def install_tools():
+    missing = [package for module, package in PACKAGES.items() if not has(module)]
+    if missing:
+        subprocess.run(["apt-get", "update"], check=True, stdout=subprocess.DEVNULL)
+        subprocess.run(["apt-get", "install", "-y", "--no-install-recommends", *missing], check=True, stdout=subprocess.DEVNULL)
+
+
+def main():
+    install_tools()
+    with tempfile.TemporaryDirectory(prefix="bulwynef-python-") as folder:
+        pip = ["-m", "pip", "install", "--quiet", "--no-build-isolation", "--no-index", "--root-user-action=ignore", "--target", folder, HERE]
+        runs = [pip, ["-m", "pytest", "-q", "-p", "no:cacheprovider", f"{HERE}/tests"], ["-m", "doctest", f"{HERE}/README.md"], NETWORK]
+        where = {**os.environ, "PYTHONPATH": folder, "PYTHONDONTWRITEBYTECODE": "1"}
+        for words in runs:
+            if subprocess.run([PYTHON, *words], env=where, cwd=folder).returncode:
+                print(f"python: {' '.join(words[:3])} failed")
+                return 1
+    print("python: installed, tested, and the network ran")
+    return 0
+
+
+if __name__ == "__main__":
+    sys.exit(main())

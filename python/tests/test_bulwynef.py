@@ -1,0 +1,152 @@
+"""Tests of the package: two nodes, a witness, a liar, and what is refused. Values come from the formats, and from second_opinion/."""
+
+import copy
+import hashlib
+import os
+import pickle
+import subprocess
+import sys
+
+import pytest
+
+from bulwynef import Indication, Key, Node, Program, Refusal, Store, check_proof, directory
+
+TOP = os.path.dirname(os.path.dirname(os.path.dirname(os.path.abspath(__file__))))
+SECOND = os.path.join(TOP, "second_opinion", "check.py")
+KEYS = {n: Key(bytes(15) + bytes([n]), bytes(31) + bytes([n])) for n in (1, 2)}
+
+
+@pytest.fixture(scope="module")
+def listed():
+    return directory({n: [key.public()] for n, key in KEYS.items()})
+
+
+def second_opinion(*words_and_texts):
+    words = [it for it in words_and_texts if isinstance(it, str)]
+    lines = "".join(it.hex() + "\n" for it in words_and_texts if isinstance(it, bytes))
+    return subprocess.run([sys.executable, SECOND, *words, "-"], input=lines, capture_output=True, text=True).stdout
+
+
+def first_message(node):
+    return node.message(node.waiting()[0])
+
+
+def exchanged(listed):
+    """A message of node 1, the acknowledgement of node 2, and one of a second node 2 by the same key."""
+    with Node(listed, 1, KEYS[1]) as one, Node(listed, 2, KEYS[2]) as two, Node(listed, 2, KEYS[2]) as liar:
+        one.timer(5)
+        message = first_message(one)
+        ack = two.answer(message)
+        assert two.answer(message) == ack
+        one.accept_ack(ack)
+        assert one.waiting() == []
+        one.timer(6)
+        return message, ack, liar.answer(first_message(one))
+
+
+def test_public_key_is_the_rfc_s(listed):
+    key = KEYS[1].public()
+    assert key[:8] == bytes.fromhex("0000000500000004") and key[8:24] == KEYS[1].key_id and len(key) == 56
+
+
+def test_a_message_is_challenged_acknowledged_and_told_twice(listed):
+    message, ack, lie = exchanged(listed)
+    with Store(listed) as store:
+        assert store.take(message) and not store.take(message)
+        assert store.indication(2) is Indication.SUSPECTED and store.proof(2) is None
+        assert store.challenges(2) == [message] and store.challenges(1) == []
+        assert store.take(ack) and store.challenges(2) == []
+        assert store.indication(2) is Indication.TRUSTED
+        assert store.take(lie)
+        assert store.indication(2) is Indication.EXPOSED
+        assert second_opinion("--store", listed, store.export()) == "1 trusted\n2 exposed\n"
+        proof = store.proof(2)
+        assert check_proof(listed, proof) == 2
+        assert second_opinion(listed, proof) == "exposes 2\n"
+
+
+def test_stores_exchange_what_they_have(listed):
+    message, ack, lie = exchanged(listed)
+    with Store(listed) as left, Store(listed) as right:
+        left.take(message), left.take(ack), right.take(lie)
+        assert left.apply(right.pack(left.summary(right.outline()))) == 1
+        assert left.includes(right) and not right.includes(left)
+        assert right.apply(left.pack(right.summary())) == 2
+        assert left.export() == right.export()
+        with Store(listed) as third:
+            assert third.load(left.export()) == 3 and third.merge(right) == 0
+            assert third.export() == left.export()
+
+
+def audit_of(message):
+    """The demand for the log of the message's sender up to its SEND entry, by the bytes that docs/FORMATS.md gives."""
+    sender, receiver, seq, before = message[1:5], message[5:9], message[9:17], message[17:49]
+    end = 53 + int.from_bytes(message[49:53], "big")
+    content = receiver + message[end + 4 :]
+    digest = hashlib.sha256(before + seq + b"\2" + hashlib.sha256(content).digest()).digest()
+    return b"\3" + sender + b"\0" + seq + digest + message[49:end]
+
+
+def test_a_segment_answers_an_audit(listed):
+    with Node(listed, 1, KEYS[1]) as one, Node(listed, 2, KEYS[2]) as two, Store(listed) as store:
+        one.timer(5)
+        message = first_message(one)
+        audit = audit_of(message)
+        assert store.take(audit) and store.indication(1) is Indication.SUSPECTED and store.challenges(1) == [audit]
+        segment = one.answer(audit)
+        assert segment[0] == 2 and store.take(segment) and store.indication(1) is Indication.TRUSTED
+        for node, challenge, number in ((one, two.answer(message), 72), (two, audit, 70)):
+            with pytest.raises(Refusal) as refused:
+                node.answer(challenge)
+            assert refused.value.number == number
+
+
+def test_a_node_goes_over_to_its_next_key():
+    keys = [Key(bytes(15) + bytes([n]), bytes(31) + bytes([n])) for n in (8, 9)]
+    text = directory({1: [key.public() for key in keys], 2: [KEYS[2].public()]})
+    with Node(text, 1, keys[0]) as one, Store(text) as store:
+        assert one.remaining() == 32
+        one.timer(1)
+        assert one.remaining() == 31 and one.checkpoint() == 4
+        one.next_key(keys[1])
+        one.timer(2)
+        assert one.remaining() == 31
+        assert all(store.take(one.message(seq)) for seq in one.waiting())
+        with pytest.raises(Refusal) as refused:
+            one.next_key(keys[0])
+        assert refused.value.number == 31
+
+
+def test_refusals_have_number_name_and_sentence(listed):
+    with pytest.raises(Refusal) as refused:
+        Store(listed[:-1])
+    assert (refused.value.number, refused.value.name) == (24, "Truncated") and refused.value.sentence.endswith(".")
+    with pytest.raises(Refusal) as refused:
+        Node(listed, 3, KEYS[1])
+    assert refused.value.number == 30
+    with pytest.raises(Refusal) as refused:
+        Node(listed, 2, KEYS[1])
+    assert refused.value.number == 31
+
+
+def test_handles_are_closed_once_and_not_copied(listed):
+    store = Store(listed)
+    store.close()
+    store.close()
+    with pytest.raises(Refusal) as refused:
+        store.indication(1)
+    assert refused.value.number == 110
+    with pytest.raises(TypeError):
+        copy.copy(store)
+    with pytest.raises(TypeError):
+        pickle.dumps(store)
+
+
+def test_two_directories_and_two_programs(listed):
+    other = directory({1: [KEYS[1].public()]})
+    with Store(listed) as store, Store(other) as lesser, Store(listed, Program.MAILBOX) as mails:
+        for beside, number in ((lesser, 112), (mails, 111)):
+            with pytest.raises(Refusal) as refused:
+                store.merge(beside)
+            assert refused.value.number == number
+        assert store.merge(store) == 0 and store.includes(store)
