@@ -1,6 +1,6 @@
 #!/usr/bin/env python3
-"""Holds the table of refusals in docs/FORMATS.md to the sources; where they differ it says so and ends with status 1. With the word
-`write` it writes the table anew.
+"""Holds the table of refusals in docs/FORMATS.md, that of C in c/refusals.h and the names in python/bulwynef/errors.py to the sources;
+where they differ it says so and ends with status 1. With the word `write` it writes the first two anew.
 
 Each enum of faults gives a variant's number and name by `number` and `name`, and a line for a person. A row has a number and a name,
 the line of the lowest crate that tells it, and the types that do. `Reason` is why a log deviates, and no refusal. Crates come as in crates.txt, lowest first.
@@ -15,6 +15,7 @@ from words import Part
 
 TOP = Path(__file__).resolve().parents[2]
 PAGE = "docs/FORMATS.md"
+HEADER = TOP / "c" / "refusals.h"
 
 ARM = re.compile(r"((?:\w+::\w+(?:\(_\))?\s*\|\s*)*\w+::\w+(?:\(_\))?)\s*=>\s*(\d+|\"\w+\")")
 VARIANT = re.compile(r"(\w+)::(\w+)")
@@ -64,11 +65,38 @@ def table():
     return "\n".join(rows) + "\n"
 
 
+def header(rows):
+    """The numbers and names for C."""
+    head = "/* The number and the name of each refusal, as docs/FORMATS.md has them. checks/reference/refusals.py makes this file. */\n"
+    lines = "".join(f'    {{{number}, "{name}"}},\n' for number, name in sorted(rows))
+    return f"{head}static const struct {{ unsigned number; const char *name; }} refusals[] = {{\n{lines}}};\n"
+
+
+def faults_of_header(wanted, write):
+    if write:
+        HEADER.write_text(wanted, encoding="utf-8")
+    elif HEADER.read_text(encoding="utf-8") != wanted:
+        yield "c/refusals.h: is not what the sources give: checks/reference/refusals.py write makes it anew"
+
+
+def faults_of_python(rows):
+    text = (TOP / "python" / "bulwynef" / "errors.py").read_text(encoding="utf-8")
+    found = re.findall(r'^    (\d+): \("(\w+)"', text, re.M)
+    for number, name in found:
+        if (int(number), name) not in rows:
+            yield f"python/bulwynef/errors.py: the sources have no refusal {number} {name}"
+    if not found:
+        yield "python/bulwynef/errors.py: no refusal is found"
+
+
 def main():
-    wanted = table()
-    if not Part(PAGE, "checks/reference/refusals.py").held_to(wanted, sys.argv[1:] == ["write"]):
+    write = sys.argv[1:] == ["write"]
+    rows, wanted = refusals(), table()
+    faults = [*faults_of_header(header(rows), write), *faults_of_python(rows)]
+    print(*faults, sep="\n", end="\n" if faults else "")
+    if not Part(PAGE, "checks/reference/refusals.py").held_to(wanted, write) or faults:
         return 1
-    print(f"{PAGE} has the sources' {wanted.count(chr(10)) - 2} refusals")
+    print(f"{PAGE} has the sources' {len(rows)} refusals, and so have C and Python")
     return 0
 
 

@@ -1,0 +1,132 @@
+/* checkproof: whom a proof convicts, over libbulwynef.a, as one file that wants no library of the system.
+ *
+ *   checkproof [--program tally|relay|mailbox] DIRECTORY PROOF
+ *
+ * A file has bytes, or one line of hexadecimal digits: told apart by its first eight bytes. It writes `exposes ID`, and ends with 0; with 1
+ * after `refused NUMBER NAME` on standard error; with 2 where the words are others than these. The check itself is proved; the reading of
+ * words, files and digits, in this file, is not.
+ */
+#include "bulwynef.h"
+#include "refusals.h"
+#include <stdio.h>
+#include <stdlib.h>
+#include <string.h>
+
+enum { MEMORY = 99, READ_FAILED = 100, INPUT_TOO_LONG = 101, WRITE_FAILED = 102, BAD_HEX = 103, LINE_COUNT = 104 };
+/* The most bytes of a file, as digits or not. */
+static const size_t MOST = (size_t)1 << 31;
+
+struct text { uint8_t *at; size_t len; };
+
+static const char *name_of(unsigned number) {
+    for (size_t i = 0; i < sizeof refusals / sizeof *refusals; i++)
+        if (refusals[i].number == number) return refusals[i].name;
+    return "Unknown";
+}
+
+static int refused(unsigned number, const char *place) {
+    fprintf(stderr, "refused %u %s%s%s\n", number, name_of(number), *place ? ": " : "", place);
+    return 1;
+}
+
+/* Puts what the file has behind the text, which is freed by the caller; or tells why not. */
+static unsigned read_all(FILE *file, struct text *text) {
+    size_t room = 0;
+    for (;;) {
+        if (text->len == room) {
+            room = room ? 2 * room : 65536;
+            uint8_t *more = realloc(text->at, room);
+            if (more == NULL) return MEMORY;
+            text->at = more;
+        }
+        size_t count = fread(text->at + text->len, 1, room - text->len, file);
+        text->len += count;
+        if (text->len > MOST) return INPUT_TOO_LONG;
+        if (ferror(file)) return READ_FAILED;
+        if (count == 0) return 0;
+    }
+}
+
+static unsigned read_file(const char *path, struct text *text) {
+    FILE *file = fopen(path, "rb");
+    if (file == NULL) return READ_FAILED;
+    unsigned fault = read_all(file, text);
+    fclose(file);
+    return fault;
+}
+
+static int value_of(uint8_t digit) {
+    if (digit >= '0' && digit <= '9') return digit - '0';
+    if (digit >= 'a' && digit <= 'f') return digit - 'a' + 10;
+    if (digit >= 'A' && digit <= 'F') return digit - 'A' + 10;
+    return -1;
+}
+
+static int is_line(const struct text *text) {
+    for (size_t i = 0; i < text->len && i < 8; i++)
+        if (value_of(text->at[i]) < 0 && text->at[i] != '\n') return 0;
+    return 1;
+}
+
+/* Replaces a line of digits by the bytes that they spell. A line feed may end it; a second line is one too many. */
+static unsigned decode(struct text *text) {
+    size_t len = text->len;
+    if (len > 0 && text->at[len - 1] == '\n') len--;
+    if (memchr(text->at, '\n', len) != NULL) return LINE_COUNT;
+    if (len % 2 != 0) return BAD_HEX;
+    for (size_t i = 0; i < len / 2; i++) {
+        int high = value_of(text->at[2 * i]), low = value_of(text->at[2 * i + 1]);
+        if (high < 0 || low < 0) return BAD_HEX;
+        text->at[i] = (uint8_t)(high * 16 + low);
+    }
+    text->len = len / 2;
+    return 0;
+}
+
+static unsigned text_of(const char *path, struct text *text) {
+    unsigned fault = read_file(path, text);
+    return fault == 0 && is_line(text) ? decode(text) : fault;
+}
+
+static int told(uint32_t node) {
+    if (printf("exposes %u\n", (unsigned)node) < 0 || fflush(stdout) != 0) return refused(WRITE_FAILED, "");
+    return 0;
+}
+
+static int check(uint8_t program, const char *const paths[2], struct text texts[2]) {
+    for (int i = 0; i < 2; i++) {
+        unsigned fault = text_of(paths[i], &texts[i]);
+        if (fault != 0) return refused(fault, paths[i]);
+    }
+    uint32_t node = 0;
+    unsigned fault = bulwynef_check_proof(program, texts[0].at, texts[0].len, texts[1].at, texts[1].len, &node);
+    return fault == 0 ? told(node) : refused(fault, "");
+}
+
+static uint8_t program_of(const char *word) {
+    static const struct { const char *word; uint8_t program; } programs[] = {
+        {"tally", BULWYNEF_TALLY}, {"relay", BULWYNEF_RELAY}, {"mailbox", BULWYNEF_MAILBOX}};
+    for (size_t i = 0; i < sizeof programs / sizeof *programs; i++)
+        if (strcmp(programs[i].word, word) == 0) return programs[i].program;
+    return 0;
+}
+
+int main(int count, char **words) {
+    uint8_t program = BULWYNEF_TALLY;
+    const char *paths[2] = {NULL, NULL};
+    int found = 0, is_good = 1;
+    for (int i = 1; i < count; i++) {
+        if (strcmp(words[i], "--program") == 0 && i + 1 < count) is_good &= (program = program_of(words[++i])) != 0;
+        else if (found < 2 && words[i][0] != '-') paths[found++] = words[i];
+        else is_good = 0;
+    }
+    if (!is_good || found != 2) {
+        fprintf(stderr, "usage: checkproof [--program tally|relay|mailbox] DIRECTORY PROOF\n");
+        return 2;
+    }
+    struct text texts[2] = {{NULL, 0}, {NULL, 0}};
+    int status = check(program, paths, texts);
+    free(texts[0].at);
+    free(texts[1].at);
+    return status;
+}
