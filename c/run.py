@@ -1,6 +1,7 @@
 #!/usr/bin/env python3
 """Builds the test of libbulwynef.a as C11 and as C++, and runs it: the scene and the refusals of c/test.c, each allocation refused in turn,
-and the evidence of examples/ beside what second_opinion/check.py says of it.
+and the evidence of examples/ beside what second_opinion/check.py says of it. Builds checkproof as one static file, c/out/checkproof, and
+holds it to the same.
 
     run.py                     what the gate runs: wants crates/bulwynef_c/out/libbulwynef_c.a, which `rt lib` makes there
     run.py --cases FOLDER      also each case N of a folder with N.args, N.stdin, N.stdout and N.status
@@ -63,6 +64,40 @@ def differs_on_example(program, name):
     return [f"{name}: {one!r} and not {other!r}" for one, other in zip(found, wanted) if one != other]
 
 
+def checkproof():
+    """checkproof as a file that wants no library of the system; it has to be below two megabytes."""
+    program = f"{OUT}/checkproof"
+    subprocess.run(["cc", "-std=c11", "-O2", "-static", "-s", *WARNINGS, "-o", program, f"{HERE}/checkproof.c", f"{OUT}/libbulwynef.a"], check=True)
+    if os.path.getsize(program) >= 2_000_000:
+        sys.exit(f"{program} has {os.path.getsize(program)} bytes")
+    return program
+
+
+def files_of(name):
+    """A directory and a proof of an example as files, in digits and in bytes."""
+    for line, kind in zip(read(f"{TOP}/examples/{name}.txt").split("\n"), ("directory", "proof")):
+        for ending, text in ((".txt", line.encode() + b"\n"), ("", bytes.fromhex(line))):
+            with open(f"{OUT}/{kind}{ending}", "wb") as file:
+                file.write(text)
+    return [[f"{OUT}/directory{ending}", f"{OUT}/proof{ending}"] for ending in (".txt", "")]
+
+
+def differs_on_checkproof(program):
+    """What checkproof says otherwise than the second opinion, or than is wanted of words and files that are no good."""
+    told = []
+    for name in ("wrong_output", "equivocation"):
+        for files in files_of(name):
+            one, other = (said([*words, *files], "") for words in ([program], SECOND))
+            told.append((name, (one[0], one[1], one[2].split()[:2]), (other[0], other[1], other[2].split()[:2])))
+    good = files_of("wrong_output")[0]
+    told.append(("swapped", said([program, *good[::-1]], "")[::2], (1, "refused 23 BadMagic\n")))
+    told.append(("another program", said([program, "--program", "relay", *good], "")[0], 1))
+    told.append(("no file", said([program, good[0], f"{OUT}/none"], "")[::2], (1, f"refused 100 ReadFailed: {OUT}/none\n")))
+    told.append(("two lines", said([program, f"{TOP}/examples/wrong_output.txt", good[1]], "")[2].split()[:2], ["refused", "104"]))
+    told.append(("no words", said([program], "")[0], 2))
+    return [f"checkproof, {name}: {one!r} and not {other!r}" for name, one, other in told if one != other]
+
+
 def differs_on_case(program, folder, name):
     words = read(f"{folder}/{name}.args").split()
     if len([word for word in words if word != "--relay"]) != COUNTS.get(words[0] if words else ""):
@@ -107,7 +142,7 @@ def main():
     if words.valgrind:
         runs.append(["valgrind", "--quiet", "--leak-check=full", "--error-exitcode=9", program, "self"])
     wrong = sum(subprocess.run(run).returncode != 0 for run in runs)
-    for line in [line for name in EXAMPLES for line in differs_on_example(program, name)]:
+    for line in [*differs_on_checkproof(checkproof()), *(line for name in EXAMPLES for line in differs_on_example(program, name))]:
         print(line)
         wrong += 1
     if words.cases:
