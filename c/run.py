@@ -73,23 +73,24 @@ def checkproof():
     return program
 
 
-def files_of(name):
-    """A directory and a proof of an example as files, in digits and in bytes."""
-    for line, kind in zip(read(f"{TOP}/examples/{name}.txt").split("\n"), ("directory", "proof")):
-        for ending, text in ((".txt", line.encode() + b"\n"), ("", bytes.fromhex(line))):
+def files_of(test, name):
+    """The directory of an example and a proof of its node 2 as files, in digits and in bytes."""
+    text = read(f"{TOP}/examples/{name}.txt")
+    for kind, line in (("directory", text.split("\n")[0]), ("proof", said([test, "prove", "2"], text)[1].strip())):
+        for ending, told in ((".txt", line.encode() + b"\n"), ("", bytes.fromhex(line))):
             with open(f"{OUT}/{kind}{ending}", "wb") as file:
-                file.write(text)
+                file.write(told)
     return [[f"{OUT}/directory{ending}", f"{OUT}/proof{ending}"] for ending in (".txt", "")]
 
 
-def differs_on_checkproof(program):
+def differs_on_checkproof(test, program):
     """What checkproof says otherwise than the second opinion, or than is wanted of words and files that are no good."""
     told = []
     for name in ("wrong_output", "equivocation"):
-        for files in files_of(name):
+        for files in files_of(test, name):
             one, other = (said([*words, *files], "") for words in ([program], SECOND))
             told.append((name, (one[0], one[1], one[2].split()[:2]), (other[0], other[1], other[2].split()[:2])))
-    good = files_of("wrong_output")[0]
+    good = files_of(test, "wrong_output")[0]
     told.append(("swapped", said([program, *good[::-1]], "")[::2], (1, "refused 23 BadMagic\n")))
     told.append(("another program", said([program, "--program", "relay", *good], "")[0], 1))
     told.append(("no file", said([program, good[0], f"{OUT}/none"], "")[::2], (1, f"refused 100 ReadFailed: {OUT}/none\n")))
@@ -142,7 +143,7 @@ def main():
     if words.valgrind:
         runs.append(["valgrind", "--quiet", "--leak-check=full", "--error-exitcode=9", program, "self"])
     wrong = sum(subprocess.run(run).returncode != 0 for run in runs)
-    for line in [*differs_on_checkproof(checkproof()), *(line for name in EXAMPLES for line in differs_on_example(program, name))]:
+    for line in [*differs_on_checkproof(program, checkproof()), *(line for name in EXAMPLES for line in differs_on_example(program, name))]:
         print(line)
         wrong += 1
     if words.cases:
