@@ -1,0 +1,119 @@
+-- The evidence of a directory alone, and with one store more.
+use Rattle.std.proofs.Common.{◌≡◌, ◌∙◌, ◌+◌, ℕ, suc, false, true, List, [], ◌∷◌, ◌++◌, length, Option, Result, Ok, Err, refl, sym, ap, subst, arith}
+use Rattle.std.proofs.lemmas.List.{length-append}
+use Rattle.outcome.specs.Outcome.{◌>>=◌, told_as}
+use Rattle.authenticators.specs.Directory.{Listing}
+use Rattle.authenticators.specs.DirectoryText.{directory_of}
+use Rattle.item_forms.specs.declared.forms.Fields.{Fields}
+use Rattle.evidence_set.specs.ItemSets.{SetsAsExpected, none}
+use Rattle.evidence.specs.Contents.{Contents}
+use Rattle.commands.specs.declared.fault.Fault.{Fault}
+use Rattle.commands.specs.Refusals.{of_directory}
+use Rattle.commands.specs.Inputs.{AreItems, IsEvidence, Parsed, evidence_of, store_of, stores_after}
+use Rattle.operating.specs.GatheredFiles.{AreGathered}
+use Rattle.operating.specs.FileTexts.{Say, Says}
+use Rattle.operating.specs.within.Adding.{AddsStore, opened}
+use Rattle.operating.proofs.Members.{none_here}
+
+-- ---- the directory
+
+abbrev parsed : Listing → List Fields → Result Parsed Fault
+parsed ds items = Ok (record { directory = ds; items = items })
+
+-- the items of stores under a directory
+abbrev read_stores : List (List ℕ) → Listing → Result Parsed Fault
+read_stores stores ds = stores_after ds [] stores >>= λ items. Ok (record { directory = ds; items = items })
+
+-- a store without items under the directory
+abbrev without_items : Listing → Result Contents Fault
+without_items ds = Ok (record { directory = ds; items = none })
+
+by_directory : (a : List ℕ) (stores : List (List ℕ)) → evidence_of a stores ≡ (told_as of_directory (directory_of a) >>= read_stores stores)
+unfolding evidence_of
+by_directory a stores = refl
+
+no_stores : (ds : Listing) → read_stores [] ds ≡ parsed ds []
+unfolding stores_after
+no_stores ds = refl
+
+alone_alike : (d : Result Listing Fault) (s : Contents) → (d >>= without_items) ≡ Ok s → (d >>= read_stores []) ≡ parsed s.directory []
+alone_alike (Ok ds) s h = let same : ds ≡ s.directory = cc in no_stores ds ∙ ap (λ (l : Listing). parsed l []) same
+alone_alike (Err f) s h = absurd cc
+
+empty_alike : (d : Result Listing Fault) (s : Contents) → (d >>= without_items) ≡ Ok s → s.items ≡ none
+empty_alike (Ok ds) s h = cc
+empty_alike (Err f) s h = absurd cc
+
+opened_empty : SetsAsExpected → (a : List ℕ) (s : Contents) → opened a ≡ Ok s → AreItems s.items []
+unfolding opened
+opened_empty law a s h x =
+    let is : s.items ≡ none = empty_alike (told_as of_directory (directory_of a)) s h in
+    (λ has. absurd (law.none x (rw is at has)), λ has. absurd (none_here x.fields has))
+
+opened_alone : (a : List ℕ) (s : Contents) → opened a ≡ Ok s → evidence_of a [] ≡ parsed s.directory []
+unfolding opened
+opened_alone a s h = by_directory a [] ∙ alone_alike (told_as of_directory (directory_of a)) s h
+
+pub directory_alone : SetsAsExpected → (limit : ℕ) (files : ℕ → Option (List ℕ)) (text : List ℕ) (s : Contents) → Says limit true (files 0) text → opened text ≡ Ok s → AreGathered limit files 0 s
+directory_alone law limit files text s says h = record {
+  directory = text;
+  stores = [];
+  number = refl;
+  first = says;
+  others = tt;
+  is = record { items = []; is = opened_alone text s h; set = opened_empty law text s h };
+}
+
+-- ---- one store more
+
+module _ (ds : Listing) (more : List Fields) (text : List ℕ) (read : store_of ds text ≡ Ok more) where
+  last_store : (items all : List Fields) → stores_after ds items [] ≡ Ok all → stores_after ds items (text ∷ []) ≡ Ok (all ++ more)
+  unfolding stores_after
+  last_store items all h =
+      let same : items ≡ all = cc in
+      ap (λ (r : Result (List Fields) Fault). r >>= λ more. stores_after ds (items ++ more) []) read ∙ ap (λ (l : List Fields). let told : Result (List Fields) Fault = Ok (l ++ more) in told) same
+
+  stores_more : (stores : List (List ℕ)) (items all : List Fields) → stores_after ds items stores ≡ Ok all → stores_after ds items (stores ++ text ∷ []) ≡ Ok (all ++ more)
+
+  stores_behind : (stores : List (List ℕ)) (items all : List Fields) (r : Result (List Fields) Fault) → (r >>= λ m. stores_after ds (items ++ m) stores) ≡ Ok all → (r >>= λ m. stores_after ds (items ++ m) (stores ++ text ∷ [])) ≡ Ok (all ++ more)
+  unfolding stores_after
+  stores_more [] items all h = last_store items all h
+  stores_more (t ∷ stores) items all h = stores_behind stores items all (store_of ds t) h
+  stores_behind stores items all (Ok m) h = stores_more stores (items ++ m) all h
+  stores_behind stores items all (Err f) h = absurd cc
+
+read_parts : (l ds : Listing) (all : List Fields) (r : Result (List Fields) Fault) → (r >>= λ items. parsed l items) ≡ parsed ds all → (r ≡ Ok all) × (l ≡ ds)
+read_parts l ds all (Ok items) h = (cc, cc)
+read_parts l ds all (Err f) h = absurd cc
+
+more_alike : (d : Result Listing Fault) (stores : List (List ℕ)) (ds : Listing) (all more : List Fields) (text : List ℕ) → store_of ds text ≡ Ok more → (d >>= read_stores stores) ≡ parsed ds all → (d >>= read_stores (stores ++ text ∷ [])) ≡ parsed ds (all ++ more)
+more_alike (Ok l) stores ds all more text read h =
+    let (items, same) = read_parts l ds all (stores_after l [] stores) h in
+    let here : store_of l text ≡ Ok more = ap (λ (x : Listing). store_of x text) same ∙ read in
+    ap (λ (r : Result (List Fields) Fault). r >>= λ items. parsed l items) (stores_more l more text here stores [] all items) ∙ ap (λ (x : Listing). parsed x (all ++ more)) same
+more_alike (Err f) stores ds all more text read h = absurd cc
+
+say_more : (limit : ℕ) (files : ℕ → Option (List ℕ)) (n k : ℕ) (stores : List (List ℕ)) (text : List ℕ) → n + length stores ≡ k → Say limit files n stores → Says limit false (files k) text → Say limit files n (stores ++ text ∷ [])
+say_more limit files n k [] text at say says =
+    let same : k ≡ n = omega (arith, at) in
+    (subst (λ (m : ℕ). Says limit false (files m) text) same says, tt)
+say_more limit files n k (t ∷ stores) text at say says = (say.0, say_more limit files (suc n) k stores text (omega (arith, at)) say.1 says)
+
+pub store_more : (limit : ℕ) (files : ℕ → Option (List ℕ)) (n : ℕ) (s t : Contents) (text : List ℕ) → AreGathered limit files n s → Says limit false (files (suc n)) text → AddsStore s t text → AreGathered limit files (suc n) t
+store_more limit files n s t text are says adds =
+    let count : length (are.stores ++ text ∷ []) ≡ length are.stores + 1 = length-append are.stores (text ∷ []) in
+    let number = are.number in
+    record {
+      directory = are.directory;
+      stores = are.stores ++ text ∷ [];
+      number = omega (arith, count, number);
+      first = are.first;
+      others = say_more limit files 1 (suc n) are.stores text (omega (arith, number)) are.others says;
+      is = record {
+        items = are.is.items ++ adds.more;
+        is = by_directory are.directory (are.stores ++ text ∷ [])
+            ∙ more_alike (told_as of_directory (directory_of are.directory)) are.stores s.directory are.is.items adds.more text adds.read (sym (by_directory are.directory are.stores) ∙ are.is.is)
+            ∙ ap (λ (l : Listing). parsed l (are.is.items ++ adds.more)) (sym adds.directory);
+        set = adds.set are.is.items are.is.set;
+      };
+    }

@@ -1,0 +1,5 @@
+mod AddedStores
+mod Endings
+mod Gathered
+mod Members
+mod Steps

@@ -1,0 +1,5 @@
+pub mod GatheredFiles
+pub mod FileTexts
+pub mod Operating
+pub mod Questions
+pub mod within

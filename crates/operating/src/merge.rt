@@ -1,0 +1,52 @@
+//! The engine of `merge`: the union of stores.
+
+ghost use Rattle.std.specs.Prelude.{◌<◌, ◌≤◌};
+ghost use Rattle.operating.specs.Operating.{HasRoom, Ran};
+ghost use Rattle.parallel_checking.specs.declared.limits.TheConstants.{MOST_WORKERS};
+ghost use Rattle.operating.specs.Questions.{Merge};
+
+use crate::asking::{Answer, Ending, Question, ask};
+use crate::gathering::Store;
+use crate::files::{Limits, Opener};
+use crate::refusal::Refusal;
+use commands::device::Sink;
+use commands::fault::Fault;
+use evidence_store::Evidence;
+use replay_verifier::Program;
+use std::alloc::Global;
+use std::thread::Threads;
+
+/// The question of `merge`.
+struct Merging;
+
+impl<P: Program> Question<P> for Merging {
+    ghost means = { λ _. Merge };
+
+    fn answer(&self, _alloc: Global, store: &Store<P>) -> Result<Answer, Fault> {
+        let text = store.export()?;
+        Ok(Answer {
+            text,
+            ending: Ending::Done,
+        })
+    }
+}
+
+/// Reads a directory and so many stores, and writes the text of the items of all stores: nothing else, and in one write, once
+/// everything has been decided.
+pub fn run<R: Threads + Sync, P: Program + Send + Sync, O: Opener, W: Sink>(
+    rt: &R,
+    alloc: Global,
+    program: &P,
+    opener: &mut O,
+    stores: usize,
+    limits: Limits,
+    writer: &mut W,
+) -> Result<Ending, Refusal>
+where
+    P::State: Send,
+    requires workers { (0 < limits.workers) × (limits.workers ≤ MOST_WORKERS) }
+    requires room { HasRoom stores (O.seen opener.old) (W.seen writer.old) }
+    ensures { Ran (Merge) limits.most_bytes stores result (O.seen opener.old) (O.seen opener.new) W.seen writer.old writer.new }
+{
+    ask(rt, alloc, program, &Merging, opener, stores, limits, writer)
+}
