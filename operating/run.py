@@ -222,7 +222,7 @@ def hold_faults(build, folder, directory, store):
     three = write(f"{folder}/three", store.hex().encode() + b"\n00\n00\n")
     hold_fault("three lines", [*status, nodes, three], 104, b"/three: ")
     hold_fault("too many bytes", [build, "status", "--most", "20", "--directory", nodes, items], 101, b"/nodes: ")
-    hold_fault("a full disk", [build, "merge", "--directory", nodes, "--output", "/dev/full/none", items], 102, b"")
+    hold_fault("a full disk", [build, "merge", "--directory", nodes, "--output", "/dev/full", items], 102, b"")
     gone = f"{folder}/gone/there"
     hold_fault("no folder for the output", [build, "merge", "--directory", nodes, "--output", gone, items], 102, b"")
     with open("/dev/full", "wb") as full:
@@ -238,15 +238,6 @@ def hold_faults(build, folder, directory, store):
     hold("no file is left", left == [], left)
 
 
-def hold_shown(build, folder, directory, store):
-    nodes, items = write(f"{folder}/nodes", directory), write(f"{folder}/items", store)
-    count = int.from_bytes(store[8:16], "big")
-    status, out, _ = run([build, "show", items])
-    hold("a store is shown", status == 0 and out.startswith(b"a store\n") and b"items: %d, of which %d are there\n" % (count, count) in out, out)
-    status, out, _ = run([build, "show", nodes])
-    hold("a directory is shown", status == 0 and out.startswith(b"a directory\n") and b"nodes: %d\n" % int.from_bytes(directory[8:12], "big") in out, out)
-
-
 def main():
     for name, text in examples():
         hold_example(name, text)
@@ -255,7 +246,6 @@ def main():
     for build in BUILDS:
         with tempfile.TemporaryDirectory() as folder:
             hold_faults(build, folder, directory, store)
-            hold_shown(build, folder, directory, store)
     if len(sys.argv) > 1:
         for file in sorted(os.listdir(sys.argv[1])):
             if file.endswith(".args"):

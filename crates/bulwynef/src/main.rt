@@ -4,9 +4,8 @@
 //! - `merge` writes one store with the items of all.
 //! - `prove` writes a proof that convicts a node.
 //! - `check` writes whom a proof convicts.
-//! - `show` says what a file is, and what is in it.
 //!
-//! Each of the first four is an engine of the crate `operating`, which carries its theorem. Here stands what the engines read and write:
+//! Each is an engine of the crate `operating`, which carries its theorem. Here stands what the engines read and write:
 //! files, whose bytes no contract can tell.
 #![tactic(auto)]
 

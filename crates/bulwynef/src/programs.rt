@@ -7,7 +7,7 @@ use mailbox::Mailbox;
 use operating::asking::Ending;
 use operating::files::Limits;
 use operating::refusal::Refusal;
-use operating::{check, merge, prove, show, status};
+use operating::{check, merge, prove, status};
 use ref_programs::{Relay, Tally};
 use replay_verifier::Program;
 use std::thread;
@@ -101,6 +101,5 @@ where
             &mut output,
         ),
         Task::Check => check::run(alloc, program, &mut files, limits, &mut output),
-        Task::Show => show::run(alloc, &mut files, limits, &mut output),
     }
 }

@@ -19,8 +19,6 @@ pub enum Task {
     Prove(NodeId),
     /// Whom a proof convicts.
     Check,
-    /// What a file is.
-    Show,
 }
 
 /// The program that the nodes run.
@@ -227,18 +225,6 @@ fn check<'a>(alloc: Global) -> Result<Command<'a>, AllocError> {
     .arg(file(alloc, "PROOF", "A proof, as prove writes it"))
 }
 
-fn show<'a>(alloc: Global) -> Result<Command<'a>, AllocError> {
-    Command::new(alloc, "show")
-        .about("Says what a file is and what is in it, and checks nothing")
-        .after_help("Example: bulwynef show all.store")
-        .arg(most(alloc))?
-        .arg(file(
-            alloc,
-            "FILE",
-            "A directory, a store, a proof, an item, or what is exchanged of a store",
-        ))
-}
-
 /// The program's command.
 fn command<'a>(alloc: Global) -> Result<Command<'a>, AllocError> {
     Command::new(alloc, "bulwynef")
@@ -250,8 +236,7 @@ fn command<'a>(alloc: Global) -> Result<Command<'a>, AllocError> {
         .subcommand(status(alloc)?)?
         .subcommand(merge(alloc)?)?
         .subcommand(prove(alloc)?)?
-        .subcommand(check(alloc)?)?
-        .subcommand(show(alloc)?)
+        .subcommand(check(alloc)?)
 }
 
 /// The command of the name; none where it is unknown or its number is missing, which clap has refused.
@@ -264,7 +249,6 @@ fn task_of(name: &str, options: &ArgMatches<'_>) -> Option<Task> {
             None => None,
         },
         "check" => Some(Task::Check),
-        "show" => Some(Task::Show),
         _ => None,
     }
 }
@@ -280,7 +264,7 @@ fn program_of(options: &ArgMatches<'_>) -> ProgramName {
 /// The names of a command's files, the directory's first.
 fn paths_of<'a>(alloc: Global, options: &ArgMatches<'a>) -> Result<Vec<&'a str>, AllocError> {
     let mut paths = Vec::new(alloc);
-    for name in ["directory", "STORE", "PROOF", "FILE"] {
+    for name in ["directory", "STORE", "PROOF"] {
         add_paths(&mut paths, options, name)?;
     }
     Ok(paths)

@@ -4,6 +4,7 @@ use Rattle.std.proofs.lemmas.List.{length-append}
 use Rattle.outcome.specs.Outcome.{◌>>=◌, told_as}
 use Rattle.authenticators.specs.Directory.{Listing}
 use Rattle.authenticators.specs.DirectoryText.{directory_of}
+use Rattle.authenticators.specs.declared.fault.DirectoryFault.{DirectoryFault}
 use Rattle.item_forms.specs.declared.forms.Fields.{Fields}
 use Rattle.evidence_set.specs.ItemSets.{SetsAsExpected, none}
 use Rattle.evidence.specs.Contents.{Contents}
@@ -11,8 +12,8 @@ use Rattle.commands.specs.declared.fault.Fault.{Fault}
 use Rattle.commands.specs.Refusals.{of_directory}
 use Rattle.commands.specs.Inputs.{AreItems, IsEvidence, Parsed, evidence_of, store_of, stores_after}
 use Rattle.operating.specs.GatheredFiles.{AreGathered}
-use Rattle.operating.specs.FileTexts.{Say, Says}
-use Rattle.operating.specs.within.Adding.{AddsStore, opened}
+use Rattle.operating.specs.FileTexts.{Say, Says, SaysDirectory}
+use Rattle.operating.specs.within.Adding.{AddsStore}
 use Rattle.operating.proofs.Members.{none_here}
 
 -- ---- the directory
@@ -24,10 +25,6 @@ parsed ds items = Ok (record { directory = ds; items = items })
 abbrev read_stores : List (List ℕ) → Listing → Result Parsed Fault
 read_stores stores ds = stores_after ds [] stores >>= λ items. Ok (record { directory = ds; items = items })
 
--- a store without items under the directory
-abbrev without_items : Listing → Result Contents Fault
-without_items ds = Ok (record { directory = ds; items = none })
-
 by_directory : (a : List ℕ) (stores : List (List ℕ)) → evidence_of a stores ≡ (told_as of_directory (directory_of a) >>= read_stores stores)
 unfolding evidence_of
 by_directory a stores = refl
@@ -36,33 +33,24 @@ no_stores : (ds : Listing) → read_stores [] ds ≡ parsed ds []
 unfolding stores_after
 no_stores ds = refl
 
-alone_alike : (d : Result Listing Fault) (s : Contents) → (d >>= without_items) ≡ Ok s → (d >>= read_stores []) ≡ parsed s.directory []
-alone_alike (Ok ds) s h = let same : ds ≡ s.directory = cc in no_stores ds ∙ ap (λ (l : Listing). parsed l []) same
-alone_alike (Err f) s h = absurd cc
+no_items : SetsAsExpected → (s : Contents) → s.items ≡ none → AreItems s.items []
+no_items law s is x = (λ has. absurd (law.none x (rw is at has)), λ has. absurd (none_here x.fields has))
 
-empty_alike : (d : Result Listing Fault) (s : Contents) → (d >>= without_items) ≡ Ok s → s.items ≡ none
-empty_alike (Ok ds) s h = cc
-empty_alike (Err f) s h = absurd cc
-
-opened_empty : SetsAsExpected → (a : List ℕ) (s : Contents) → opened a ≡ Ok s → AreItems s.items []
-unfolding opened
-opened_empty law a s h x =
-    let is : s.items ≡ none = empty_alike (told_as of_directory (directory_of a)) s h in
-    (λ has. absurd (law.none x (rw is at has)), λ has. absurd (none_here x.fields has))
-
-opened_alone : (a : List ℕ) (s : Contents) → opened a ≡ Ok s → evidence_of a [] ≡ parsed s.directory []
-unfolding opened
-opened_alone a s h = by_directory a [] ∙ alone_alike (told_as of_directory (directory_of a)) s h
-
-pub directory_alone : SetsAsExpected → (limit : ℕ) (files : ℕ → Option (List ℕ)) (text : List ℕ) (s : Contents) → Says limit true (files 0) text → opened text ≡ Ok s → AreGathered limit files 0 s
-directory_alone law limit files text s says h = record {
-  directory = text;
-  stores = [];
-  number = refl;
-  first = says;
-  others = tt;
-  is = record { items = []; is = opened_alone text s h; set = opened_empty law text s h };
-}
+pub directory_alone : SetsAsExpected → (limit : ℕ) (files : ℕ → Option (List ℕ)) (ds : Listing) (s : Contents) → SaysDirectory limit (files 0) ds → s ≡ record { directory = ds; items = none } → AreGathered limit files 0 s
+directory_alone law limit files ds s (text, says, read) is =
+    let same : s.directory ≡ ds = ap (λ (t : Contents). t.directory) is in
+    record {
+      directory = text;
+      stores = [];
+      number = refl;
+      first = says;
+      others = tt;
+      is = record {
+        items = [];
+        is = by_directory text [] ∙ ap (λ (d : Result Listing DirectoryFault). told_as of_directory d >>= read_stores []) read ∙ no_stores ds ∙ ap (λ (l : Listing). parsed l []) (sym same);
+        set = no_items law s (ap (λ (t : Contents). t.items) is);
+      };
+    }
 
 -- ---- one store more
 

@@ -1,13 +1,13 @@
 -- What the steps of reading files say of the whole.
 use Rattle.std.proofs.Common.{◌≡◌, ◌⊎◌, ◌∙◌, ℕ, List, [], Option, Some, None, Result, Ok, Err, inl, inr, refl, sym, ap}
 use Rattle.std.specs.Prelude.{IfErr, IfOk, OnOk}
-use Rattle.outcome.specs.Outcome.{◌>>=◌, told_as, Fails}
+use Rattle.outcome.specs.Outcome.{told_as, Fails}
 use Rattle.authenticators.specs.Directory.{Listing}
-use Rattle.authenticators.specs.DirectoryText.{directory_of}
+use Rattle.authenticators.specs.declared.fault.DirectoryFault.{DirectoryFault}
+use Rattle.authenticators.specs.declared.fault.DirectoryFault.TheVariants as listing
 use Rattle.containers.specs.declared.fault.Cause.TheVariants as cause
 use Rattle.containers.specs.declared.fault.ImportFault.{ImportFault}
 use Rattle.containers.specs.Refusals.{Refuses}
-use Rattle.evidence_set.specs.ItemSets.{none}
 use Rattle.evidence.specs.Contents.{Contents}
 use Rattle.evidence.specs.Importing.{import_set}
 use Rattle.commands.specs.declared.fault.Fault.{Fault}
@@ -15,7 +15,6 @@ use Rattle.commands.specs.declared.fault.Fault.TheVariants as fault
 use Rattle.commands.specs.Refusals.{of_cause, of_directory, of_import}
 use Rattle.operating.specs.declared.refusal.Refusal.{Refusal}
 use Rattle.operating.specs.GatheredFiles.{RefusesText}
-use Rattle.operating.specs.within.Adding.{opened}
 
 -- what is read did not fail
 pub quiet_read : {V : Type 0} (r : Result V Fault) (a b : ℕ) → ((r ≡ Err fault.ReadFailed → ⊥) → b ≡ a) → OnOk r (b ≡ a)
@@ -35,13 +34,7 @@ pub text_refused : (s : Contents) (text : List ℕ) (f : ImportFault) (r : Refus
 text_refused s text f r told item (inl memory) = (f, told, item, inl (told ∙ ap of_cause memory))
 text_refused s text f r told item (inr e) = (f, told, item, inr e)
 
--- where no store is opened, no directory is read
-fails_alike : (d : Result Listing Fault) (e : Fault) → Fails fault.Memory e (d >>= λ ds. let s : Result Contents Fault = Ok (record { directory = ds; items = none }) in s) → Fails fault.Memory e d
-fails_alike (Ok ds) e (inl m) = inl m
-fails_alike (Ok ds) e (inr h) = absurd cc
-fails_alike (Err f) e (inl m) = inl m
-fails_alike (Err f) e (inr h) = inr cc
-
-pub opened_fails : (text : List ℕ) (e : Fault) → Fails fault.Memory e (opened text) → Fails fault.Memory e (told_as of_directory (directory_of text))
-unfolding opened
-opened_fails text e h = fails_alike (told_as of_directory (directory_of text)) e h
+-- a text that is no directory
+pub no_directory : (d : Result Listing DirectoryFault) (e : DirectoryFault) (f : Fault) → f ≡ of_directory e → Fails listing.Memory e d → Fails fault.Memory f (told_as of_directory d)
+no_directory d e f told (inl spent) = inl (told ∙ ap of_directory spent)
+no_directory d e f told (inr is) = inr (ap (told_as of_directory) is ∙ ap (λ (x : Fault). let r : Result Listing Fault = Err x in r) (sym told))

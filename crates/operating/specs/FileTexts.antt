@@ -3,6 +3,8 @@ use Rattle.std.specs.Prelude.{ℕ, suc, ◌≡◌, ◌⊎◌, ◌≤◌, Bool, t
 use Rattle.std.specs.List.{list_all}
 use Rattle.hex.specs.Hex.{is_hex_digit}
 use Rattle.outcome.specs.Outcome.{◌>>=◌, Fails}
+use Rattle.authenticators.specs.Directory.{Listing}
+use Rattle.authenticators.specs.DirectoryText.{directory_of}
 use Rattle.commands.specs.declared.fault.Fault.{Fault}
 use Rattle.commands.specs.declared.fault.Fault.TheVariants as fault
 use Rattle.commands.specs.Devices.{IsAllOf, IsReadFault}
@@ -37,6 +39,10 @@ pub record Says (limit : ℕ) (first : Bool) (file : Option (List ℕ)) (text : 
   pub all : IsAllOf file bytes
   pub within : length bytes ≤ limit
   pub is : said first bytes ≡ Ok text
+
+-- A file says a directory.
+abbrev pub SaysDirectory : ℕ → Option (List ℕ) → Listing → Type 0
+SaysDirectory limit file ds = (text : List ℕ) × Says limit true file text × (directory_of text ≡ Ok ds)
 
 -- The files from a number on say the texts, each its own, in their last lines.
 abbrev pub Say : ℕ → (ℕ → Option (List ℕ)) → ℕ → List (List ℕ) → Type 0

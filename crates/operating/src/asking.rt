@@ -1,15 +1,16 @@
-//! What all questions share: the evidence is gathered, the answer is made, and it is written.
+//! What all questions to stores share: the evidence is gathered, the answer is made, and it is written.
 
 ghost use Rattle.std.specs.Prelude.{◌≡◌, ◌⊎◌, ◌<◌, ◌≤◌, ◌^◌, List, ℕ, IfErr, MatchResult, None, OnOk, Result, Ok, Err};
 ghost use Rattle.std.specs.Io.KnownBytes.{Appends};
 ghost use Rattle.evidence.specs.Contents.{Contents};
 ghost use Rattle.commands.specs.declared.fault.Fault.{Fault};
 ghost use Rattle.commands.specs.declared.fault.Fault.TheVariants as fault;
-ghost use Rattle.operating.specs.Operating.{HasRoom, Ran};
+ghost use Rattle.operating.specs.Operating.{HasRoom, RanOnStores};
+ghost use Rattle.operating.specs.declared.asking.Ending.{Ending};
 ghost use Rattle.parallel_checking.specs.declared.limits.TheConstants.{MOST_WORKERS};
 
-use crate::gathering::{Store, gather};
 use crate::files::{Limits, Opener};
+use crate::gathering::{Store, gather};
 use crate::refusal::Refusal;
 use commands::device::Sink;
 use commands::fault::Fault;
@@ -17,7 +18,7 @@ use replay_verifier::Program;
 use std::alloc::Global;
 use std::thread::Threads;
 
-/// How a question was answered.
+/// How an engine ends, where it is not refused.
 #[derive(Clone, Copy, Debug, PartialEq, Eq)]
 pub enum Ending {
     /// It was done, and nobody is said to be exposed.
@@ -28,7 +29,7 @@ pub enum Ending {
     NoProof,
 }
 
-/// A text, and how it answers.
+/// A text, and how the engine ends.
 #[derive(Drop)]
 pub(crate) struct Answer {
     pub(crate) text: Vec<u8>,
@@ -37,16 +38,16 @@ pub(crate) struct Answer {
 
 /// A question to evidence of nodes that follow a program.
 pub(crate) trait Question<P: Program> {
-    /// Which text answers it, of which evidence, or which refusal.
-    ghost means: { Self → Contents → Result (List ℕ) Fault → Type 0 };
+    /// Which text answers it of which evidence, and how the engine ends; or why there is none.
+    ghost means: { Self → Contents → Result (List ℕ × Ending) Fault → Type 0 };
 
     /// The answer of a store.
     fn answer(&self, alloc: Global, store: &Store<P>) -> Result<Answer, Fault>
-        ensures told { MatchResult result (λ answer. means self.now store.now (Ok answer.text.items)) (λ f. (f ≡ fault.Memory) ⊎ means self.now store.now (Err f)) };
+        ensures told { MatchResult result (λ answer. means self.now store.now (Ok (answer.text.items, answer.ending))) (λ f. (f ≡ fault.Memory) ⊎ means self.now store.now (Err f)) };
 }
 
-/// Reads the directory and so many files of evidence behind it, and writes the answer and nothing else, in one write, once everything
-/// has been decided.
+/// Reads the directory and so many stores behind it, and writes the answer and nothing else, in one write, once everything has been
+/// decided.
 pub(crate) fn ask<R: Threads + Sync, P: Program + Send + Sync, Q: Question<P>, O: Opener, W: Sink>(
     rt: &R,
     alloc: Global,
@@ -61,7 +62,7 @@ where
     P::State: Send,
     requires workers { (0 < limits.workers) × (limits.workers ≤ MOST_WORKERS) }
     requires room { HasRoom stores (O.seen opener.old) (W.seen writer.old) }
-    ensures { Ran (Q.means question.now) limits.most_bytes stores result (O.seen opener.old) (O.seen opener.new) W.seen writer.old writer.new }
+    ensures { RanOnStores (Q.means question.now) limits.most_bytes stores result (O.seen opener.old) (O.seen opener.new) W.seen writer.old writer.new }
 {
     let store: Store<P> = gather(rt, alloc, program, opener, stores, limits)?;
     let answer = match question.answer(alloc, &store) {

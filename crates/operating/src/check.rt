@@ -1,11 +1,12 @@
 //! The engine of `check`: whom a proof convicts.
 
-ghost use Rattle.std.specs.Prelude.{◌≡◌, ◌<◌, ◌^◌, OnOk};
-ghost use Rattle.operating.specs.Operating.{HasRoom};
+ghost use Rattle.std.specs.Prelude.{◌≡◌, ◌+◌, ◌<◌, ◌^◌, IfErr, IfOk, MatchResult, OnOk};
+ghost use Rattle.operating.specs.ConvictingFiles.{AreConvicting, RefusesConviction, RefusesProofText, TextConvicts};
+ghost use Rattle.operating.specs.Operating.{HasRoom, RanOnProof};
 
 use crate::asking::{Ending, write};
 use crate::files::{Limits, Opener};
-use crate::reading::read_said;
+use crate::reading::{read_directory, read_said};
 use crate::refusal::Refusal;
 use authenticators::{Directory, NodeId};
 use commands::check::exposes_line;
@@ -15,40 +16,37 @@ use proofs::{Proof, check_proof};
 use replay_verifier::Program;
 use std::alloc::Global;
 
-/// The directory that file 0 says.
-fn read_directory<O: Opener>(
+/// Whom the proof that a text is convicts.
+fn convicted_by<P: Program>(
     alloc: Global,
-    opener: &mut O,
-    limits: Limits,
-) -> Result<Directory, Refusal>
-    requires room { (O.seen opener.old).failures < 2 ^ 63 }
-    ensures quiet { OnOk result ((O.seen opener.new).failures ≡ (O.seen opener.old).failures) }
+    program: &P,
+    directory: &Directory,
+    text: &[u8],
+) -> Result<NodeId, Fault>
+    ensures { MatchResult result (λ node. TextConvicts P.means directory.now text.now node) (λ f. RefusesProofText P.means directory.now text.now f) }
 {
-    let text = read_said(alloc, opener, 0, true, limits)?;
-    match Directory::from_bytes(alloc, &text) {
-        Ok(directory) => Ok(directory),
-        Err(fault) => Err(Refusal::of_text(0, &text, Fault::from(fault))),
-    }
+    let proof = Proof::decode(alloc, text)?;
+    let node = check_proof(alloc, program, directory, &proof)?;
+    Ok(node)
 }
 
 /// Whom the proof that file 1 says convicts.
 fn convicted<P: Program, O: Opener>(
     alloc: Global,
     program: &P,
-    directory: &Directory,
     opener: &mut O,
     limits: Limits,
 ) -> Result<NodeId, Refusal>
-    requires room { (O.seen opener.old).failures < 2 ^ 63 }
+    requires room { (O.seen opener.old).failures + 1 < 2 ^ 63 }
+    ensures convicted { IfOk result (λ node. AreConvicting P.means limits.most_bytes (O.seen opener.old).files node) }
+    ensures refused { IfErr result (λ r. RefusesConviction P.means limits.most_bytes (O.seen opener.old).files r) }
+    ensures quiet { OnOk result ((O.seen opener.new).failures ≡ (O.seen opener.old).failures) }
 {
+    let directory = read_directory(alloc, opener, limits)?;
     let text = read_said(alloc, opener, 1, false, limits)?;
-    let proof = match Proof::decode(alloc, &text) {
-        Ok(proof) => proof,
-        Err(fault) => return Err(Refusal::of_text(1, &text, Fault::from(fault))),
-    };
-    match check_proof(alloc, program, directory, &proof) {
+    match convicted_by(alloc, program, &directory, &text) {
         Ok(node) => Ok(node),
-        Err(fault) => Err(Refusal::of_text(1, &text, Fault::from(fault))),
+        Err(fault) => Err(Refusal::of_text(1, &text, fault)),
     }
 }
 
@@ -62,9 +60,9 @@ pub fn run<P: Program, O: Opener, W: Sink>(
     writer: &mut W,
 ) -> Result<Ending, Refusal>
     requires room { HasRoom 1 (O.seen opener.old) (W.seen writer.old) }
+    ensures { RanOnProof P.means limits.most_bytes result (O.seen opener.old) (O.seen opener.new) W.seen writer.old writer.new }
 {
-    let directory = read_directory(alloc, opener, limits)?;
-    let node = convicted(alloc, program, &directory, opener, limits)?;
+    let node = convicted(alloc, program, opener, limits)?;
     let line = match exposes_line(alloc, node) {
         Ok(line) => line,
         Err(_) => return Err(Refusal::of_none(Fault::Memory)),

@@ -1,19 +1,16 @@
 //! The evidence of files: a directory, and the items of stores under it.
 
 ghost use Rattle.std.specs.Prelude.{◌≡◌, ◌+◌, ◌<◌, ◌≤◌, ◌^◌, IfErr, IfOk, List, OnOk, Some, suc, ℕ};
-ghost use Rattle.outcome.specs.Outcome.{Gives};
 ghost use Rattle.evidence_set.specs.Exports.{AreValid};
 ghost use Rattle.evidence_set.specs.ItemSets.{count};
-ghost use Rattle.commands.specs.declared.fault.Fault.TheVariants.{Memory};
 ghost use Rattle.operating.specs.GatheredFiles.{AreGathered, IsOfFile, RefusesDirectory, RefusesFiles, RefusesStore, RefusesText};
 ghost use Rattle.operating.specs.FileTexts.{Says};
-ghost use Rattle.operating.specs.within.Adding.{AddsStore, opened};
+ghost use Rattle.operating.specs.within.Adding.{AddsStore};
 ghost use Rattle.parallel_checking.specs.declared.limits.TheConstants.{MOST_WORKERS};
 
 use crate::files::{Limits, Opener};
-use crate::reading::read_said;
+use crate::reading::{read_directory, read_said};
 use crate::refusal::Refusal;
-use authenticators::Directory;
 use commands::fault::Fault;
 use evidence_set::laws::{
     joins_are_as_expected, sets_are_as_expected, sets_are_lists, sets_count, sets_have_one_text,
@@ -26,16 +23,6 @@ use std::thread::Threads;
 
 /// The store that is filled.
 pub(crate) type Store<P> = IndexedStore<P>;
-
-/// A store without items, under the directory that the text spells.
-#[tactic(auto, unfolding(crate::specs::within::Adding::opened))]
-fn open_store<P: Program, S: Evidence<P>>(alloc: Global, text: &[u8]) -> Result<S, Fault>
-    ensures { Gives Memory S.contents result (opened text.now) }
-{
-    let directory = Directory::from_bytes(alloc, text)?;
-    let store = S::new(alloc, directory)?;
-    Ok(store)
-}
 
 /// What every store's items are: valid under its directory, and fewer than a number of 64 bits can count.
 fn items_fit<P: Program, S: Evidence<P>>(store: &S)
@@ -110,10 +97,10 @@ fn begin<P: Program, S: Evidence<P>, O: Opener>(
     ensures quiet { OnOk result ((O.seen opener.new).failures ≡ (O.seen opener.old).failures) }
 {
     sets_are_as_expected();
-    let text = read_said(alloc, opener, 0, true, limits)?;
-    match open_store::<P, S>(alloc, &text) {
+    let directory = read_directory(alloc, opener, limits)?;
+    match S::new(alloc, directory) {
         Ok(store) => Ok(store),
-        Err(fault) => Err(Refusal::of_text(0, &text, fault)),
+        Err(_) => Err(Refusal::of_file(0, Fault::Memory)),
     }
 }
 

@@ -8,23 +8,21 @@
 //! - [`merge`] writes the text of the items of all stores.
 //! - [`prove`] writes a proof that convicts a node, where there is one.
 //! - [`check`] writes whom a proof convicts: `exposes ID`.
-//! - [`show`] says what a file is and what is in it, and checks nothing.
 //!
 //! The function `run` of each of these modules carries its theorem: what is written is the command's answer to what the files say, or
 //! nothing is, and then a [`Refusal`](refusal::Refusal) says in which file and at which item the first fault stands.
+//!
+//! [`Opener`]: files::Opener
 #![tactic(auto)]
 
 pub mod asking;
 pub mod check;
-mod contents;
-mod counting;
-mod gathering;
 pub mod files;
 mod form;
+mod gathering;
 pub mod merge;
 pub mod prove;
 mod reading;
 pub mod refusal;
 mod said;
-pub mod show;
 pub mod status;

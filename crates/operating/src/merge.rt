@@ -1,7 +1,7 @@
 //! The engine of `merge`: the union of stores.
 
 ghost use Rattle.std.specs.Prelude.{◌<◌, ◌≤◌};
-ghost use Rattle.operating.specs.Operating.{HasRoom, Ran};
+ghost use Rattle.operating.specs.Operating.{HasRoom, RanOnStores};
 ghost use Rattle.parallel_checking.specs.declared.limits.TheConstants.{MOST_WORKERS};
 ghost use Rattle.operating.specs.Questions.{Merge};
 
@@ -46,7 +46,7 @@ where
     P::State: Send,
     requires workers { (0 < limits.workers) × (limits.workers ≤ MOST_WORKERS) }
     requires room { HasRoom stores (O.seen opener.old) (W.seen writer.old) }
-    ensures { Ran (Merge) limits.most_bytes stores result (O.seen opener.old) (O.seen opener.new) W.seen writer.old writer.new }
+    ensures { RanOnStores Merge limits.most_bytes stores result (O.seen opener.old) (O.seen opener.new) W.seen writer.old writer.new }
 {
     ask(rt, alloc, program, &Merging, opener, stores, limits, writer)
 }

@@ -1,9 +1,9 @@
 //! The engine of `prove`: a proof of what evidence shows of a node.
 
 ghost use Rattle.std.specs.Prelude.{◌≡◌, ◌<◌, ◌≤◌, IfOk};
-ghost use Rattle.operating.specs.Operating.{HasRoom, Ran};
+ghost use Rattle.operating.specs.Operating.{HasRoom, RanOnStores};
 ghost use Rattle.parallel_checking.specs.declared.limits.TheConstants.{MOST_WORKERS};
-ghost use Rattle.operating.specs.Questions.{Prove, text_of};
+ghost use Rattle.operating.specs.Questions.{Prove, told_of};
 
 use crate::asking::{Answer, Ending, Question, ask};
 use crate::gathering::Store;
@@ -24,9 +24,9 @@ struct Proving {
     node: NodeId,
 }
 
-/// A proof's text, and whether there is one.
+/// The text of a proof, or that there is none.
 fn answer_of(alloc: Global, found: Option<Proof>) -> Result<Answer, Memory>
-    ensures { IfOk result (λ answer. answer.text.items ≡ text_of found) }
+    ensures { IfOk result (λ answer. (answer.text.items, answer.ending) ≡ told_of found) }
 {
     match found {
         Some(proof) => {
@@ -70,7 +70,7 @@ where
     P::State: Send,
     requires workers { (0 < limits.workers) × (limits.workers ≤ MOST_WORKERS) }
     requires room { HasRoom stores (O.seen opener.old) (W.seen writer.old) }
-    ensures { Ran (Prove P.means node) limits.most_bytes stores result (O.seen opener.old) (O.seen opener.new) W.seen writer.old writer.new }
+    ensures { RanOnStores (Prove P.means node) limits.most_bytes stores result (O.seen opener.old) (O.seen opener.new) W.seen writer.old writer.new }
 {
     ask(
         rt,

@@ -2,12 +2,13 @@
 
 ghost use Rattle.std.specs.Prelude.{◌≡◌, ◌+◌, ◌<◌, ◌≤◌, ◌^◌, IfErr, IfOk, OnOk, vec_len};
 ghost use Rattle.commands.specs.Devices.{IsAllOf, IsReadFault};
-ghost use Rattle.operating.specs.GatheredFiles.{IsOfFile};
-ghost use Rattle.operating.specs.FileTexts.{IsUnsaid, Says};
+ghost use Rattle.operating.specs.GatheredFiles.{IsOfFile, RefusesDirectory};
+ghost use Rattle.operating.specs.FileTexts.{IsUnsaid, Says, SaysDirectory};
 
 use crate::files::{Limits, MOST_READS, Opener};
 use crate::refusal::Refusal;
 use crate::said::said;
+use authenticators::Directory;
 use commands::fault::Fault;
 use commands::input::read_input;
 use std::alloc::Global;
@@ -57,5 +58,25 @@ pub(crate) fn read_said<O: Opener>(
     match said(alloc, bytes, first) {
         Ok(text) => Ok(text),
         Err(fault) => Err(Refusal::of_file(file, fault)),
+    }
+}
+
+/// The directory that file 0 says.
+pub(crate) fn read_directory<O: Opener>(
+    alloc: Global,
+    opener: &mut O,
+    limits: Limits,
+) -> Result<Directory, Refusal>
+    requires room { (O.seen opener.old).failures < 2 ^ 63 }
+    ensures said { IfOk result (λ d. SaysDirectory limits.most_bytes ((O.seen opener.old).files 0) d) }
+    ensures refused { IfErr result (λ r. IsOfFile 0 r × RefusesDirectory limits.most_bytes ((O.seen opener.old).files 0) r.fault) }
+    ensures files { (O.seen opener.new).files ≡ (O.seen opener.old).files }
+    ensures quiet { OnOk result ((O.seen opener.new).failures ≡ (O.seen opener.old).failures) }
+    ensures few { (O.seen opener.new).failures ≤ (O.seen opener.old).failures + 1 }
+{
+    let text = read_said(alloc, opener, 0, true, limits)?;
+    match Directory::from_bytes(alloc, &text) {
+        Ok(directory) => Ok(directory),
+        Err(fault) => Err(Refusal::of_text(0, &text, Fault::from(fault))),
     }
 }

@@ -1,14 +1,17 @@
 //! The engine of `status`: what evidence says of each node.
 
-ghost use Rattle.std.specs.Prelude.{◌<◌, ◌≤◌};
-ghost use Rattle.operating.specs.Operating.{HasRoom, Ran};
+ghost use Rattle.std.specs.Prelude.{◌<◌, ◌≤◌, ◌↔◌, IsSome, IsTrue};
+ghost use Rattle.authenticators.specs.Directory.{keys_at};
+ghost use Rattle.evidence_set.specs.Indications.{IsExposed};
+ghost use Rattle.operating.specs.Operating.{HasRoom, RanOnStores};
 ghost use Rattle.parallel_checking.specs.declared.limits.TheConstants.{MOST_WORKERS};
-ghost use Rattle.operating.specs.Questions.{Status};
+ghost use Rattle.operating.specs.Questions.{ExposesSomebody, IsEnding, Status};
 
 use crate::asking::{Answer, Ending, Question, ask};
 use crate::gathering::Store;
 use crate::files::{Limits, Opener};
 use crate::refusal::Refusal;
+use authenticators::NodeId;
 use commands::device::Sink;
 use commands::fault::Fault;
 use commands::report::report_of;
@@ -21,15 +24,42 @@ use std::thread::Threads;
 /// The question of `status`.
 struct Reporting;
 
-/// Whether some node of the directory is exposed.
-fn some_exposed<P: Program>(store: &Store<P>) -> bool {
+/// Whether the evidence exposes a listed node.
+fn is_exposed<P: Program, S: Evidence<P>>(store: &S, node: NodeId) -> bool
+    requires { IsSome (keys_at (S.contents store.now).directory node) }
+    ensures { IsTrue result ↔ IsExposed (S.contents store.now).directory P.means (S.contents store.now).items node }
+{
+    let Ok(indication) = store.indication(node) else {
+        unreachable!()
+    };
+    match indication {
+        Indication::Exposed => true,
+        Indication::Suspected => false,
+        Indication::Trusted => false,
+    }
+}
+
+/// Whether the evidence exposes a node of its directory.
+fn exposes_somebody<P: Program, S: Evidence<P>>(store: &S) -> bool
+    ensures { IsTrue result ↔ ExposesSomebody P.means (S.contents store.now) }
+{
     for node in store.directory().nodes() {
-        match store.indication(*node) {
-            Ok(Indication::Exposed) => return true,
-            _ => {}
+        if is_exposed::<P, S>(store, *node) {
+            return true;
         }
     }
     false
+}
+
+/// How the engine ends.
+fn ending_of<P: Program, S: Evidence<P>>(store: &S) -> Ending
+    ensures { IsEnding P.means (S.contents store.now) result }
+{
+    if exposes_somebody::<P, S>(store) {
+        Ending::Exposed
+    } else {
+        Ending::Done
+    }
 }
 
 impl<P: Program> Question<P> for Reporting {
@@ -37,11 +67,7 @@ impl<P: Program> Question<P> for Reporting {
 
     fn answer(&self, alloc: Global, store: &Store<P>) -> Result<Answer, Fault> {
         let text = report_of::<P, Store<P>>(alloc, store)?;
-        let ending = if some_exposed(store) {
-            Ending::Exposed
-        } else {
-            Ending::Done
-        };
+        let ending = ending_of::<P, Store<P>>(store);
         Ok(Answer { text, ending })
     }
 }
@@ -61,7 +87,7 @@ where
     P::State: Send,
     requires workers { (0 < limits.workers) × (limits.workers ≤ MOST_WORKERS) }
     requires room { HasRoom stores (O.seen opener.old) (W.seen writer.old) }
-    ensures { Ran (Status P.means) limits.most_bytes stores result (O.seen opener.old) (O.seen opener.new) W.seen writer.old writer.new }
+    ensures { RanOnStores (Status P.means) limits.most_bytes stores result (O.seen opener.old) (O.seen opener.new) W.seen writer.old writer.new }
 {
     ask(
         rt, alloc, program, &Reporting, opener, stores, limits, writer,
