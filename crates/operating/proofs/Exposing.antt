@@ -1,7 +1,9 @@
 -- The nodes of a directory, and which of them are exposed.
-use Rattle.std.proofs.Common.{◌≡◌, ◌<◌, ℕ, zero, suc, Bool, true, false, cond, List, [], ◌∷◌, length, get_or, Option, Some, nat_eq, refl, sym, arith, eq-eqb}
+use borrow.Author.Count.{below_more}
+use Rattle.std.proofs.Common.{◌≡◌, ◌∙◌, ◌+◌, ◌<◌, ◌≤◌, ℕ, zero, suc, Bool, true, false, cond, List, [], ◌∷◌, length, get_or, Option, Some, nat_eq, refl, sym, ap, subst, arith, eq-eqb}
 use Rattle.std.specs.Prelude.{map, IsSome, IsTrue, ◌↔◌}
 use Rattle.std.proofs.lemmas.Bool.{eqb-true}
+use Rattle.std.proofs.lemmas.Grind.{get_or_default_zero}
 use Rattle.authenticators.specs.Directory.{Listing, keys_at}
 use Rattle.replay_verifier.specs.Meaning.{Meaning}
 use Rattle.evidence_set.specs.declared.indication.Indication.{Indication}
@@ -54,3 +56,17 @@ pub tells_exposed : {S : Type 0} (ds : Listing) (program : Meaning S) (E : Items
 tells_exposed ds program E j Trusted h = (λ t. absurd cc, λ e. absurd (h.0 e))
 tells_exposed ds program E j Suspected h = (λ t. absurd cc, λ e. absurd (h.0 e))
 tells_exposed ds program E j Exposed h = (λ t. h, λ e. refl)
+
+-- ---- going through the nodes
+
+pub none_more : (P : ℕ → Type 0) (nodes : List ℕ) (n node : ℕ) → n < length nodes → node ≡ get_or nodes n node → ((k : ℕ) → k < n → ¬ P (get_or nodes k 0)) → ¬ P node → (k : ℕ) → k < n + 1 → ¬ P (get_or nodes k 0)
+none_more P nodes n node below is before not =
+    let same : node ≡ get_or nodes n 0 = is ∙ get_or_default_zero nodes n node below in
+    below_more (λ k. ¬ P (get_or nodes k 0)) n before (λ h. not (subst P (sym same) h))
+
+pub nobody : (P : ℕ → Type 0) (ds : Listing) (nodes : List ℕ) (n : ℕ) → nodes ≡ numbers ds → length nodes ≤ n → ((k : ℕ) → k < n → ¬ P (get_or nodes k 0)) → (node : ℕ) → IsSome (keys_at ds node) → ¬ P node
+nobody P ds nodes n same end none node listed h =
+    let (k, below, is) = place_of ds node listed in
+    let len : length nodes ≡ length (numbers ds) = ap length same in
+    let at : get_or nodes k 0 ≡ node = ap (λ (xs : List ℕ). get_or xs k 0) same ∙ is in
+    none k (omega (arith, below, len, end)) (subst P (sym at) h)

@@ -10,10 +10,11 @@ ghost use Rattle.operating.specs.declared.asking.Ending.{Ending};
 ghost use Rattle.parallel_checking.specs.declared.limits.TheConstants.{MOST_WORKERS};
 
 use crate::files::{Limits, Opener};
-use crate::gathering::{Store, gather};
+use crate::gathering::gather;
 use crate::refusal::Refusal;
 use commands::device::Sink;
 use commands::fault::Fault;
+use evidence_store::Evidence;
 use replay_verifier::Program;
 use std::alloc::Global;
 use std::thread::Threads;
@@ -36,19 +37,26 @@ pub(crate) struct Answer {
     pub(crate) ending: Ending,
 }
 
-/// A question to evidence of nodes that follow a program.
-pub(crate) trait Question<P: Program> {
+/// A question to stores of evidence of nodes that follow a program.
+pub(crate) trait Question<P: Program, S: Evidence<P>> {
     /// Which text answers it of which evidence, and how the engine ends; or why there is none.
     ghost means: { Self → Contents → Result (List ℕ × Ending) Fault → Type 0 };
 
     /// The answer of a store.
-    fn answer(&self, alloc: Global, store: &Store<P>) -> Result<Answer, Fault>
-        ensures told { MatchResult result (λ answer. means self.now store.now (Ok (answer.text.items, answer.ending))) (λ f. (f ≡ fault.Memory) ⊎ means self.now store.now (Err f)) };
+    fn answer(&self, alloc: Global, store: &S) -> Result<Answer, Fault>
+        ensures told { MatchResult result (λ answer. means self.now (S.contents store.now) (Ok (answer.text.items, answer.ending))) (λ f. (f ≡ fault.Memory) ⊎ means self.now (S.contents store.now) (Err f)) };
 }
 
 /// Reads the directory and so many stores behind it, and writes the answer and nothing else, in one write, once everything has been
 /// decided.
-pub(crate) fn ask<R: Threads + Sync, P: Program + Send + Sync, Q: Question<P>, O: Opener, W: Sink>(
+pub(crate) fn ask<
+    R: Threads + Sync,
+    P: Program + Send + Sync,
+    S: Evidence<P>,
+    Q: Question<P, S>,
+    O: Opener,
+    W: Sink,
+>(
     rt: &R,
     alloc: Global,
     program: &P,
@@ -64,7 +72,7 @@ where
     requires room { HasRoom stores (O.seen opener.old) (W.seen writer.old) }
     ensures { RanOnStores (Q.means question.now) limits.most_bytes stores result (O.seen opener.old) (O.seen opener.new) W.seen writer.old writer.new }
 {
-    let store: Store<P> = gather(rt, alloc, program, opener, stores, limits)?;
+    let store = gather::<R, P, S, O>(rt, alloc, program, opener, stores, limits)?;
     let answer = match question.answer(alloc, &store) {
         Ok(answer) => answer,
         Err(fault) => return Err(Refusal::of_none(fault)),

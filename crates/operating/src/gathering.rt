@@ -15,14 +15,11 @@ use commands::fault::Fault;
 use evidence_set::laws::{
     joins_are_as_expected, sets_are_as_expected, sets_are_lists, sets_count, sets_have_one_text,
 };
-use evidence_store::{Evidence, IndexedStore};
+use evidence_store::Evidence;
 use parallel_reading::import_by;
 use replay_verifier::Program;
 use std::alloc::Global;
 use std::thread::Threads;
-
-/// The store that is filled.
-pub(crate) type Store<P> = IndexedStore<P>;
 
 /// What every store's items are: valid under its directory, and fewer than a number of 64 bits can count.
 fn items_fit<P: Program, S: Evidence<P>>(store: &S)

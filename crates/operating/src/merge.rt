@@ -6,12 +6,11 @@ ghost use Rattle.parallel_checking.specs.declared.limits.TheConstants.{MOST_WORK
 ghost use Rattle.operating.specs.Questions.{Merge};
 
 use crate::asking::{Answer, Ending, Question, ask};
-use crate::gathering::Store;
 use crate::files::{Limits, Opener};
 use crate::refusal::Refusal;
 use commands::device::Sink;
 use commands::fault::Fault;
-use evidence_store::Evidence;
+use evidence_store::{Evidence, IndexedStore};
 use replay_verifier::Program;
 use std::alloc::Global;
 use std::thread::Threads;
@@ -19,10 +18,10 @@ use std::thread::Threads;
 /// The question of `merge`.
 struct Merging;
 
-impl<P: Program> Question<P> for Merging {
+impl<P: Program, S: Evidence<P>> Question<P, S> for Merging {
     ghost means = { λ _. Merge };
 
-    fn answer(&self, _alloc: Global, store: &Store<P>) -> Result<Answer, Fault> {
+    fn answer(&self, _alloc: Global, store: &S) -> Result<Answer, Fault> {
         let text = store.export()?;
         Ok(Answer {
             text,
@@ -48,5 +47,5 @@ where
     requires room { HasRoom stores (O.seen opener.old) (W.seen writer.old) }
     ensures { RanOnStores Merge limits.most_bytes stores result (O.seen opener.old) (O.seen opener.new) W.seen writer.old writer.new }
 {
-    ask(rt, alloc, program, &Merging, opener, stores, limits, writer)
+    ask::<R, P, IndexedStore<P>, Merging, O, W>(rt, alloc, program, &Merging, opener, stores, limits, writer)
 }

@@ -6,13 +6,12 @@ ghost use Rattle.parallel_checking.specs.declared.limits.TheConstants.{MOST_WORK
 ghost use Rattle.operating.specs.Questions.{Prove, told_of};
 
 use crate::asking::{Answer, Ending, Question, ask};
-use crate::gathering::Store;
 use crate::files::{Limits, Opener};
 use crate::refusal::Refusal;
 use authenticators::NodeId;
 use commands::device::Sink;
 use commands::fault::Fault;
-use evidence_store::{Evidence, Proof};
+use evidence_store::{Evidence, IndexedStore, Proof};
 use outcome::Memory;
 use replay_verifier::Program;
 use std::alloc::Global;
@@ -43,10 +42,10 @@ fn answer_of(alloc: Global, found: Option<Proof>) -> Result<Answer, Memory>
     }
 }
 
-impl<P: Program> Question<P> for Proving {
+impl<P: Program, S: Evidence<P>> Question<P, S> for Proving {
     ghost means = { λ q. Prove P.means q.node };
 
-    fn answer(&self, alloc: Global, store: &Store<P>) -> Result<Answer, Fault> {
+    fn answer(&self, alloc: Global, store: &S) -> Result<Answer, Fault> {
         let found = store.proof(self.node)?;
         let answer = answer_of(alloc, found)?;
         Ok(answer)
@@ -72,14 +71,5 @@ where
     requires room { HasRoom stores (O.seen opener.old) (W.seen writer.old) }
     ensures { RanOnStores (Prove P.means node) limits.most_bytes stores result (O.seen opener.old) (O.seen opener.new) W.seen writer.old writer.new }
 {
-    ask(
-        rt,
-        alloc,
-        program,
-        &Proving { node },
-        opener,
-        stores,
-        limits,
-        writer,
-    )
+    ask::<R, P, IndexedStore<P>, Proving, O, W>(rt, alloc, program, &Proving { node }, opener, stores, limits, writer)
 }

@@ -8,7 +8,6 @@ ghost use Rattle.parallel_checking.specs.declared.limits.TheConstants.{MOST_WORK
 ghost use Rattle.operating.specs.Questions.{ExposesSomebody, IsEnding, Status};
 
 use crate::asking::{Answer, Ending, Question, ask};
-use crate::gathering::Store;
 use crate::files::{Limits, Opener};
 use crate::refusal::Refusal;
 use authenticators::NodeId;
@@ -16,7 +15,7 @@ use commands::device::Sink;
 use commands::fault::Fault;
 use commands::report::report_of;
 use evidence_set::Indication;
-use evidence_store::Evidence;
+use evidence_store::{Evidence, IndexedStore};
 use replay_verifier::Program;
 use std::alloc::Global;
 use std::thread::Threads;
@@ -62,12 +61,12 @@ fn ending_of<P: Program, S: Evidence<P>>(store: &S) -> Ending
     }
 }
 
-impl<P: Program> Question<P> for Reporting {
+impl<P: Program, S: Evidence<P>> Question<P, S> for Reporting {
     ghost means = { λ _. Status P.means };
 
-    fn answer(&self, alloc: Global, store: &Store<P>) -> Result<Answer, Fault> {
-        let text = report_of::<P, Store<P>>(alloc, store)?;
-        let ending = ending_of::<P, Store<P>>(store);
+    fn answer(&self, alloc: Global, store: &S) -> Result<Answer, Fault> {
+        let text = report_of::<P, S>(alloc, store)?;
+        let ending = ending_of::<P, S>(store);
         Ok(Answer { text, ending })
     }
 }
@@ -89,7 +88,5 @@ where
     requires room { HasRoom stores (O.seen opener.old) (W.seen writer.old) }
     ensures { RanOnStores (Status P.means) limits.most_bytes stores result (O.seen opener.old) (O.seen opener.new) W.seen writer.old writer.new }
 {
-    ask(
-        rt, alloc, program, &Reporting, opener, stores, limits, writer,
-    )
+    ask::<R, P, IndexedStore<P>, Reporting, O, W>(rt, alloc, program, &Reporting, opener, stores, limits, writer)
 }
