@@ -61,17 +61,21 @@ module _ (ds : Listing) (more : List Fields) (text : List ℕ) (read : store_of 
       let same : items ≡ all = cc in
       ap (λ (r : Result (List Fields) Fault). r >>= λ more. stores_after ds (items ++ more) []) read ∙ ap (λ (l : List Fields). let told : Result (List Fields) Fault = Ok (l ++ more) in told) same
 
-  stores_more : (stores : List (List ℕ)) (items all : List Fields) → stores_after ds items stores ≡ Ok all → stores_after ds items (stores ++ text ∷ []) ≡ Ok (all ++ more)
+  stores_behind : (stores : List (List ℕ)) (items all : List Fields) (r : Result (List Fields) Fault)
+      → ((m : List Fields) → stores_after ds (items ++ m) stores ≡ Ok all → stores_after ds (items ++ m) (stores ++ text ∷ []) ≡ Ok (all ++ more))
+      → (r >>= λ m. stores_after ds (items ++ m) stores) ≡ Ok all → (r >>= λ m. stores_after ds (items ++ m) (stores ++ text ∷ [])) ≡ Ok (all ++ more)
+  stores_behind stores items all (Ok m) behind h = behind m h
+  stores_behind stores items all (Err f) behind h = absurd cc
 
-  stores_behind : (stores : List (List ℕ)) (items all : List Fields) (r : Result (List Fields) Fault) → (r >>= λ m. stores_after ds (items ++ m) stores) ≡ Ok all → (r >>= λ m. stores_after ds (items ++ m) (stores ++ text ∷ [])) ≡ Ok (all ++ more)
+  stores_more : (stores : List (List ℕ)) (items all : List Fields) → stores_after ds items stores ≡ Ok all → stores_after ds items (stores ++ text ∷ []) ≡ Ok (all ++ more)
   unfolding stores_after
   stores_more [] items all h = last_store items all h
-  stores_more (t ∷ stores) items all h = stores_behind stores items all (store_of ds t) h
-  stores_behind stores items all (Ok m) h = stores_more stores (items ++ m) all h
-  stores_behind stores items all (Err f) h = absurd cc
+  stores_more (t ∷ stores) items all h = stores_behind stores items all (store_of ds t) (λ m. stores_more stores (items ++ m) all) h
 
 read_parts : (l ds : Listing) (all : List Fields) (r : Result (List Fields) Fault) → (r >>= λ items. parsed l items) ≡ parsed ds all → (r ≡ Ok all) × (l ≡ ds)
-read_parts l ds all (Ok items) h = (cc, cc)
+read_parts l ds all (Ok items) h =
+    let same : ◌≡◌ {A = Parsed} (record { directory = l; items = items }) (record { directory = ds; items = all }) = cc in
+    (ap (λ (p : Parsed). let read : Result (List Fields) Fault = Ok p.items in read) same, ap (λ (p : Parsed). p.directory) same)
 read_parts l ds all (Err f) h = absurd cc
 
 more_alike : (d : Result Listing Fault) (stores : List (List ℕ)) (ds : Listing) (all more : List Fields) (text : List ℕ) → store_of ds text ≡ Ok more → (d >>= read_stores stores) ≡ parsed ds all → (d >>= read_stores (stores ++ text ∷ [])) ≡ parsed ds (all ++ more)

@@ -1,6 +1,6 @@
 //! The evidence of files: a directory, and the items of stores under it.
 
-ghost use Rattle.std.specs.Prelude.{◌≡◌, ◌+◌, ◌<◌, ◌≤◌, ◌^◌, IfErr, IfOk, List, OnOk, Some, suc, ℕ};
+ghost use Rattle.std.specs.Prelude.{◌≡◌, ◌+◌, ◌<◌, ◌≤◌, ◌^◌, IfErr, IfOk, List, OnOk, Some, false, suc, ℕ};
 ghost use Rattle.evidence_set.specs.Exports.{AreValid};
 ghost use Rattle.evidence_set.specs.ItemSets.{count};
 ghost use Rattle.operating.specs.GatheredFiles.{AreGathered, IsOfFile, RefusesDirectory, RefusesFiles, RefusesStore, RefusesText};

@@ -20,8 +20,8 @@ returns-in-Err g c =
     let question = g.Q.Question.means c.args.question.now in
     let files = (g.O.Opener.seen c.args.opener.now).files in
     not_answered (AreGathered c.args.limits.most_bytes files c.args.stores) (RefusesFiles c.args.limits.most_bytes files c.args.stores) question (g.O.Opener.seen c.args.opener.now) (g.O.Opener.seen c.gather.new.opener) g.W.Sink.seen c.args.writer.now
-    c.in_ok-store.store c.of_none.result c.in_ok-store.ensures.gathered none
-    (subst (λ (f : Fault). (f ≡ fault.Memory) ⊎ question c.in_ok-store.store (Err f)) (sym told) c.in-Err.ensures.told)
+    (g.S.Evidence.contents c.in_ok-store.store) c.of_none.result c.in_ok-store.ensures.gathered none
+    (subst (λ (f : Fault). (f ≡ fault.Memory) ⊎ question (g.S.Evidence.contents c.in_ok-store.store) (Err f)) (sym told) c.in-Err.ensures.told)
 
 pub returns-in_err-write : goal.returns-in_err-write
 returns-in_err-write g c =
@@ -29,11 +29,11 @@ returns-in_err-write g c =
     let files = (g.O.Opener.seen c.args.opener.now).files in
     let failed = c.in_err-write.ensures.failed in
     rw (p.1, p.2) (not_written (AreGathered c.args.limits.most_bytes files c.args.stores) (RefusesFiles c.args.limits.most_bytes files c.args.stores) (g.Q.Question.means c.args.question.now) (g.O.Opener.seen c.args.opener.now) (g.O.Opener.seen c.gather.new.opener) g.W.Sink.seen c.args.writer.now
-    c.in_ok-store.store c.in-Ok.answer.text.items c.in-Ok.answer.ending c.in_err-write.field-0.0 c.write.new.writer c.in_ok-store.ensures.gathered c.in-Ok.ensures.told failed.1 failed.0 failed.2)
+    (g.S.Evidence.contents c.in_ok-store.store) c.in-Ok.answer.text.items c.in-Ok.answer.ending c.in_err-write.field-0.0 c.write.new.writer c.in_ok-store.ensures.gathered c.in-Ok.ensures.told failed.1 failed.0 failed.2)
 
 pub returns : goal.returns
 returns g c =
     let files = (g.O.Opener.seen c.args.opener.now).files in
     let appended = subst (λ (t : List ℕ). Appends (g.W.Sink.seen c.args.writer.now).written (g.W.Sink.seen c.write.new.writer).written t) c.deref.ensures.value c.in_ok-write.ensures.written in
     written (AreGathered c.args.limits.most_bytes files c.args.stores) (RefusesFiles c.args.limits.most_bytes files c.args.stores) (g.Q.Question.means c.args.question.now) (g.O.Opener.seen c.args.opener.now) (g.O.Opener.seen c.gather.new.opener) g.W.Sink.seen c.args.writer.now
-    c.in_ok-store.store c.in-Ok.answer.text.items c.in-Ok.answer.ending c.write.new.writer c.in_ok-store.ensures.gathered c.in-Ok.ensures.told appended c.in_ok-write.ensures.quiet c.in_ok-store.ensures.quiet
+    (g.S.Evidence.contents c.in_ok-store.store) c.in-Ok.answer.text.items c.in-Ok.answer.ending c.write.new.writer c.in_ok-store.ensures.gathered c.in-Ok.ensures.told appended c.in_ok-write.ensures.quiet c.in_ok-store.ensures.quiet

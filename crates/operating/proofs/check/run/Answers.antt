@@ -15,8 +15,8 @@ returns-in_err-node g c =
     rw (p.1, p.2) (files_refused (AreConvicting g.P.Program.means c.args.limits.most_bytes old.files) (RefusesConviction g.P.Program.means c.args.limits.most_bytes old.files) Check old (g.O.Opener.seen c.convicted.new.opener) g.W.Sink.seen c.args.writer.now
     c.in_err-node.field-0.0 c.in_err-node.ensures.refused)
 
-pub returns-in_default : goal.returns-in_default
-returns-in_default g c =
+pub returns-in-Err : goal.returns-in-Err
+returns-in-Err g c =
     let old = g.O.Opener.seen c.args.opener.now in
     not_answered (AreConvicting g.P.Program.means c.args.limits.most_bytes old.files) (RefusesConviction g.P.Program.means c.args.limits.most_bytes old.files) Check old (g.O.Opener.seen c.convicted.new.opener) g.W.Sink.seen c.args.writer.now
     c.in_ok-node.node c.of_none.result c.in_ok-node.ensures.convicted c.of_none.ensures.1 (inl c.of_none.ensures.0)

@@ -11,8 +11,8 @@ returns-in_err-directory-clause-refused g c =
 pub returns-in-Ok-clause-gathered : goal.returns-in-Ok-clause-gathered
 returns-in-Ok-clause-gathered g c = directory_alone c.sets_are_as_expected.ensures c.args.limits.most_bytes (g.O.Opener.seen c.args.opener.now).files c.in_ok-directory.directory (g.S.Evidence.contents c.in-Ok.store) c.in_ok-directory.ensures.said c.in-Ok.ensures.empty
 
-pub returns-in_default-clause-refused : goal.returns-in_default-clause-refused
-returns-in_default-clause-refused g c =
+pub returns-clause-refused : goal.returns-clause-refused
+returns-clause-refused g c =
     let (told, file, item) = c.of_file.ensures in
     let (text, says, read) = c.in_ok-directory.ensures.said in
     ((file, item), inr (text, says, inl told))

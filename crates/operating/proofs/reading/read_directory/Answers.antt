@@ -16,8 +16,8 @@ pub returns-in-Ok-clause-said : goal.returns-in-Ok-clause-said
 returns-in-Ok-clause-said g c =
     (c.in_ok-text.text.items, c.in_ok-text.ensures.said, subst (λ (t : List ℕ). directory_of t ≡ Ok c.in-Ok.directory) c.deref.ensures.value c.in-Ok.ensures.exact)
 
-pub returns-in-Err-clause-refused : goal.returns-in-Err-clause-refused
-returns-in-Err-clause-refused g c =
+pub returns-clause-refused : goal.returns-clause-refused
+returns-clause-refused g c =
     let (told, file, item) = c.of_text.ensures in
     let fails = subst (λ (t : List ℕ). Fails listing.Memory c.in-Err.fault (directory_of t)) c.deref.ensures.value c.in-Err.ensures.exact in
     ((file, item), inr (c.in_ok-text.text.items, c.in_ok-text.ensures.said, no_directory (directory_of c.in_ok-text.text.items) c.in-Err.fault c.of_text.result.fault (told ∙ c.from.ensures) fails))

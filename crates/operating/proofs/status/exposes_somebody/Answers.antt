@@ -12,6 +12,13 @@ is_exposed-requires g c =
     subst (λ (ds : Listing). IsSome (keys_at ds c.node-item.result)) c.directory.ensures.kept
     (listed_at c.directory.result.now c.loop-node.node-index c.node-item.result (rw (← c.nodes-node-items.ensures.numbers) c.loop-node-test.true) (rw (← c.nodes-node-items.ensures.numbers) at))
 
+pub returns-then-is_exposed : goal.returns-then-is_exposed
+returns-then-is_exposed g c =
+    let at : get_or c.nodes-node-items.result.now c.loop-node.node-index 0 ≡ c.node-item.result = sym (c.node-item.is ∙ get_or_default_zero c.nodes-node-items.result.now c.loop-node.node-index c.node-item.result c.loop-node-test.true) in
+    let listed : IsSome (keys_at (g.S.Evidence.contents c.args.store.now).directory c.node-item.result) = subst (λ (ds : Listing). IsSome (keys_at ds c.node-item.result)) c.directory.ensures.kept
+    (listed_at c.directory.result.now c.loop-node.node-index c.node-item.result (rw (← c.nodes-node-items.ensures.numbers) c.loop-node-test.true) (rw (← c.nodes-node-items.ensures.numbers) at)) in
+    (λ t. (c.node-item.result, listed, c.is_exposed.ensures.0 c.if-is_exposed.true), λ e. refl)
+
 pub loop-node-preserved : goal.loop-node-preserved
 loop-node-preserved g c =
     let s = g.S.Evidence.contents c.args.store.now in
