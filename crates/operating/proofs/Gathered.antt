@@ -1,5 +1,5 @@
 -- The evidence of a directory alone, and with one store more.
-use Rattle.std.proofs.Common.{◌≡◌, ◌∙◌, ◌+◌, ℕ, suc, false, true, List, [], ◌∷◌, ◌++◌, length, Option, Result, Ok, Err, refl, sym, ap, subst, arith}
+use Rattle.std.proofs.Common.{◌≡◌, ◌∙◌, ◌+◌, ◌<◌, ℕ, suc, false, true, List, [], ◌∷◌, ◌++◌, length, Option, Some, Result, Ok, Err, inr, refl, sym, ap, subst, arith}
 use Rattle.std.proofs.lemmas.List.{length-append}
 use Rattle.outcome.specs.Outcome.{◌>>=◌, told_as}
 use Rattle.authenticators.specs.Directory.{Listing}
@@ -11,7 +11,8 @@ use Rattle.evidence.specs.Contents.{Contents}
 use Rattle.commands.specs.declared.fault.Fault.{Fault}
 use Rattle.commands.specs.Refusals.{of_directory}
 use Rattle.commands.specs.Inputs.{AreItems, IsEvidence, Parsed, evidence_of, store_of, stores_after}
-use Rattle.operating.specs.GatheredFiles.{AreGathered}
+use Rattle.operating.specs.GatheredFiles.{AreGathered, RefusesFiles, RefusesStore}
+use Rattle.operating.specs.declared.refusal.Refusal.{Refusal}
 use Rattle.operating.specs.FileTexts.{Say, Says, SaysDirectory}
 use Rattle.operating.specs.within.Adding.{AddsStore}
 use Rattle.operating.proofs.Members.{none_here}
@@ -109,3 +110,16 @@ store_more limit files n s t text are says adds =
         set = adds.set are.is.items are.is.set;
       };
     }
+
+-- ---- a file read into the store of those before it
+
+pub store_added : (limit : ℕ) (files now : ℕ → Option (List ℕ)) (n k : ℕ) (s t : Contents) → k ≡ suc n → now ≡ files → AreGathered limit files n s → ((text : List ℕ) × Says limit false (now k) text × AddsStore s t text) → AreGathered limit files k t
+store_added limit files now n k s t at same are (text, says, adds) =
+    let here : Says limit false (files k) text = subst (λ (fs : ℕ → Option (List ℕ)). Says limit false (fs k) text) same says in
+    subst (λ (m : ℕ). AreGathered limit files m t) (sym at) (store_more limit files n s t text are (subst (λ (m : ℕ). Says limit false (files m) text) at here) adds)
+
+pub store_refused : (limit : ℕ) (files now : ℕ → Option (List ℕ)) (count n k : ℕ) (s : Contents) (r : Refusal) → k ≡ suc n → now ≡ files → n < count → AreGathered limit files n s → ((r.file ≡ Some k) × RefusesStore limit s (now k) r) → RefusesFiles limit files count r
+store_refused limit files now count n k s r at same below are told =
+    let here = subst (λ (fs : ℕ → Option (List ℕ)). (r.file ≡ Some k) × RefusesStore limit s (fs k) r) same told in
+    let there = subst (λ (m : ℕ). (r.file ≡ Some m) × RefusesStore limit s (files m) r) at here in
+    inr (n, s, below, are, there.0, there.1)
