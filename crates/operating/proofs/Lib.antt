@@ -1,0 +1,6 @@
+mod AddedStores
+mod Endings
+mod Exposing
+mod Gathered
+mod Members
+mod Steps

@@ -1,0 +1,44 @@
+-- What an engine did with files and a writer.
+use Rattle.std.specs.Prelude.{ℕ, ◌≡◌, ◌⊎◌, ◌+◌, ◌^◌, ◌<◌, List, Option, None, Result, Ok, Err, IfErr, IfOk, OnOk}
+use Rattle.std.specs.Io.KnownBytes.{Appends}
+use Rattle.commands.specs.declared.fault.Fault.{Fault}
+use Rattle.commands.specs.declared.fault.Fault.TheVariants as fault
+use Rattle.commands.specs.Devices.{Writer}
+use Rattle.evidence.specs.Contents.{Contents}
+use Rattle.operating.specs.declared.asking.Ending.{Ending}
+use Rattle.operating.specs.declared.refusal.Refusal.{Refusal}
+use Rattle.operating.specs.ConvictingFiles.{AreConvicting, RefusesConviction}
+use Rattle.operating.specs.FileTexts.{Opened}
+use Rattle.operating.specs.GatheredFiles.{AreGathered, RefusesFiles}
+use Rattle.operating.specs.Questions.{Check}
+use Rattle.replay_verifier.specs.Meaning.{Meaning}
+
+-- The counts have room for what an engine does with so many files and one write.
+pub record HasRoom (count : ℕ) (opened : Opened) (writer : Writer) : Type 0 where
+  pub openings : opened.failures + count < 2 ^ 63
+  pub writings : writer.failures < 2 ^ 63
+
+-- Why nothing was answered to what was read: memory ran out, or there is no answer, or it could not be written.
+abbrev pub LacksAnswer : (Result (List ℕ × Ending) Fault → Type 0) → Fault → Type 0
+LacksAnswer answers f = (f ≡ fault.Memory) ⊎ answers (Err f) ⊎ ((f ≡ fault.WriteFailed) × (told : List ℕ × Ending) × answers (Ok told))
+
+-- What an engine did: `reads s` where the files say s, `refuses r` where they are refused so, and `question s` has the text that answers s
+-- and how the engine ends, or why there is none.
+pub record Ran {S W : Type 0} (reads : S → Type 0) (refuses : Refusal → Type 0) (question : S → Result (List ℕ × Ending) Fault → Type 0) (result : Result Ending Refusal) (old new : Opened) (seen : W → Writer) (before after : W) : Type 0 where
+  -- What is written is the answer to what the files say, and nothing else.
+  pub done : IfOk result (λ ending. (s : S) × (text : List ℕ) × reads s × question s (Ok (text, ending)) × Appends (seen before).written (seen after).written text)
+  -- A refusal is that of the files; or what they say has no answer.
+  pub refused : IfErr result (λ r. refuses r ⊎ ((s : S) × reads s × (r.file ≡ None) × LacksAnswer (question s) r.fault))
+  -- A refused engine has written nothing; or the write itself failed, and its count rose.
+  pub nothing_written : IfErr result (λ r. (after ≡ before) ⊎ ((r.fault ≡ fault.WriteFailed) × ((seen before).failures < (seen after).failures)))
+  -- Where it was done, no file and no write failed.
+  pub reads_well : OnOk result (new.failures ≡ old.failures)
+  pub writes_well : OnOk result ((seen after).failures ≡ (seen before).failures)
+
+-- An engine asked the evidence of a directory and so many stores.
+abbrev pub RanOnStores : {W : Type 0} → (Contents → Result (List ℕ × Ending) Fault → Type 0) → ℕ → ℕ → Result Ending Refusal → Opened → Opened → (W → Writer) → W → W → Type 0
+RanOnStores question limit count result old new seen before after = Ran (AreGathered limit old.files count) (RefusesFiles limit old.files count) question result old new seen before after
+
+-- An engine asked whom a proof convicts under a directory.
+abbrev pub RanOnProof : {S W : Type 0} → Meaning S → ℕ → Result Ending Refusal → Opened → Opened → (W → Writer) → W → W → Type 0
+RanOnProof program limit result old new seen before after = Ran (AreConvicting program limit old.files) (RefusesConviction program limit old.files) Check result old new seen before after

@@ -1,0 +1,75 @@
+//! The engine of `prove`: a proof of what evidence shows of a node.
+
+ghost use Rattle.std.specs.Prelude.{◌≡◌, ◌<◌, ◌≤◌, IfOk};
+ghost use Rattle.operating.specs.Operating.{HasRoom, RanOnStores};
+ghost use Rattle.parallel_checking.specs.declared.limits.TheConstants.{MOST_WORKERS};
+ghost use Rattle.operating.specs.Questions.{Prove, told_of};
+
+use crate::asking::{Answer, Ending, Question, ask};
+use crate::files::{Limits, Opener};
+use crate::refusal::Refusal;
+use authenticators::NodeId;
+use commands::device::Sink;
+use commands::fault::Fault;
+use evidence_store::{Evidence, IndexedStore, Proof};
+use outcome::Memory;
+use replay_verifier::Program;
+use std::alloc::Global;
+use std::thread::Threads;
+
+/// The question of `prove`, of this node.
+#[derive(Clone, Copy)]
+struct Proving {
+    node: NodeId,
+}
+
+/// The text of a proof, or that there is none.
+fn answer_of(alloc: Global, found: Option<Proof>) -> Result<Answer, Memory>
+    ensures { IfOk result (λ answer. (answer.text.items, answer.ending) ≡ told_of found) }
+{
+    match found {
+        Some(proof) => {
+            let text = proof.encode(alloc)?;
+            Ok(Answer {
+                text,
+                ending: Ending::Done,
+            })
+        }
+        None => Ok(Answer {
+            text: Vec::new(alloc),
+            ending: Ending::NoProof,
+        }),
+    }
+}
+
+impl<P: Program, S: Evidence<P>> Question<P, S> for Proving {
+    ghost means = { λ q. Prove P.means q.node };
+
+    fn answer(&self, alloc: Global, store: &S) -> Result<Answer, Fault> {
+        let found = store.proof(self.node)?;
+        let answer = answer_of(alloc, found)?;
+        Ok(answer)
+    }
+}
+
+/// Reads a directory and so many stores, and writes a proof that convicts the node before anybody who has the directory and the program;
+/// or nothing, and answers `NoProof`, where the items do not expose it. Where several proofs convict the node, it is left open which one
+/// is written.
+pub fn run<R: Threads + Sync, P: Program + Send + Sync, O: Opener, W: Sink>(
+    rt: &R,
+    alloc: Global,
+    program: &P,
+    node: NodeId,
+    opener: &mut O,
+    stores: usize,
+    limits: Limits,
+    writer: &mut W,
+) -> Result<Ending, Refusal>
+where
+    P::State: Send,
+    requires workers { (0 < limits.workers) × (limits.workers ≤ MOST_WORKERS) }
+    requires room { HasRoom stores (O.seen opener.old) (W.seen writer.old) }
+    ensures { RanOnStores (Prove P.means node) limits.most_bytes stores result (O.seen opener.old) (O.seen opener.new) W.seen writer.old writer.new }
+{
+    ask::<R, P, IndexedStore<P>, Proving, O, W>(rt, alloc, program, &Proving { node }, opener, stores, limits, writer)
+}

@@ -1,0 +1,258 @@
+#!/usr/bin/env python3
+"""Holds what `bulwynef` writes of files to what `node_sim` writes of the same lines, by both builds and by 1 and 8 workers.
+
+    operating/run.py [FOLDER]
+
+Each file of examples/ is parted into files, as bytes and as lines of digits. With FOLDER, of cases NNN.args, NNN.stdin, NNN.status, NNN.stdout and
+NNN.stderr, each case of `status`, `merge`, `prove` and `check` whose lines are digits is parted likewise, and its stored answer is held. Then files
+that are missing, folders, empty, cut off, with CRLF or given for one another, a full disk and a closed standard input: each has its own line.
+
+Wants crates/bulwynef/out/bulwynef and crates/node_sim/out/node_sim, which `rt ci` and `rt run` leave.
+"""
+
+import os
+import re
+import subprocess
+import sys
+import tempfile
+
+TOP = os.path.dirname(os.path.dirname(os.path.abspath(__file__)))
+EXAMPLES = f"{TOP}/examples"
+BUILDS = [f"{TOP}/crates/bulwynef/out/bulwynef{ending}" for ending in ("", ".by-rattle")]
+NODE_SIM = f"{TOP}/crates/node_sim/out/node_sim"
+WORKERS = ["1", "8"]
+
+failed = []
+passed = 0
+
+
+def hold(what, is_so, found=""):
+    global passed
+    if is_so:
+        passed += 1
+    else:
+        failed.append(what)
+        print(f"FAILED {what} {found}")
+
+
+def run(words, **how):
+    how.setdefault("stdin", subprocess.DEVNULL)
+    done = subprocess.run(words, stdout=subprocess.PIPE, stderr=subprocess.PIPE, timeout=300, **how)
+    return done.returncode, done.stdout, done.stderr
+
+
+def made(words, text):
+    """What node_sim answers: its status, what it wrote, and the line of its refusal."""
+    done = subprocess.run([NODE_SIM, *words], input=text, capture_output=True, timeout=300)
+    return done.returncode, done.stdout, done.stderr
+
+
+class Files:
+    """A folder with the lines of an input, each in a file of its own."""
+
+    def __init__(self, folder, lines, as_digits):
+        self.names = []
+        self.folder = folder
+        for number, line in enumerate(lines):
+            name = f"{folder}/{number}.{'digits' if as_digits else 'bytes'}"
+            with open(name, "wb") as it:
+                it.write(line + b"\n" if as_digits else bytes.fromhex(line.decode()))
+            self.names.append(name)
+
+    def words(self, build, command, flags=(), node=(), workers=None):
+        words = [build, command, *flags, "--directory", self.names[0]]
+        if workers:
+            words += ["--workers", workers]
+        return [*words, *node, *self.names[1:]]
+
+
+def first_refusal(error):
+    """The number and the name that a line of standard error begins with."""
+    found = re.match(rb"refused (\d+) (\w+)", error)
+    return found.groups() if found else None
+
+
+def program_flags(args):
+    return ["--program", "relay"] if "--relay" in args else []
+
+
+def hold_status(name, files, build, flags, workers, wanted):
+    status, out, error = run(files.words(build, "status", flags, workers=workers))
+    code, text, told = wanted
+    if code == 0:
+        hold(f"{name} status", (status, out) == (3 if b" exposed" in text else 0, text), (status, out[:200], error))
+    else:
+        hold(f"{name} status refused", status == 1 and out == b"" and first_refusal(error) == first_refusal(told), (status, error))
+
+
+def hold_merge(name, files, build, flags, workers, wanted):
+    target = f"{files.folder}/merged"
+    words = files.words(build, "merge", flags, node=["--output", target], workers=workers)
+    status, out, error = run(words)
+    code, text, told = wanted
+    if code == 0:
+        is_so = status == 0 and out == b"" and open(target, "rb").read().hex().encode() + b"\n" == text
+        hold(f"{name} merge", is_so, (status, error))
+        os.remove(target)
+    else:
+        hold(f"{name} merge refused", status == 1 and first_refusal(error) == first_refusal(told) and not os.path.exists(target), (status, error))
+
+
+def hold_prove(name, files, build, flags, workers, node, wanted):
+    target = f"{files.folder}/proof"
+    words = files.words(build, "prove", flags, node=[node, "--output", target], workers=workers)
+    status, out, error = run(words)
+    code, text, told = wanted
+    if code != 0:
+        hold(f"{name} prove {node} refused", status == 1 and first_refusal(error) == first_refusal(told), (status, error))
+    elif text == b"none\n":
+        hold(f"{name} prove {node} none", status == 4 and not os.path.exists(target), (status, error))
+    else:
+        hold(f"{name} prove {node}", status == 0 and out == b"", (status, error))
+        checked = run([build, "check", *flags, "--directory", files.names[0], target])
+        hold(f"{name} check of the proof of {node}", checked[:2] == (3, f"exposes {node}\n".encode()), checked)
+        os.remove(target)
+
+
+def hold_check(name, files, build, flags, wanted):
+    status, out, error = run(files.words(build, "check", flags))
+    code, text, told = wanted
+    if code == 0:
+        hold(f"{name} check", (status, out) == (3, text), (status, error))
+    else:
+        hold(f"{name} check refused", status == 1 and first_refusal(error) == first_refusal(told), (status, error))
+
+
+def every_way(lines):
+    """The lines as bytes and as digits, by each build and by each number of workers."""
+    for build in BUILDS:
+        for as_digits in (False, True):
+            for workers in WORKERS:
+                with tempfile.TemporaryDirectory() as folder:
+                    yield build, workers, Files(folder, lines, as_digits), f"{os.path.basename(build)} {'digits' if as_digits else 'bytes'} {workers}"
+
+
+def examples():
+    for file in sorted(os.listdir(EXAMPLES)):
+        name, ending = os.path.splitext(file)
+        if ending == ".txt" and name != "scenario":
+            with open(f"{EXAMPLES}/{file}", "rb") as it:
+                yield name, it.read()
+
+
+def hold_example(name, text):
+    lines = text.splitlines()
+    merged = made(["merge"], text)
+    report = made(["status"], lines[0] + b"\n" + merged[1])
+    nodes = [line.split()[0].decode() for line in report[1].splitlines()]
+    proofs = {node: made(["prove", node], lines[0] + b"\n" + merged[1]) for node in nodes}
+    for build, workers, files, how in every_way(lines):
+        hold_merge(f"{name} by {how}", files, build, [], workers, merged)
+        hold_status(f"{name} by {how}", files, build, [], workers, report)
+        for node, wanted in proofs.items():
+            hold_prove(f"{name} by {how}", files, build, [], workers, node, wanted)
+
+
+# ---- cases of a folder
+
+
+def read(path):
+    with open(path, "rb") as it:
+        return it.read()
+
+
+def hold_case(folder, number):
+    args = read(f"{folder}/{number}.args").decode().split("\n")[:-1]
+    lines = read(f"{folder}/{number}.stdin").split(b"\n")
+    lines = lines[:-1] if lines[-1] == b"" else lines
+    if args[:1] not in (["status"], ["merge"], ["prove"], ["check"]) or not lines:
+        return
+    is_digits = all(re.fullmatch(rb"([0-9a-fA-F]{2})*", line) for line in lines)
+    code = int(read(f"{folder}/{number}.status"))
+    wanted = code, read(f"{folder}/{number}.stdout"), read(f"{folder}/{number}.stderr")
+    has_count = len(lines) >= 2 if args[0] == "merge" else len(lines) == 2
+    if not is_digits or not has_count or code == 2:
+        return
+    flags = program_flags(args)
+    numbers = [word for word in args[1:] if word != "--relay"]
+    with tempfile.TemporaryDirectory() as at:
+        files = Files(at, lines, False)
+        for workers in WORKERS:
+            if args[0] == "status":
+                hold_status(f"case {number}", files, BUILDS[0], flags, workers, wanted)
+            elif args[0] == "merge":
+                hold_merge(f"case {number}", files, BUILDS[0], flags, workers, wanted)
+            elif args[0] == "prove":
+                hold_prove(f"case {number}", files, BUILDS[0], flags, workers, numbers[0], wanted)
+            else:
+                hold_check(f"case {number}", files, BUILDS[0], flags, wanted)
+
+
+# ---- files that are at fault
+
+
+def hold_fault(what, words, number, ending, **how):
+    status, out, error = run(words, **how)
+    is_so = status == 1 and out == b"" and error.startswith(b"refused %d " % number) and ending in error
+    hold(what, is_so, (status, out[:100], error))
+
+
+def write(name, data):
+    with open(name, "wb") as it:
+        it.write(data)
+    return name
+
+
+def hold_faults(build, folder, directory, store):
+    nodes, items = write(f"{folder}/nodes", directory), write(f"{folder}/items", store)
+    status = [build, "status", "--directory"]
+    hold_fault("a missing directory", [*status, f"{folder}/none", items], 100, b"/none: ")
+    hold_fault("a missing store", [*status, nodes, items, f"{folder}/none"], 100, b"/none: ")
+    hold_fault("a folder", [*status, nodes, folder], 100, folder.encode())
+    hold_fault("an empty directory", [*status, write(f"{folder}/e", b""), items], 24, b"/e: ")
+    hold_fault("an empty store", [*status, nodes, write(f"{folder}/e", b"")], 40, b"/e, item 0: ")
+    hold_fault("a store that is cut off", [*status, nodes, write(f"{folder}/c", store[:-1])], 40, b"/c, item ")
+    first = 20 + int.from_bytes(store[16:20], "big")
+    bad = store[: first + 4] + b"\x09" + store[first + 5 :]
+    hold_fault("a bad second item", [*status, nodes, write(f"{folder}/b", bad)], 41, b"/b, item 1, byte %d: " % first)
+    hold_fault("a store for the directory", [*status, items, items], 23, b"the file is a store")
+    hold_fault("a directory for a store", [*status, nodes, nodes], 60, b"the file is a directory")
+    crlf = write(f"{folder}/crlf", store.hex().encode() + b"\r\n")
+    hold_fault("digits with CRLF", [*status, nodes, crlf], 103, b"/crlf: ")
+    three = write(f"{folder}/three", store.hex().encode() + b"\n00\n00\n")
+    hold_fault("three lines", [*status, nodes, three], 104, b"/three: ")
+    hold_fault("too many bytes", [build, "status", "--most", "20", "--directory", nodes, items], 101, b"/nodes: ")
+    hold_fault("a full disk", [build, "merge", "--directory", nodes, "--output", "/dev/full", items], 102, b"")
+    gone = f"{folder}/gone/there"
+    hold_fault("no folder for the output", [build, "merge", "--directory", nodes, "--output", gone, items], 102, b"")
+    with open("/dev/full", "wb") as full:
+        done = subprocess.run([*status, nodes, items], stdin=subprocess.DEVNULL, stdout=full, stderr=subprocess.PIPE, timeout=60)
+        hold("standard output on a full disk", done.returncode == 1 and done.stderr.startswith(b"refused 102 "), done)
+    closed = subprocess.run(["sh", "-c", f"exec {build} status --directory {nodes} - <&-"], capture_output=True, timeout=60)
+    hold("a closed standard input", closed.returncode == 1 and closed.stderr.startswith(b"refused 100 ReadFailed: -"), closed)
+    named, piped = run([*status, nodes, items]), run([*status, nodes, "-"], stdin=open(items, "rb"))
+    hold("a store of standard input", named == piped and named[0] in (0, 3), (named, piped))
+    both = write(f"{folder}/both", directory.hex().encode() + b"\n" + store.hex().encode() + b"\n")
+    hold("two lines in one file", run([*status, both, both]) == named)
+    left = sorted(set(os.listdir(folder)) - {"nodes", "items", "e", "c", "b", "crlf", "three", "both"})
+    hold("no file is left", left == [], left)
+
+
+def main():
+    for name, text in examples():
+        hold_example(name, text)
+    lines = read(f"{EXAMPLES}/two_witnesses.txt").splitlines()
+    directory, store = (bytes.fromhex(line.decode()) for line in lines[:2])
+    for build in BUILDS:
+        with tempfile.TemporaryDirectory() as folder:
+            hold_faults(build, folder, directory, store)
+    if len(sys.argv) > 1:
+        for file in sorted(os.listdir(sys.argv[1])):
+            if file.endswith(".args"):
+                hold_case(sys.argv[1], file[: -len(".args")])
+    print(f"{passed} passed, {len(failed)} failed")
+    sys.exit(1 if failed else 0)
+
+
+if __name__ == "__main__":
+    main()
