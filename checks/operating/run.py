@@ -1,7 +1,7 @@
 #!/usr/bin/env python3
 """Holds what `bulwynef` writes of files to what `node_sim` writes of the same lines, by both builds and by 1 and 8 workers.
 
-    operating/run.py [FOLDER]
+    checks/operating/run.py [FOLDER]
 
 Each file of examples/ is parted into files, as bytes and as lines of digits. With FOLDER, of cases NNN.args, NNN.stdin, NNN.status, NNN.stdout and
 NNN.stderr, each case of `status`, `merge`, `prove` and `check` whose lines are digits is parted likewise, and its stored answer is held. Then files
@@ -16,7 +16,7 @@ import subprocess
 import sys
 import tempfile
 
-TOP = os.path.dirname(os.path.dirname(os.path.abspath(__file__)))
+TOP = os.path.dirname(os.path.dirname(os.path.dirname(os.path.abspath(__file__))))
 EXAMPLES = f"{TOP}/examples"
 BUILDS = [f"{TOP}/crates/bulwynef/out/bulwynef{ending}" for ending in ("", ".by-rattle")]
 NODE_SIM = f"{TOP}/crates/node_sim/out/node_sim"
