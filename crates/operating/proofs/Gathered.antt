@@ -1,5 +1,5 @@
 -- The evidence of a directory alone, and with one store more.
-use Rattle.std.proofs.Common.{◌≡◌, ◌∙◌, ◌+◌, ◌<◌, ℕ, suc, false, true, List, [], ◌∷◌, ◌++◌, length, Option, Some, Result, Ok, Err, inr, refl, sym, ap, subst, arith}
+use Rattle.std.proofs.Common.{◌≡◌, ◌∙◌, ◌+◌, ◌<◌, ℕ, suc, false, List, [], ◌∷◌, ◌++◌, length, Option, Some, Result, Ok, Err, inr, refl, sym, ap, subst, arith}
 use Rattle.std.proofs.lemmas.List.{length-append}
 use Rattle.outcome.specs.Outcome.{◌>>=◌, told_as}
 use Rattle.authenticators.specs.Directory.{Listing}
@@ -10,7 +10,7 @@ use Rattle.evidence_set.specs.ItemSets.{SetsAsExpected, none}
 use Rattle.evidence.specs.Contents.{Contents}
 use Rattle.commands.specs.declared.fault.Fault.{Fault}
 use Rattle.commands.specs.Refusals.{of_directory}
-use Rattle.commands.specs.Inputs.{AreItems, IsEvidence, Parsed, evidence_of, store_of, stores_after}
+use Rattle.commands.specs.Inputs.{AreItems, Parsed, evidence_of, store_of, stores_after}
 use Rattle.operating.specs.GatheredFiles.{AreGathered, RefusesFiles, RefusesStore}
 use Rattle.operating.specs.declared.refusal.Refusal.{Refusal}
 use Rattle.operating.specs.FileTexts.{Say, Says, SaysDirectory}

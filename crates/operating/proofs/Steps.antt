@@ -1,11 +1,10 @@
 -- What the steps of reading files say of the whole.
-use Rattle.std.proofs.Common.{◌≡◌, ◌⊎◌, ◌∙◌, ℕ, false, List, [], Option, Some, None, Result, Ok, Err, inl, inr, refl, sym, ap}
-use Rattle.std.specs.Prelude.{◌↔◌, IfErr, IfOk, IsSome, OnOk, is_some}
+use Rattle.std.proofs.Common.{◌≡◌, ◌∙◌, ℕ, false, List, Option, Some, None, Result, Ok, Err, inl, inr, refl, sym, ap}
+use Rattle.std.specs.Prelude.{◌↔◌, IfErr, IsSome, OnOk, is_some}
 use Rattle.outcome.specs.Outcome.{told_as, Fails}
 use Rattle.authenticators.specs.Directory.{Listing, is_listed, keys_at}
 use Rattle.authenticators.specs.declared.fault.DirectoryFault.{DirectoryFault}
 use Rattle.authenticators.specs.declared.fault.DirectoryFault.TheVariants as listing
-use Rattle.containers.specs.declared.fault.Cause.TheVariants as cause
 use Rattle.containers.specs.declared.fault.ImportFault.{ImportFault}
 use Rattle.containers.specs.Refusals.{Refuses}
 use Rattle.evidence.specs.Contents.{Contents}

@@ -1,5 +1,5 @@
 -- A directory and a proof in files, and the first fault in them.
-use Rattle.std.specs.Prelude.{ℕ, ◌≡◌, ◌⊎◌, false, List, Option, Result, Ok, Err}
+use Rattle.std.specs.Prelude.{ℕ, ◌≡◌, ◌⊎◌, false, List, Option, Ok, Err}
 use Rattle.outcome.specs.Outcome.{told_as, Fails}
 use Rattle.authenticators.specs.Directory.{Listing}
 use Rattle.replay_verifier.specs.Meaning.{Meaning}

@@ -1,5 +1,5 @@
 -- The evidence of files, and the first fault in them.
-use Rattle.std.specs.Prelude.{ℕ, suc, ◌≡◌, ◌⊎◌, ◌<◌, true, false, List, length, Option, Some, None, Result, Ok, Err}
+use Rattle.std.specs.Prelude.{ℕ, suc, ◌≡◌, ◌⊎◌, ◌<◌, true, false, List, length, Option, Some, None, Err}
 use Rattle.outcome.specs.Outcome.{told_as, Fails}
 use Rattle.authenticators.specs.DirectoryText.{directory_of}
 use Rattle.containers.specs.declared.fault.ImportFault.{ImportFault}

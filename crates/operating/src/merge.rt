@@ -47,5 +47,7 @@ where
     requires room { HasRoom stores (O.seen opener.old) (W.seen writer.old) }
     ensures { RanOnStores Merge limits.most_bytes stores result (O.seen opener.old) (O.seen opener.new) W.seen writer.old writer.new }
 {
-    ask::<R, P, IndexedStore<P>, Merging, O, W>(rt, alloc, program, &Merging, opener, stores, limits, writer)
+    ask::<R, P, IndexedStore<P>, Merging, O, W>(
+        rt, alloc, program, &Merging, opener, stores, limits, writer,
+    )
 }

@@ -71,5 +71,14 @@ where
     requires room { HasRoom stores (O.seen opener.old) (W.seen writer.old) }
     ensures { RanOnStores (Prove P.means node) limits.most_bytes stores result (O.seen opener.old) (O.seen opener.new) W.seen writer.old writer.new }
 {
-    ask::<R, P, IndexedStore<P>, Proving, O, W>(rt, alloc, program, &Proving { node }, opener, stores, limits, writer)
+    ask::<R, P, IndexedStore<P>, Proving, O, W>(
+        rt,
+        alloc,
+        program,
+        &Proving { node },
+        opener,
+        stores,
+        limits,
+        writer,
+    )
 }

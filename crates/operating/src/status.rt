@@ -88,5 +88,7 @@ where
     requires room { HasRoom stores (O.seen opener.old) (W.seen writer.old) }
     ensures { RanOnStores (Status P.means) limits.most_bytes stores result (O.seen opener.old) (O.seen opener.new) W.seen writer.old writer.new }
 {
-    ask::<R, P, IndexedStore<P>, Reporting, O, W>(rt, alloc, program, &Reporting, opener, stores, limits, writer)
+    ask::<R, P, IndexedStore<P>, Reporting, O, W>(
+        rt, alloc, program, &Reporting, opener, stores, limits, writer,
+    )
 }

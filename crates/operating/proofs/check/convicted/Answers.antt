@@ -1,4 +1,4 @@
-use Rattle.std.proofs.Common.{◌≡◌, false, ℕ, List, Option, inl, inr, sym, subst}
+use Rattle.std.proofs.Common.{false, ℕ, List, Option, inl, inr, sym, subst}
 use Rattle.std.proofs.lemmas.Result.{err_from_is_err_and}
 use Rattle.commands.specs.declared.fault.Fault.{Fault}
 use Rattle.operating.specs.ConvictingFiles.{RefusesProof, RefusesProofText, TextConvicts}

@@ -1,4 +1,4 @@
-use Rattle.std.proofs.Common.{◌≡◌, ◌∙◌, List, ℕ, inl, subst, refl}
+use Rattle.std.proofs.Common.{◌∙◌, List, ℕ, inl, subst, refl}
 use Rattle.std.proofs.lemmas.Result.{err_from_is_err_and}
 use Rattle.std.specs.Io.KnownBytes.{Appends}
 use Rattle.commands.specs.Output.{exposes_line}

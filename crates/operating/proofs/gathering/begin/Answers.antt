@@ -1,4 +1,4 @@
-use Rattle.std.proofs.Common.{◌≡◌, inl, inr}
+use Rattle.std.proofs.Common.{inl, inr}
 use Rattle.std.proofs.lemmas.Result.{err_from_is_err_and}
 use Rattle.operating.proofs.Gathered.{directory_alone}
 use Rattle.operating.proofs.gathering.begin.Goals as goal

@@ -1,4 +1,4 @@
-use Rattle.std.proofs.Common.{◌≡◌, rules, inl, inr, sym, subst}
+use Rattle.std.proofs.Common.{rules, inl, inr, sym, subst}
 use Rattle.commands.specs.declared.fault.Fault.{Fault}
 use Rattle.operating.specs.FileTexts.{IsUnsaid}
 use Rattle.operating.proofs.reading.read_said.Goals as goal

@@ -1,4 +1,4 @@
-use Rattle.std.proofs.Common.{◌≡◌, ◌<◌, ℕ, get_or}
+use Rattle.std.proofs.Common.{◌<◌, ℕ, get_or}
 use Rattle.evidence_set.specs.Indications.{IsExposed}
 use Rattle.operating.proofs.status.exposes_somebody.Given as goal
 
