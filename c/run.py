@@ -136,10 +136,10 @@ def main():
     if words.archive:
         return 0
     program = build("test", ["cc", "-std=c11"], "-O2")
-    programs = [program, build("test_cpp", ["g++", "-x", "c++"], "-O2")]
+    runs = [[program, "self"], [program, "fails"], [build("test_cpp", ["g++", "-x", "c++"], "-O2"), "self"]]
     if words.sanitize:
-        programs.append(build("test_san", ["cc", "-std=c11"], "-O1", "-g", "-fsanitize=address,undefined", "-fno-sanitize-recover=all"))
-    runs = [[each, what] for each in programs for what in ("self", "fails")]
+        careful = build("test_san", ["cc", "-std=c11"], "-O1", "-g", "-fsanitize=address,undefined", "-fno-sanitize-recover=all")
+        runs += [[careful, "self"], [careful, "fails"]]
     if words.valgrind:
         runs.append(["valgrind", "--quiet", "--leak-check=full", "--error-exitcode=9", program, "self"])
     wrong = sum(subprocess.run(run).returncode != 0 for run in runs)

@@ -64,7 +64,7 @@ static int holds(int line, int fact) {
 #define HOLDS(fact) do { if (!holds(__LINE__, fact)) goto end; } while (0)
 
 /* ---- the scene */
-enum { H = BULWYNEF_H5, W = BULWYNEF_W8 };
+enum { H = BULWYNEF_H5, W = BULWYNEF_W4 }; /* the keys of W4 are the quicker ones to make */
 static uint8_t ids[3][16], seeds[3][32], entropy[32];
 static uint8_t directory[12 + 2 * 61], other_directory[12 + 61];
 
@@ -265,6 +265,7 @@ static void refusals(void) {
     HOLDS(bulwynef_text_len(&a) == 0);
     text = text_of(&t);
     HOLDS(same(text, empty));
+    drop(&text);
     /* nodes */
     WANT(node_new(1, &a), 114);
     WANT(bulwynef_node_new(1, directory, sizeof directory, 3, 1, H, W, ids[1], 16, seeds[1], 32, &n), 30);
@@ -349,7 +350,7 @@ static int status(struct bulwynef_handle *store, struct bytes d) {
 }
 static int command(const char *what, uint32_t node, uint8_t program) {
     struct bulwynef_handle store = {0, false}, text = {0, false};
-    struct bytes d = nothing(), line = nothing();
+    struct bytes d = nothing(), line = nothing(), third = nothing();
     uint64_t added = 0;
     uint32_t found = 0;
     uint8_t r = 0;
@@ -357,6 +358,7 @@ static int command(const char *what, uint32_t node, uint8_t program) {
     if (read_line(&d)) return refused(104);
     if (strcmp(what, "check") == 0) {
         if (read_line(&line)) return refused(104);
+        if (!read_line(&third)) return refused(104);
         r = bulwynef_check_proof(program, d.at, d.len, line.at, line.len, &found);
         if (r) return refused(r);
         printf("exposes %u\n", found);

@@ -184,8 +184,7 @@ class Relay:
 
     async def live(self):
         while not self.is_over:
-            if not self.is_silent():
-                await self.turn()
+            await self.turn()
             await asyncio.sleep(0.05)
 
 

@@ -5,7 +5,7 @@
            [--lose P] [--repeat P] [--reorder P] [--delay S] [--seed N] [--mails N] [--w 4]
 
 Faults: `drops` acknowledges mails and goes on as if they had not come, `modifies` sends something else on, `forks` tells two histories,
-and `silent` answers nothing from a third of the time on; `--faults ""` has none. Each epoch has a directory and fresh nodes of its own;
+and `silent` answers nothing from a third of the time on, though it goes on to send; `--faults ""` has none. Each epoch has a directory and fresh nodes of its own;
 with --kill a witness is killed in the midst of each and started again. At the end of each epoch both witnesses must export the same
 bytes; each faulty relay must be exposed, or suspected where it is silent, and each other one trusted; and each proof must convince a
 process that has the directory and the proof alone, by the library, and second_opinion/check.py. Ends with 1 where that is not so.
