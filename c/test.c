@@ -316,7 +316,10 @@ static int read_line(struct bytes *line) { /* 0 a line, 1 none, 103 no digits */
     line->at = (uint8_t *)malloc(room);
     for (; c != EOF && c != '\n'; c = getchar()) {
         low = getchar();
-        if (!line->at || !is_digit(c) || !is_digit(low)) return 103;
+        if (!line->at || !is_digit(c) || !is_digit(low)) {
+            while (c != '\n' && low != '\n' && low != EOF) low = getchar();
+            return 103;
+        }
         if (line->len == room) line->at = (uint8_t *)realloc(line->at, room *= 2);
         line->at[line->len++] = (uint8_t)(digit(c) * 16 + digit(low));
     }
@@ -348,16 +351,16 @@ static int status(struct bulwynef_handle *store, struct bytes d) {
     free(nodes);
     return 0;
 }
-/* The lines of standard input; 0, or the refusal: a line that is no digits is told before their count. */
+/* The lines of standard input; 0, or the refusal: a third line of another command than merge, a line of other characters, too few. */
 enum { MOST_LINES = 64 };
 static int read_lines(struct bytes *lines, int *count, int is_merge) {
     struct bytes line;
-    int r;
-    for (*count = 0; (r = read_line(&line)) != 1; (*count)++) {
-        if (r || *count == MOST_LINES) { drop(&line); return r ? r : 104; }
-        lines[*count] = line;
+    int r, is_bad = 0;
+    for (*count = 0; (r = read_line(&line)) != 1; lines[(*count)++] = line) {
+        is_bad = is_bad || r;
+        if (*count == (is_merge ? MOST_LINES : 2)) { drop(&line); return 104; }
     }
-    return *count < 1 || (!is_merge && *count != 2) ? 104 : 0;
+    return is_bad ? 103 : *count < (is_merge ? 1 : 2) ? 104 : 0;
 }
 static int answer_of(const char *what, uint32_t node, uint8_t program, struct bytes *lines, int count) {
     struct bulwynef_handle store = {0, false}, text = {0, false};
