@@ -56,6 +56,8 @@ def read(path):
 def differs_on_example(program, name):
     """What the program says of an example otherwise than the second opinion: of each node, and by a proof of each that is exposed."""
     text = read(f"{TOP}/examples/{name}.txt")
+    if text.count("\n") > 2:
+        text = text.splitlines()[0] + "\n" + said([program, "merge"], text)[1]
     wanted = [said([*SECOND, "--store", "-"], text)[1], " ".join(said([*SECOND, "-"], text)[2].split()[:2]) + "\n"]
     found = [said([program, what], text)[1] for what in ("status", "check")]
     for node in [line.split()[0] for line in wanted[0].splitlines() if line.endswith(" exposed")]:
@@ -109,7 +111,8 @@ def differs_on_case(program, folder, name):
         return (status, text) != (1, " ".join(wanted[2].split()[:2]) + "\n")
     if words[0] == "prove" and wanted[1] != "none\n":
         relay = [word for word in words if word.startswith("-")]
-        return said([program, "check", *relay], given.split("\n")[0] + "\n" + text)[1] != f"exposes {words[1]}\n"
+        node = next(word for word in words[1:] if word not in relay)
+        return said([program, "check", *relay], given.split("\n")[0] + "\n" + text)[1] != f"exposes {node}\n"
     return (status, text) != (0, wanted[1])
 
 

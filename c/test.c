@@ -316,7 +316,10 @@ static int read_line(struct bytes *line) { /* 0 a line, 1 none, 103 no digits */
     line->at = (uint8_t *)malloc(room);
     for (; c != EOF && c != '\n'; c = getchar()) {
         low = getchar();
-        if (!line->at || !is_digit(c) || !is_digit(low)) return 103;
+        if (!line->at || !is_digit(c) || !is_digit(low)) {
+            while (c != '\n' && low != '\n' && low != EOF) low = getchar();
+            return 103;
+        }
         if (line->len == room) line->at = (uint8_t *)realloc(line->at, room *= 2);
         line->at[line->len++] = (uint8_t)(digit(c) * 16 + digit(low));
     }
@@ -348,28 +351,33 @@ static int status(struct bulwynef_handle *store, struct bytes d) {
     free(nodes);
     return 0;
 }
-static int command(const char *what, uint32_t node, uint8_t program) {
+/* The lines of standard input; 0, or the refusal: a third line of another command than merge, a line of other characters, too few. */
+enum { MOST_LINES = 64 };
+static int read_lines(struct bytes *lines, int *count, int is_merge) {
+    struct bytes line;
+    int r, is_bad = 0;
+    for (*count = 0; (r = read_line(&line)) != 1; lines[(*count)++] = line) {
+        is_bad = is_bad || r;
+        if (*count == (is_merge ? MOST_LINES : 2)) { drop(&line); return 104; }
+    }
+    return is_bad ? 103 : *count < (is_merge ? 1 : 2) ? 104 : 0;
+}
+static int answer_of(const char *what, uint32_t node, uint8_t program, struct bytes *lines, int count) {
     struct bulwynef_handle store = {0, false}, text = {0, false};
-    struct bytes d = nothing(), line = nothing(), third = nothing();
     uint64_t added = 0;
     uint32_t found = 0;
-    uint8_t r = 0;
-    int lines = 0, end = 0;
-    if (read_line(&d)) return refused(104);
+    uint8_t r;
+    int i, end = 0;
     if (strcmp(what, "check") == 0) {
-        if (read_line(&line)) return refused(104);
-        if (!read_line(&third)) return refused(104);
-        r = bulwynef_check_proof(program, d.at, d.len, line.at, line.len, &found);
+        r = bulwynef_check_proof(program, lines[0].at, lines[0].len, lines[1].at, lines[1].len, &found);
         if (r) return refused(r);
         printf("exposes %u\n", found);
-        drop(&d); drop(&line);
         return 0;
     }
-    r = bulwynef_store_open(program, d.at, d.len, &store);
-    for (; !r && !read_line(&line); lines++) { r = bulwynef_store_import(&store, line.at, line.len, &added); drop(&line); }
-    if (!r && !lines) r = 104;
-    if (r) { end = refused(r); }
-    else if (strcmp(what, "status") == 0) end = status(&store, d);
+    r = bulwynef_store_open(program, lines[0].at, lines[0].len, &store);
+    for (i = 1; !r && i < count; i++) r = bulwynef_store_import(&store, lines[i].at, lines[i].len, &added);
+    if (r) end = refused(r);
+    else if (strcmp(what, "status") == 0) end = status(&store, lines[0]);
     else {
         r = strcmp(what, "merge") == 0 ? bulwynef_store_export(&store, &text) : bulwynef_store_proof(&store, node, &text);
         if (r == 115) printf("none\n");
@@ -377,14 +385,27 @@ static int command(const char *what, uint32_t node, uint8_t program) {
         else { struct bytes b = text_of(&text); write_hex(b); drop(&b); }
     }
     bulwynef_close(&store); bulwynef_close(&text);
-    drop(&d); drop(&line);
     return end;
+}
+static int command(const char *what, uint32_t node, uint8_t program) {
+    struct bytes lines[MOST_LINES];
+    int count = 0, r = read_lines(lines, &count, strcmp(what, "merge") == 0);
+    if (r) refused((uint8_t)r);
+    else r = answer_of(what, node, program, lines, count);
+    while (count > 0) drop(&lines[--count]);
+    return r != 0;
 }
 
 int main(int argc, char **argv) {
     const char *what = argc > 1 ? argv[1] : "self";
-    uint8_t program = argc > 1 && strcmp(argv[argc - 1], "--relay") == 0 ? BULWYNEF_RELAY : BULWYNEF_TALLY;
+    uint8_t program = BULWYNEF_TALLY;
+    uint32_t node = 0;
+    int i;
+    for (i = 2; i < argc; i++) {
+        if (strcmp(argv[i], "--relay") == 0) program = BULWYNEF_RELAY;
+        else node = (uint32_t)strtoul(argv[i], NULL, 10);
+    }
     if (strcmp(what, "self") == 0) { scene(); refusals(); printf(wrong || spent ? "failed\n" : "ok\n"); return wrong || spent; }
     if (strcmp(what, "fails") == 0) return fails();
-    return command(what, argc > 2 ? (uint32_t)strtoul(argv[2], NULL, 10) : 0, program);
+    return command(what, node, program);
 }
