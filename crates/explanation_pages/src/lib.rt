@@ -2,7 +2,8 @@
 //! of which they speak.
 //!
 //! - [`Rows`] has what is known of each node's log, of a store ([`rows_of`]) or of a proof ([`rows_of_proof`]).
-//! - [`page_of`] writes the page, with the program and the directory under which it holds: HTML with its style and its picture in it, that runs nothing and loads nothing. Whatever comes from
+//! - [`page_of`] writes the page, with the program and the directory under which it holds: HTML with its style and its picture in it, that
+//!   runs nothing and loads nothing. Whatever comes from
 //!   evidence is text of a `page_text::Page`, and so escaped.
 #![tactic(auto)]
 

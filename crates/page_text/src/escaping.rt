@@ -8,8 +8,7 @@ use std::alloc::{AllocError, Global};
 /// A text has bytes.
 fn are_bytes(text: &[u8])
     ensures { All (λ b. b < 256) text.now }
-{
-}
+{}
 
 /// A hexadecimal digit.
 fn digit(nibble: u8) -> u8

@@ -1,20 +1,37 @@
 //! An explanation as text.
 
-ghost use Rattle.std.specs.Prelude.{◌≡◌, ◌++◌, IfOk, OnOk, string_bytes};
+ghost use Rattle.std.specs.Prelude.{◌≡◌, ◌++◌, ◌<◌, ◌^◌, All, IfOk, OnOk, string_bytes};
 ghost use Rattle.std.specs.List.{flat_map};
-ghost use Rattle.sentences.specs.Texts.{EndsWith, line_of, node_text, sentence_text, text_of};
+ghost use Rattle.sentences.specs.Texts.{EndsWith, in_line, in_one_line, line_of, margin, node_text, nodes_text, report_of, sentence_text, text_of};
 
 use crate::basis::Basis;
 use crate::explanation::{Explanation, NodeExplanation, Sentence};
 use evidence_set::Indication;
 use std::alloc::{AllocError, Global};
 
-/// Writes a sentence behind two blanks.
+/// The byte as it stands within a line.
+fn in_line(byte: u8) -> u8
+    ensures { result ≡ in_line byte }
+{
+    if byte == b'\n' { b' ' } else { byte }
+}
+
+/// Writes a text in one line.
+fn put_text(text: &mut Vec<u8>, bytes: &[u8]) -> Result<(), AllocError>
+    ensures { OnOk result (text.new.items ≡ text.old.items ++ in_one_line bytes.now) }
+{
+    for byte in bytes {
+        text.push(in_line(*byte))?;
+    }
+    Ok(())
+}
+
+/// Writes a sentence in a line behind two blanks.
 fn put_sentence(text: &mut Vec<u8>, sentence: &Sentence) -> Result<(), AllocError>
     ensures { OnOk result (text.new.items ≡ text.old.items ++ sentence_text sentence.now) }
 {
     text.extend_from_slice(b"  ")?;
-    text.extend_from_slice(sentence.text.as_bytes())?;
+    put_text(text, sentence.text.as_bytes())?;
     text.extend_from_slice(b"\n")
 }
 
@@ -58,23 +75,46 @@ fn put_nodes(alloc: Global, text: &mut Vec<u8>, nodes: &[NodeExplanation]) -> Re
     Ok(())
 }
 
+/// A node's number.
+fn number_of(node: &NodeExplanation) -> u32
+    ensures value { result ≡ node.now.node }
+    ensures fits { node.now.node < 2 ^ 32 }
+{
+    node.node.0
+}
+
+/// Nodes have numbers of 32 bits.
+fn have_numbers(nodes: &[NodeExplanation])
+    ensures { All (λ n. n.node < 2 ^ 32) nodes.now }
+{
+    for node in nodes {
+        let _number = number_of(node);
+    }
+}
+
 /// Writes an explanation.
 fn put_explanation(
     alloc: Global,
     text: &mut Vec<u8>,
     explanation: &Explanation,
 ) -> Result<(), AllocError>
-    ensures { OnOk result (text.new.items ≡ text.old.items ++ text_of explanation.now) }
+    ensures written { OnOk result (text.new.items ≡ text.old.items ++ text_of explanation.now) }
+    ensures report { OnOk result (margin (nodes_text explanation.now) ≡ report_of explanation.now) }
 {
-    text.extend_from_slice(explanation.heading.as_bytes())?;
+    put_text(text, explanation.heading.as_bytes())?;
     text.extend_from_slice(b"\n")?;
-    put_nodes(alloc, text, explanation.nodes.as_slice())
+    let nodes = explanation.nodes.as_slice();
+    have_numbers(nodes);
+    put_nodes(alloc, text, nodes)?;
+    Ok(())
 }
 
 /// The text of an explanation: the heading's line, and for each node a line `NODE INDICATION` and its sentences, each in a line behind two
 /// blanks.
 pub fn text_of(alloc: Global, explanation: &Explanation) -> Result<Vec<u8>, AllocError>
-    ensures { IfOk result (λ text. text.items ≡ text_of explanation.now) }
+    ensures exact { IfOk result (λ text. text.items ≡ text_of explanation.now) }
+    // Behind the heading the lines that do not begin with a blank are the report, and no other.
+    ensures report { OnOk result (margin (nodes_text explanation.now) ≡ report_of explanation.now) }
 {
     let mut text = Vec::new(alloc);
     put_explanation(alloc, &mut text, explanation)?;
@@ -87,7 +127,9 @@ pub fn verdict_text(
     basis: &Basis,
     explanation: &Explanation,
 ) -> Result<Vec<u8>, AllocError>
-    ensures { IfOk result (λ text. EndsWith text.items (text_of explanation.now)) }
+    ensures ends { IfOk result (λ text. EndsWith text.items (text_of explanation.now)) }
+    // Behind the heading the lines that do not begin with a blank are the report, and no other.
+    ensures report { OnOk result (margin (nodes_text explanation.now) ≡ report_of explanation.now) }
 {
     let mut text = format!(in alloc; "{basis}")?.into_bytes();
     put_explanation(alloc, &mut text, explanation)?;
