@@ -1,5 +1,5 @@
 -- No byte of an escaped text ends an element or an attribute, or begins an element.
-use Rattle.std.proofs.Common.{◌≡◌, ◌<◌, ◌+◌, suc, ◌/◌, ◌%◌, ◌==◌, ◌||◌, ℕ, List, [], ◌∷◌, All, Bool, true, false, if◌then◌else◌, refl, arith}
+use Rattle.std.proofs.Common.{◌≡◌, ◌<◌, ◌+◌, suc, ◌/◌, ◌%◌, ℕ, List, [], ◌∷◌, All, Bool, true, false, if◌then◌else◌, refl, arith}
 use Rattle.std.proofs.lemmas.List.Elements.{All-append, All-cons, All-nil}
 use Rattle.std.proofs.lemmas.Bool.Decides.{nat_tests}
 use Rattle.std.specs.List.{AllByRecursion}
