@@ -2,8 +2,8 @@
 """Holds what `explain` writes of each file of examples/ to what is stored in examples/explained/, text and page, by both builds.
 
 A scenario is refused. A file of one store is explained as it is; one of several is refused so, and explained once `node_sim merge` has made one store of
-them. Of each node that the store exposes, what `node_sim prove` writes is explained as well. Then inputs that are refused: each is
-made of an example by a change of one place, and the line that tells it must name that place, by this script's own reading of the formats.
+them. Of each node that the store exposes, what `node_sim prove` writes is explained as well. Then inputs that are
+refused: `bad_inputs.py` has each, made of an example, with the line that tells it.
 
 Wants crates/explain/out/explain and crates/node_sim/out/node_sim, which `rt ci` and `rt run` leave. `checks/explained/run.py --write` stores
 what the build by LLVM writes.
@@ -12,6 +12,10 @@ what the build by LLVM writes.
 import os
 import subprocess
 import sys
+
+sys.dont_write_bytecode = True
+
+from bad_inputs import bad_inputs
 
 TOP = os.path.dirname(os.path.dirname(os.path.dirname(os.path.abspath(__file__))))
 EXAMPLES, STORED = f"{TOP}/examples", f"{TOP}/examples/explained"
@@ -92,30 +96,12 @@ def items_of(store):
 
 
 def refusals():
-    """Inputs that are refused, and what the line must begin with and hold."""
+    """The bad inputs: what is asked for, the input, and the line that tells it."""
     with open(f"{EXAMPLES}/equivocation.txt", "rb") as it:
-        directory, store = it.read().split(b"\n")[:2]
-    raw = bytes.fromhex(store.decode())
-    (first, _), (second, size) = items_of(raw)
-
-    def changed(at, value):
-        return directory + b"\n" + (raw[:at] + value + raw[at + len(value) :]).hex().encode() + b"\n"
-
-    node, number = int.from_bytes(raw[second + 1 : second + 5], "big"), int.from_bytes(raw[second + 5 : second + 13], "big")
-    statement = f"line 2, item 1, a statement of node {node}, entry {number}: "
-    last = second + size - 1
-    yield changed(last, bytes([raw[last] ^ 1])), "refused 49 BadSignature: " + statement
-    yield changed(second + 1, b"\0\0\0\x63"), f"refused 44 UnknownNode: line 2, item 1, a statement of node 99, entry {number}: "
-    yield changed(second, b"\x09"), "refused 41 BadTag: line 2, item 1: "
-    yield changed(first - 4, b"\0\0\0\x06"), f"refused 40 Truncated: line 2, item 0, a statement of node {node}: "
-    yield directory + b"\n" + raw[: second + 13].hex().encode(), f"refused 40 Truncated: {statement}"
-    yield directory + b"\n" + (raw + b"\0").hex().encode(), "refused 43 Trailing: line 2, behind 2 items: "
-    yield changed(0, b"X"), "refused 60 BadMagic: line 2: "
-    yield directory + b"\n" + store[:9] + b"g" + store[10:], "refused 103 BadHex: line 2, character 9: "
-    yield directory[:-1] + b"\n" + store, "refused 103 BadHex: line 1: "
-    yield directory[:20] + b"\n" + store, "refused 24 Truncated: line 1: "
-    yield directory, "refused 104 LineCount: "
-    yield b"", "refused 104 LineCount: "
+        text = it.read()
+    directory, store = text.split(b"\n")[:2]
+    proof = made(["prove", "2"], text).strip()
+    return bad_inputs(directory, store, proof, items_of(bytes.fromhex(store.decode())))
 
 
 def main():
@@ -130,11 +116,11 @@ def main():
             compare(name, subject, text, build)
         stored = {os.path.splitext(file)[0] for file in os.listdir(STORED) if file.endswith((".txt", ".html"))}
         hold("each stored output is of an example", stored <= names, stored - names)
-        for text, wanted in refusals():
-            status, out, error = run([build, "store"], text)
-            hold(wanted, status == 1 and not out and error.decode().startswith(wanted) and error.count(b"\n") == 1, error)
-            plain = run([NODE_SIM, "status"], text)
-            hold(f"status tells {wanted}", error.split(b":")[0] == plain[2].strip(), plain[2])
+        for subject, text, wanted in refusals():
+            status, out, error = run([build, subject], text)
+            hold(wanted, status == 1 and not out and error.decode() == wanted + "\n", error)
+            plain = run([NODE_SIM, {"store": "status", "proof": "check"}[subject]], text)
+            hold(f"node_sim tells {wanted}", error.split(b":")[0] == plain[2].strip(), plain[2])
         for words in ([], ["status"], ["store", "--text"], ["store", "proof"]):
             hold(f"words {words}", run([build, *words], b"")[0] == 2)
     print(f"explained: {passed} held, {len(failed)} not")

@@ -4,7 +4,8 @@
     checks/fuzz/explain.py [--inputs N] [--seed S] [--jobs J]
 
 Where node_sim refuses an input, explain refuses it with the same number and name, with its place behind them on the one line, and writes
-nothing. Where node_sim answers, explain tells the same: each node with the indication that status gives, or the node that check names. The
+nothing. Where node_sim answers, explain tells the same: each node with the indication that status gives, or the node that check names; each
+item that a sentence about a store names is looked up in the store, and has the form, the nodes and the hash that the sentence says. The
 page of each answer is read by Python's parser: its elements close, each id stands once, each link inside it leads to one, it has no script
 and names no other place. Both ways of explain end within 256 MiB and 60 s. Wants what `rt ci` and `rt run` leave in crates/explain/out and
 crates/node_sim/out.
@@ -82,8 +83,54 @@ def ended(program, words, data):
 
 
 def rows_of(text):
-    """The lines of nodes in an explanation: behind the heading those that are not indented."""
-    return [line for line in text.decode().split("\n")[1:] if line and not line.startswith(" ")]
+    """The lines of nodes in an explanation: behind those of its basis and the heading those that are not indented."""
+    return [line for line in text.decode().split("\n")[4:] if line and not line.startswith(" ")]
+
+
+def items_of(data):
+    """The items of the store in the second line of an input."""
+    store = bytes.fromhex(data.split(b"\n")[1].decode())
+    at, found = 16, []
+    while at < len(store):
+        size = int.from_bytes(store[at : at + 4], "big")
+        found.append(store[at + 4 : at + 4 + size])
+        at += 4 + size
+    return found
+
+
+def number(item, at, size):
+    return int.from_bytes(item[at : at + size], "big")
+
+
+# How a sentence names an item, and what that item must be: its form, and the nodes behind it in their order.
+NAMED = [
+    (r"(?:Hash (?P<hash>[0-9a-f]{64}): |; )?item (?P<item>\d+), a statement(?=[.;])", 1, ["node"]),
+    (r"item (?P<item>\d+), a segment(?: that ends with it)?(?=[.;])", 2, ["node"]),
+    (r"item (?P<item>\d+), a segment of node (?P<one>\d+), whose", 2, ["one"]),
+    (r"\(item (?P<item>\d+)\)", 2, ["node"]),
+    (r"Item (?P<item>\d+), an audit challenge, asks node (?P<one>\d+) ", 3, ["one"]),
+    (r"Item (?P<item>\d+), a send challenge of node (?P<one>\d+), asks node (?P<other>\d+) ", 4, ["one", "other"]),
+]
+
+
+def fault_of_places(text, data):
+    """What is wrong with the items that the sentences about a store name, or None."""
+    items, node = items_of(data), None
+    for line in text.decode().split("\n")[4:]:
+        if line and not line.startswith(" "):
+            node = line.split()[0]
+        for pattern, form, nodes in NAMED:
+            for found in re.finditer(pattern, line):
+                groups = {"node": node, **found.groupdict()}
+                place = int(groups["item"])
+                if not 1 <= place <= len(items) or items[place - 1][0] != form:
+                    return f"no item {place} of the form {form}: {line}"
+                item = items[place - 1]
+                if [number(item, 1 + 4 * i, 4) for i in range(len(nodes))] != [int(groups[name]) for name in nodes]:
+                    return f"item {place} is of another node: {line}"
+                if groups.get("hash") and form == 1 and item[13:45].hex() != groups["hash"]:
+                    return f"item {place} has another hash: {line}"
+    return None
 
 
 def fault_of(words, data):
@@ -105,7 +152,7 @@ def fault_of(words, data):
         wanted = [line.split()[1] + " exposed" for line in wanted]
     if rows_of(text[1]) != wanted:
         return f"{wanted} and {rows_of(text[1])}"
-    return fault_of_page(page[1])
+    return (fault_of_places(text[1], data) if subject == "store" else None) or fault_of_page(page[1])
 
 
 def work(place):

@@ -33,6 +33,9 @@ FACTS = r'''(() => {
     attributes,
     ids: all('[id]').map((e) => e.id),
     summary: text(document.querySelector('.summary')),
+    basis: all('.basis dt').map((dt) => [text(dt), text(dt.nextElementSibling)]),
+    policy: document.querySelector('meta[http-equiv=Content-Security-Policy]').content,
+    lines: all('pre.lines').map((pre) => pre.textContent),
     nodes: all('section.node').map((s) => ({
       heading: text(s.querySelector('h2')),
       sentences: [...s.querySelectorAll('.sentences > li')].map((li) => ({
@@ -71,7 +74,7 @@ FACTS = r'''(() => {
   }
 })()'''
 
-ALLOWED = set('html head meta title style body header main nav section h1 h2 p ul li a span strong code div details summary '
+ALLOWED = set('html head meta title style body header main nav section h1 h2 p ul li a span strong code div details summary dl dt dd pre '
               'table thead tbody tr th td svg g rect path text desc'.split())
 
 
@@ -99,8 +102,9 @@ def said(program, text, *words):
 
 
 def nodes_of(text):
-    """The heading, and of each node its number, its indication and its sentences, as the text tells them."""
-    heading, *lines = text.decode().splitlines()
+    """The basis, the heading, and of each node its number, its indication and its sentences, as the text tells them."""
+    *basis, heading = text.decode().splitlines()[:4]
+    lines = text.decode().splitlines()[4:]
     nodes = []
     for line in lines:
         if line.startswith(' '):
@@ -108,7 +112,7 @@ def nodes_of(text):
         else:
             number, indication = line.split(' ')[:2]
             nodes.append((int(number), indication, []))
-    return heading, nodes
+    return [line.split(': ', 1) for line in basis], heading, nodes
 
 
 def brightness(colour):
@@ -135,6 +139,7 @@ def hold_alone(name, page, asked, complaints, facts):
         if attribute == 'href':
             need(value.startswith('#') and value[1:] in facts['ids'], name, 'links to', value)
     need(len(set(facts['ids'])) == len(facts['ids']), name, 'has an id twice')
+    need(facts['policy'].startswith("default-src 'none';"), name, 'has the policy', facts['policy'])
 
 
 def hold_form(name, page, facts):
@@ -150,8 +155,11 @@ def hold_form(name, page, facts):
 
 def hold_text(name, text, facts):
     """That it says what the text says, and marks the entries that these sentences name."""
-    heading, nodes = nodes_of(text)
+    basis, heading, nodes = nodes_of(text)
+    need(facts['basis'] == basis, name, facts['basis'], 'is not', basis)
     need(facts['summary'] == heading, name, facts['summary'], 'is not', heading)
+    order = ['exposed', 'suspected', 'trusted']
+    nodes.sort(key=lambda node: order.index(node[1]))
     shown = [n for n in facts['nodes'] if len(n['heading'].split()) > 2]
     need(len(shown) == len(nodes), name, 'has', len(shown), 'nodes and not', len(nodes))
     linked = set()
@@ -188,12 +196,14 @@ def look(browser, program, folder, name, text, what):
     with open(path, 'wb') as out:
         out.write(page)
     told = said(program, text, what)
+    lines = [text.decode()] if what == 'proof' else []
     for scheme in ['light', 'dark']:
         asked, complaints = browser.open(path, scheme)
         facts = browser.value(FACTS)
         hold_alone(name, page, asked, complaints, facts)
         hold_form(name, page, facts)
         hold_text(name, told, facts)
+        need(facts['lines'] == lines, name, 'has other lines than the input')
         hold_colours(name, scheme, facts)
         browser.picture(os.path.join(folder, f'{name}-{scheme}.png'))
     need(browser.print(os.path.join(folder, name + '.pdf')) >= 1, name, 'prints on no sheet')
@@ -203,7 +213,7 @@ def look(browser, program, folder, name, text, what):
 def proofs_of(node_sim, text, told):
     """Of each node that is exposed the directory and a proof."""
     directory = text.split(b'\n')[0]
-    for number, indication, _ in nodes_of(told)[1]:
+    for number, indication, _ in nodes_of(told)[2]:
         if indication == 'exposed':
             yield number, directory + b'\n' + said(node_sim, text, 'prove', str(number))
 

@@ -6,7 +6,8 @@
 //! - `explain store` writes for each node what the store says of it, and why.
 //! - `explain proof` writes whom a proof convicts, and why.
 //!
-//! With `--html` it writes a page that stands alone, with a picture, in place of the text. An input that is refused is told with its place.
+//! With `--html` it writes a page that stands alone, with a picture, in place of the text. Both name the program, and the SHA-256 of
+//! the directory and of the store or the proof. An input that is refused is told with its place, and with what stands there.
 //! The crate `explanations` finds what is said and why, and `explanation_pages` makes the page.
 #![tactic(auto)]
 
@@ -52,9 +53,9 @@ fn explain(rt: &HostRuntime, request: Request) -> Result<(), Refusal> {
 /// What the input says, of nodes that run Relay where that was asked for, and else Tally.
 fn text_of(alloc: Global, request: Request, input: Vec<u8>) -> Result<Vec<u8>, Refusal> {
     if request.relay {
-        answer(alloc, &Relay, request.subject, request.html, input)
+        answer(alloc, &Relay, request, input)
     } else {
-        answer(alloc, &Tally, request.subject, request.html, input)
+        answer(alloc, &Tally, request, input)
     }
 }
 

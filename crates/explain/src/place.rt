@@ -8,16 +8,14 @@ use std::fmt;
 /// What a store's text begins with: eight bytes by which it is known, and a count in eight.
 const HEADER: usize = 16;
 
-/// Where a fault stands. Lines count from 1, what stands in them from 0.
+/// Where a fault stands. Lines and items count from 1.
 #[derive(Clone, Copy, Debug)]
 pub enum FaultPlace {
     /// Nowhere in the input.
     None,
     /// In this line.
     Line(u8),
-    /// At this character of a line.
-    Character { line: u8, place: u64 },
-    /// At this item of the store in the second line.
+    /// At this item of the store in the second line, from 1.
     Item(u64, Told),
     /// Behind all items of the store in the second line, which are so many.
     Behind(u64),
@@ -126,11 +124,17 @@ impl FaultPlace {
             Cause::Memory => FaultPlace::None,
             Cause::BadMagic => FaultPlace::Line(2),
             _ if fault.item >= count => FaultPlace::Behind(count),
-            _ => match item_at(text, fault.item) {
-                Ok(item) => FaultPlace::Item(fault.item, told_of(item)),
-                Err(_) => FaultPlace::Item(fault.item, Told::Nothing),
-            },
+            _ => FaultPlace::of_item(fault.item, text),
         }
+    }
+
+    /// The item behind so many others.
+    fn of_item(behind: u64, text: &[u8]) -> FaultPlace {
+        let told = match item_at(text, behind) {
+            Ok(item) => told_of(item),
+            Err(_) => Told::Nothing,
+        };
+        FaultPlace::Item(behind.saturating_add(1), told)
     }
 }
 
@@ -167,8 +171,8 @@ impl fmt::Display for FaultPlace {
         match *self {
             FaultPlace::None => Ok(()),
             FaultPlace::Line(line) => write!(f, ": line {line}"),
-            FaultPlace::Character { line, place } => write!(f, ": line {line}, character {place}"),
-            FaultPlace::Item(count, told) => write!(f, ": line 2, item {count}{told}"),
+            FaultPlace::Item(number, told) => write!(f, ": line 2, item {number}{told}"),
+            FaultPlace::Behind(1) => f.write_str(": line 2, behind 1 item"),
             FaultPlace::Behind(count) => write!(f, ": line 2, behind {count} items"),
         }
     }

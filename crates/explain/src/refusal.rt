@@ -2,17 +2,49 @@
 
 use crate::place::FaultPlace;
 use commands::fault::{Fault, RefusalLine};
+use input_words::{CountFault, LineFault, TextKind};
 use outcome::Memory;
 use std::alloc::{AllocError, AllocFailed};
 use std::fmt;
 
-/// A refusal: the commands' fault, and its place.
+/// What stands in the input in place of what should.
+#[derive(Clone, Copy, Debug)]
+pub enum Seen {
+    /// Nothing that says more than the fault.
+    Nothing,
+    /// In a line that is no even number of digits.
+    Line(LineFault),
+    /// In an input that does not have two lines, of which the second is to be of this kind.
+    Count { fault: CountFault, second: TextKind },
+    /// An empty line, where a text of this kind should be.
+    Empty(TextKind),
+    /// A text of one kind where one of the other should be.
+    Text { stands: TextKind, wanted: TextKind },
+}
+
+/// A refusal: the commands' fault, its place, and what stands there.
 #[derive(Clone, Copy, Debug)]
 pub struct Refusal {
     /// Its number and its name.
     pub fault: Fault,
     /// Where it stands.
     pub place: FaultPlace,
+    /// What stands there.
+    pub seen: Seen,
+}
+
+impl Seen {
+    /// What a text is that was refused as one of this kind.
+    pub fn of_text(text: &[u8], wanted: TextKind) -> Seen {
+        let stands = TextKind::of(text);
+        if text.is_empty() {
+            Seen::Empty(wanted)
+        } else if stands == wanted || stands == TextKind::Other {
+            Seen::Nothing
+        } else {
+            Seen::Text { stands, wanted }
+        }
+    }
 }
 
 impl Refusal {
@@ -21,16 +53,46 @@ impl Refusal {
         Refusal {
             fault,
             place: FaultPlace::Line(line),
+            seen: Seen::Nothing,
         }
     }
 }
 
-/// What is told of it on one line: `refused NUMBER NAME`, its place, and what it is in words.
+/// Writes which text stands where another should be: at the second line, what to ask for.
+fn write_text<W: fmt::Write>(
+    stands: TextKind,
+    wanted: TextKind,
+    f: &mut fmt::Formatter<W>,
+) -> fmt::Result {
+    if stands == TextKind::Directory || wanted == TextKind::Directory {
+        return write!(f, "a {stands} stands where the {wanted} should be");
+    }
+    write!(f, "this is a {stands}: ask for the {stands}")
+}
+
+/// Writes what stands in the input, or else what the fault is.
+fn write_seen<W: fmt::Write>(seen: Seen, fault: Fault, f: &mut fmt::Formatter<W>) -> fmt::Result {
+    match seen {
+        Seen::Nothing => f.write_str(words_of(fault)),
+        Seen::Line(fault) => write!(f, "{fault}"),
+        Seen::Count { fault, second } => {
+            write!(
+                f,
+                "{fault}, and 2 lines are wanted: a directory and a {second}"
+            )
+        }
+        Seen::Empty(wanted) => write!(f, "the line is empty, and a {wanted} is wanted"),
+        Seen::Text { stands, wanted } => write_text(stands, wanted, f),
+    }
+}
+
+/// What is told of it on one line: `refused NUMBER NAME`, its place, and what stands there.
 impl fmt::Display for Refusal {
     fn fmt<W: fmt::Write>(&self, f: &mut fmt::Formatter<W>) -> fmt::Result {
         let line = RefusalLine { fault: self.fault };
-        let words = words_of(self.fault);
-        write!(f, "{line}{}: {words}", self.place)
+        let place = self.place;
+        write!(f, "{line}{place}: ")?;
+        write_seen(self.seen, self.fault, f)
     }
 }
 
@@ -78,6 +140,7 @@ impl From<Fault> for Refusal {
         Refusal {
             fault,
             place: FaultPlace::None,
+            seen: Seen::Nothing,
         }
     }
 }

@@ -26,6 +26,13 @@ pub struct Request {
     pub html: bool,
 }
 
+impl Request {
+    /// The name of the program that the nodes run.
+    pub fn name(self) -> &'static str {
+        if self.relay { "Relay" } else { "Tally" }
+    }
+}
+
 /// What the words ask for.
 pub enum Asked {
     /// An explanation.

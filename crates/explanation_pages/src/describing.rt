@@ -1,7 +1,6 @@
 //! What is said of an entry, and the names by which links find it.
 
-use crate::choosing::Drawn;
-use crate::marks::SentenceId;
+use drawn_logs::{Drawn, SentenceId};
 use known_logs::{Cell, Detail, Payload, Rows};
 use log_chain::kind::{CHECKPOINT, INIT, RECV, SEND, TIMER};
 use log_chain::{FieldReader, Hash};

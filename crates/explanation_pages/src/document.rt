@@ -1,80 +1,19 @@
 //! The page as a whole.
 
-use crate::choosing::{Choice, PictureRow, choice_of};
 use crate::describing::sentence_id;
-use crate::marks::{Marks, SentenceId};
+use crate::head::{count_of, sign, word, write_basis, write_chips, write_head, write_lines};
 use crate::picture::draw;
-use crate::style::{LEGEND, STYLE};
+use crate::style::LEGEND;
 use crate::tables::write_table;
 use authenticators::NodeId;
+use drawn_logs::{Choice, Marks, PictureRow, SentenceId, choice_of};
 use evidence_set::Indication;
-use explanations::{Explanation, Mark, NodeExplanation, Sentence};
+use explanations::{Basis, Explanation, Mark, NodeExplanation, Sentence};
 use known_logs::Rows;
 use page_text::Page;
 use page_text::Piece::{Markup, Number, Text};
 use std::alloc::{AllocError, Global};
 use std::collections::BTreeSet;
-
-/// The word for what is said of a node.
-fn word(indication: Indication) -> &'static str {
-    match indication {
-        Indication::Trusted => "trusted",
-        Indication::Suspected => "suspected",
-        Indication::Exposed => "exposed",
-    }
-}
-
-/// The sign beside the word.
-fn sign(indication: Indication) -> &'static str {
-    match indication {
-        Indication::Trusted => "\u{2713}",
-        Indication::Suspected => "?",
-        Indication::Exposed => "!",
-    }
-}
-
-/// Writes the head, and the heading with its line about the whole.
-fn write_head(page: &mut Page, heading: &[u8]) -> Result<(), AllocError> {
-    page.write(&[
-        Markup(
-            "<!DOCTYPE html>\n<html lang=\"en\">\n<head>\n<meta charset=\"utf-8\">\n<meta name=\"viewport\" content=\"width=device-width, initial-scale=1\">\n<title>Evidence: ",
-        ),
-        Text(heading),
-        Markup("</title>\n<style>\n"),
-        Markup(STYLE),
-        Markup(
-            "</style>\n</head>\n<body>\n<header>\n<h1>What the evidence says</h1>\n<p class=\"summary\">",
-        ),
-        Text(heading),
-        Markup("</p>\n"),
-    ])
-}
-
-/// Writes a node's link at the top.
-fn write_chip(page: &mut Page, told: &NodeExplanation) -> Result<(), AllocError> {
-    page.write(&[
-        Markup("<li class=\""),
-        Markup(word(told.indication)),
-        Markup("\"><a href=\"#node-"),
-        Number(told.node.0 as u64),
-        Markup("\"><span class=\"sign\" aria-hidden=\"true\">"),
-        Markup(sign(told.indication)),
-        Markup("</span> node "),
-        Number(told.node.0 as u64),
-        Markup(" <strong>"),
-        Markup(word(told.indication)),
-        Markup("</strong></a></li>\n"),
-    ])
-}
-
-/// Writes the links to the nodes.
-fn write_chips(page: &mut Page, nodes: &[NodeExplanation]) -> Result<(), AllocError> {
-    page.markup("<nav aria-label=\"Nodes\"><ul class=\"nodes\">\n")?;
-    for told in nodes {
-        write_chip(page, told)?;
-    }
-    page.markup("</ul></nav>\n</header>\n<main>\n")
-}
 
 /// Writes that a row is cut.
 fn write_cut(page: &mut Page, row: &PictureRow) -> Result<(), AllocError> {
@@ -99,19 +38,36 @@ fn write_left_out(page: &mut Page, nodes: u64) -> Result<(), AllocError> {
     match nodes {
         0 => Ok(()),
         1 => page.markup(
-            "<p class=\"cut\">The log of 1 node is not drawn: nothing is known of it, or no sentence speaks of it.</p>\n",
+            "<p class=\"cut\">The log of 1 node is not drawn: nothing stands against it, and no entry of it quotes a marked one.</p>\n",
         ),
         _ => page.write(&[
             Markup("<p class=\"cut\">The logs of "),
             Number(nodes),
             Markup(
-                " nodes are not drawn: nothing is known of them, or no sentence speaks of them.</p>\n",
+                " nodes are not drawn: nothing stands against them, and no entry of them quotes a marked one.</p>\n",
             ),
         ]),
     }
 }
 
-/// Writes the picture with its legend.
+/// Writes the drawing with its legend, and which of its rows are cut.
+fn write_drawing(
+    alloc: Global,
+    page: &mut Page,
+    rows: &Rows,
+    choice: &Choice,
+) -> Result<(), AllocError> {
+    page.markup(LEGEND)?;
+    page.markup("<div class=\"scroll\" role=\"region\" aria-label=\"Picture\" tabindex=\"0\">\n")?;
+    draw(alloc, page, rows, choice)?;
+    page.markup("</div>\n")?;
+    for row in &choice.rows {
+        write_cut(page, row)?;
+    }
+    Ok(())
+}
+
+/// Writes the picture, where there is something to draw, and how many nodes are not drawn.
 fn write_picture(
     alloc: Global,
     page: &mut Page,
@@ -121,12 +77,8 @@ fn write_picture(
     page.markup(
         "<section aria-labelledby=\"picture-heading\">\n<h2 id=\"picture-heading\">The logs</h2>\n",
     )?;
-    page.markup(LEGEND)?;
-    page.markup("<div class=\"scroll\" role=\"region\" aria-label=\"Picture\" tabindex=\"0\">\n")?;
-    draw(alloc, page, rows, choice)?;
-    page.markup("</div>\n")?;
-    for row in &choice.rows {
-        write_cut(page, row)?;
+    if !choice.rows.is_empty() {
+        write_drawing(alloc, page, rows, choice)?;
     }
     write_left_out(page, choice.left_out)?;
     page.markup("</section>\n")
@@ -213,33 +165,88 @@ fn write_row(
     page.markup("</section>\n")
 }
 
-/// Writes the sections of the nodes that are told of, and answers which they are.
-fn write_told(
-    alloc: Global,
+/// Writes the section of a node that is told of.
+fn write_node(
+    page: &mut Page,
+    told: &NodeExplanation,
+    rows: &Rows,
+    choice: &Choice,
+) -> Result<(), AllocError> {
+    write_heading(page, told.node, Some(told.indication))?;
+    write_sentences(page, told)?;
+    write_row(page, rows, choice, told.node)
+}
+
+/// Writes the sections of the nodes of the indication.
+fn write_all_of(
+    page: &mut Page,
+    explanation: &Explanation,
+    indication: Indication,
+    rows: &Rows,
+    choice: &Choice,
+) -> Result<(), AllocError> {
+    for told in &explanation.nodes {
+        if told.indication == indication {
+            write_node(page, told, rows, choice)?;
+        }
+    }
+    Ok(())
+}
+
+/// Writes the sections of the trusted nodes, folded to one line with their count.
+fn write_trusted(
     page: &mut Page,
     explanation: &Explanation,
     rows: &Rows,
     choice: &Choice,
-) -> Result<BTreeSet<u32>, AllocError> {
-    let mut written = BTreeSet::new(alloc);
-    for told in &explanation.nodes {
-        write_heading(page, told.node, Some(told.indication))?;
-        write_sentences(page, told)?;
-        write_row(page, rows, choice, told.node)?;
-        written.insert(told.node.0)?;
+) -> Result<(), AllocError> {
+    let count = count_of(&explanation.nodes, Indication::Trusted);
+    if count == 0 {
+        return Ok(());
     }
-    Ok(written)
+    page.write(&[
+        Markup("<details id=\"trusted\" class=\"fold\"><summary>\u{2713} "),
+        Number(count),
+        Markup(if count == 1 {
+            " trusted node</summary>\n"
+        } else {
+            " trusted nodes</summary>\n"
+        }),
+    ])?;
+    write_all_of(page, explanation, Indication::Trusted, rows, choice)?;
+    page.markup("</details>\n")
+}
+
+/// Writes the sections of the nodes that are told of: exposed ones first, then suspected ones.
+fn write_told(
+    page: &mut Page,
+    explanation: &Explanation,
+    rows: &Rows,
+    choice: &Choice,
+) -> Result<(), AllocError> {
+    write_all_of(page, explanation, Indication::Exposed, rows, choice)?;
+    write_all_of(page, explanation, Indication::Suspected, rows, choice)?;
+    write_trusted(page, explanation, rows, choice)
+}
+
+/// The nodes that are told of.
+fn told_nodes(alloc: Global, explanation: &Explanation) -> Result<BTreeSet<u32>, AllocError> {
+    let mut nodes = BTreeSet::new(alloc);
+    for told in &explanation.nodes {
+        nodes.insert(told.node.0)?;
+    }
+    Ok(nodes)
 }
 
 /// Writes the sections of the other nodes of whose logs something is known.
 fn write_others(
     page: &mut Page,
-    written: &BTreeSet<u32>,
+    told: &BTreeSet<u32>,
     rows: &Rows,
     choice: &Choice,
 ) -> Result<(), AllocError> {
     for row in &choice.rows {
-        if !written.contains(&row.node.0) {
+        if !told.contains(&row.node.0) {
             write_heading(page, row.node, None)?;
             write_row(page, rows, choice, row.node)?;
         }
@@ -247,21 +254,26 @@ fn write_others(
     Ok(())
 }
 
-/// The page of an explanation, in UTF-8: HTML with its style and its picture in it. It runs nothing and loads nothing, and whatever is of
-/// evidence is escaped.
+/// The page of what is told under a basis, in UTF-8: HTML with its style and its picture in it. It runs nothing and loads nothing, and
+/// whatever is of evidence is escaped. The lines, each of bytes, stand in it folded away, in hexadecimal digits.
 pub fn page_of(
     alloc: Global,
+    basis: &Basis,
     explanation: &Explanation,
     rows: &Rows,
+    lines: &[&[u8]],
 ) -> Result<Vec<u8>, AllocError> {
     let marks = Marks::of_explanation(alloc, explanation)?;
     let choice = choice_of(alloc, explanation, rows, &marks)?;
     let mut page = Page::new(alloc);
-    write_head(&mut page, explanation.heading.as_bytes())?;
+    write_head(&mut page, basis, explanation.heading.as_bytes())?;
+    write_basis(alloc, &mut page, basis)?;
     write_chips(&mut page, &explanation.nodes)?;
     write_picture(alloc, &mut page, rows, &choice)?;
-    let written = write_told(alloc, &mut page, explanation, rows, &choice)?;
-    write_others(&mut page, &written, rows, &choice)?;
+    write_told(&mut page, explanation, rows, &choice)?;
+    let told = told_nodes(alloc, explanation)?;
+    write_others(&mut page, &told, rows, &choice)?;
+    write_lines(&mut page, lines)?;
     page.markup("</main>\n</body>\n</html>\n")?;
     Ok(page.into_bytes())
 }

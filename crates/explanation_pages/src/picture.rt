@@ -1,9 +1,9 @@
 //! The picture: a row for each node, its entries by number, and arrows from what was sent to what quotes it.
 
-use crate::choosing::{Choice, Drawn, PictureRow};
 use crate::describing::{entry_id, kind_name, sentence_link, write_line};
-use crate::grid::Grid;
-use crate::layout::{Band, COLUMN, HEIGHT, LEFT, Layout, PAD, Point, WIDTH};
+use drawn_logs::{
+    Band, COLUMN, Choice, Drawn, Grid, HEIGHT, LEFT, Layout, PAD, PictureRow, Point, WIDTH,
+};
 use known_logs::Rows;
 use log_chain::kind::{CHECKPOINT, INIT, RECV, SEND, TIMER};
 use page_text::Page;

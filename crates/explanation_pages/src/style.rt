@@ -16,6 +16,11 @@ header{padding-top:1.5rem}
 h1{font-size:1.6rem;line-height:1.2;margin:0 0 .25rem}
 h2{font-size:1.2rem;line-height:1.3;margin:0 0 .6rem;display:flex;flex-wrap:wrap;gap:.6rem;align-items:center}
 .summary{margin:0 0 .9rem;color:var(--muted)}
+.basis{display:grid;grid-template-columns:max-content 1fr;gap:.1rem .9rem;margin:0 0 .9rem;font-size:.85rem;color:var(--muted)}
+.basis dd{margin:0;overflow-wrap:anywhere}
+.lines{white-space:pre-wrap;overflow-wrap:anywhere;font-size:.75rem}
+.fold>summary{font-size:1.05rem;margin:0 0 1rem}
+@media (max-width:40rem){.basis{grid-template-columns:1fr}}
 a{color:var(--link)}
 a:focus-visible,.scroll:focus-visible,summary:focus-visible{outline:3px solid var(--link);outline-offset:2px}
 section{background:var(--card);border:1px solid var(--rule);border-radius:8px;padding:1rem 1.2rem;margin:0 0 1rem}
@@ -32,7 +37,7 @@ section{background:var(--card);border:1px solid var(--rule);border-radius:8px;pa
 .scroll{overflow-x:auto}
 .scroll>svg{display:block;min-width:100%}
 .sentences{margin:0 0 .6rem;padding-left:1.2rem}
-.sentences li{margin:.15rem 0;overflow-wrap:anywhere}
+.sentences li{margin:.15rem 0;overflow-wrap:anywhere;white-space:pre-wrap}
 li:target,tr:target{background:var(--warn-ground)}
 .mark{font-size:.85rem;white-space:nowrap;margin-left:.35rem}
 .cut{margin:.5rem 0 0;font-size:.9rem;color:var(--muted)}
@@ -41,7 +46,7 @@ summary{cursor:pointer;color:var(--muted);font-size:.9rem}
 table{border-collapse:collapse;font-size:.85rem;margin-top:.4rem;min-width:100%}
 th,td{text-align:left;padding:.25rem .7rem .25rem 0;border-bottom:1px solid var(--rule);vertical-align:top}
 thead th{white-space:nowrap;color:var(--muted);font-weight:600}
-td.content{overflow-wrap:anywhere;min-width:10rem}
+td.content{overflow-wrap:anywhere;min-width:10rem;white-space:pre-wrap}
 td.hash code{font-size:.78rem;color:var(--muted);overflow-wrap:anywhere}
 tr.marked td,tr.marked th{background:var(--alarm-ground)}
 td.sign{white-space:nowrap}

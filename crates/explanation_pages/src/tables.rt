@@ -1,7 +1,7 @@
 //! The entries in tables, for whoever can't see the picture.
 
-use crate::choosing::{Choice, Drawn, PictureRow};
 use crate::describing::{entry_id, kind_of, sentence_link, source_of, write_content, write_hash};
+use drawn_logs::{Choice, Drawn, PictureRow};
 use known_logs::{Cell, Rows};
 use page_text::Page;
 use page_text::Piece::{Markup, Number};
@@ -47,7 +47,7 @@ fn write_entry(page: &mut Page, rows: &Rows, one: &Drawn) -> Result<(), AllocErr
     } else {
         "<tr>"
     })?;
-    page.markup("<th scope=\"row\"><a href=\"#")?;
+    page.markup("<th scope=\"row\"><a tabindex=\"-1\" href=\"#")?;
     entry_id(page, one)?;
     page.write(&[Markup("\">"), Number(one.seq), Markup("</a></th>")])?;
     write_cells(page, rows, one)?;
@@ -71,8 +71,12 @@ fn write_head(page: &mut Page, row: &PictureRow) -> Result<(), AllocError> {
             Markup(" are shown"),
         ])?;
     }
+    page.write(&[
+        Markup("</summary>\n<div class=\"scroll\" role=\"region\" aria-label=\"Entries of node "),
+        Number(row.node.0 as u64),
+    ])?;
     page.markup(
-        "</summary>\n<div class=\"scroll\" role=\"region\" aria-label=\"Table\" tabindex=\"0\"><table><thead><tr><th scope=\"col\">Number</th><th scope=\"col\">Kind</th><th scope=\"col\">Known from</th><th scope=\"col\">Content</th><th scope=\"col\">Hash</th><th scope=\"col\">Marked</th></tr></thead>\n<tbody>\n",
+        "\" tabindex=\"0\"><table><thead><tr><th scope=\"col\">Number</th><th scope=\"col\">Kind</th><th scope=\"col\">Known from</th><th scope=\"col\">Content</th><th scope=\"col\">Hash</th><th scope=\"col\">Marked</th></tr></thead>\n<tbody>\n",
     )
 }
 

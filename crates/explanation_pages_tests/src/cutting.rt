@@ -3,7 +3,7 @@
 use authenticators::{Directory, NodeId};
 use evidence_set::Indication;
 use explanation_pages::{page_of, rows_of_proof};
-use explanations::{Explanation, Mark, NodeExplanation, Sentence};
+use explanations::{Basis, Explanation, Input, Mark, NodeExplanation, Sentence};
 use log_chain::{ByteString, Entry, Hash, kind};
 use proofs::{Item, Proof};
 use std::alloc::Global;
@@ -37,6 +37,7 @@ fn explanation(alloc: Global) -> Result<Box<Explanation>, Fail> {
     let sentence = Sentence {
         text: String::from_str(alloc, "Marks two.")?,
         marks: Vec::from_slice(alloc, &marks)?,
+        named: Vec::new(alloc),
     };
     let told = NodeExplanation {
         node,
@@ -56,7 +57,8 @@ fn page(alloc: Global, count: u64) -> Result<Vec<u8>, Fail> {
     let proof = proof(alloc, count)?;
     let rows = Box::new(alloc, rows_of_proof(alloc, &directory, &proof)?)?;
     let explanation = explanation(alloc)?;
-    Ok(page_of(alloc, &explanation, &rows)?)
+    let basis = Basis::of(alloc, "Tally", b"", Input::Store, b"")?;
+    Ok(page_of(alloc, &basis, &explanation, &rows, &[])?)
 }
 
 /// An explanation of this node, of which no sentence speaks.
@@ -84,7 +86,8 @@ fn page_of_many(alloc: Global) -> Result<Vec<u8>, Fail> {
             nodes,
         },
     )?;
-    Ok(page_of(alloc, &explanation, &rows)?)
+    let basis = Basis::of(alloc, "Tally", b"", Input::Store, b"")?;
+    Ok(page_of(alloc, &basis, &explanation, &rows, &[])?)
 }
 
 /// Whether the text stands in the page.
@@ -105,7 +108,7 @@ fn a_long_row_is_cut(rt: HostRuntime) -> Result<(), Fail> {
         "<g id=\"entry-1-150\" class=\"entry send logged marked\"",
         "<g id=\"entry-1-400\" class=\"entry bare absent marked\"",
         "<title>Node 1, entry 400: nothing of it is here</title>",
-        "to node 2, &quot;&lt;hi&gt;&quot; (4 bytes)",
+        "to node 2, &#34;&#60;hi&#62;&#34; (4 bytes)",
     ] {
         assert!(rt; has(&page, text));
     }
@@ -116,17 +119,23 @@ fn a_long_row_is_cut(rt: HostRuntime) -> Result<(), Fail> {
 
 #[test]
 fn a_short_row_is_whole(rt: HostRuntime) -> Result<(), Fail> {
-    let page = page(rt.alloc(), 200)?;
-    assert!(rt; has(&page, "<g id=\"entry-1-147\""));
+    let page = page(rt.alloc(), 40)?;
+    assert!(rt; has(&page, "<g id=\"entry-1-17\""));
     assert!(rt; !has(&page, "are drawn"));
     Ok(())
 }
 
 #[test]
-fn many_nodes_without_entries_have_no_row(rt: HostRuntime) -> Result<(), Fail> {
+fn of_many_nodes_those_at_fault_have_a_row(rt: HostRuntime) -> Result<(), Fail> {
     let page = page_of_many(rt.alloc())?;
-    assert!(rt; has(&page, "The logs of 24 nodes are not drawn"));
-    assert!(rt; has(&page, "<g id=\"entry-1-3\""));
+    assert!(rt;
+        has(
+            &page,
+            "The logs of 25 nodes are not drawn: nothing stands against them"
+        )
+    );
+    assert!(rt; !has(&page, "<g id=\"entry-1-3\""));
+    assert!(rt; has(&page, "<summary>\u{2713} 25 trusted nodes</summary>"));
     assert!(rt; has(&page, "<section class=\"node\" id=\"node-24\""));
     Ok(())
 }

@@ -1,4 +1,4 @@
-//! How each special character stands in a page, by the references of HTML.
+//! How each special character stands in a page, by the references of HTML, and what is seen as digits.
 
 use page_text::escaped;
 use std::test::Fail;
@@ -6,19 +6,22 @@ use std::test::Fail;
 #[test]
 fn special_characters(rt: HostRuntime) -> Result<(), Fail> {
     for (text, wanted) in [
-        ("&", "&amp;"),
-        ("<", "&lt;"),
-        (">", "&gt;"),
-        ("\"", "&quot;"),
+        ("&", "&#38;"),
+        ("<", "&#60;"),
+        (">", "&#62;"),
+        ("\"", "&#34;"),
         ("'", "&#39;"),
+        ("`", "&#96;"),
+        ("\\", "\\x5c"),
         ("\0", "\\x00"),
         ("\n", "\\x0a"),
         ("\x1f", "\\x1f"),
         ("\x7f", "\\x7f"),
         (" ~", " ~"),
-        ("\u{e9}", "\u{e9}"),
-        ("</title><script>", "&lt;/title&gt;&lt;script&gt;"),
-        ("a=\"&amp;\"", "a=&quot;&amp;amp;&quot;"),
+        ("\u{e9}", "\\xc3\\xa9"),
+        ("\u{202e}", "\\xe2\\x80\\xae"),
+        ("</title><script>", "&#60;/title&#62;&#60;script&#62;"),
+        ("a=\"&amp;\"", "a=&#34;&#38;amp;&#34;"),
     ] {
         let page = escaped(rt.alloc(), text.as_bytes())?;
         assert!(rt; page.as_slice() == wanted.as_bytes());

@@ -3,7 +3,7 @@
 use authenticators::{Authenticator, Directory, NodeId};
 use evidence_set::Indication;
 use explanation_pages::{page_of, rows_of_proof};
-use explanations::{Explanation, Mark, NodeExplanation, Sentence};
+use explanations::{Basis, Explanation, Input, Mark, NodeExplanation, Sentence};
 use log_chain::{ByteString, Hash};
 use proofs::{Item, Proof};
 use std::alloc::Global;
@@ -37,6 +37,7 @@ fn sentences(alloc: Global) -> Result<Vec<Sentence>, Fail> {
     let sentence = Sentence {
         text: String::from_str(alloc, "Signed <two> & \"more\".")?,
         marks: vec![in alloc; mark]?,
+        named: Vec::new(alloc),
     };
     Ok(vec![in alloc; sentence]?)
 }
@@ -61,12 +62,13 @@ fn page(alloc: Global) -> Result<Vec<u8>, Fail> {
     let proof = proof(alloc)?;
     let rows = Box::new(alloc, rows_of_proof(alloc, &directory, &proof)?)?;
     let explanation = explanation(alloc)?;
-    Ok(page_of(alloc, &explanation, &rows)?)
+    let basis = Basis::of(alloc, "Tally", b"one", Input::Proof, b"two")?;
+    Ok(page_of(alloc, &basis, &explanation, &rows, &[b"one", b"two"])?)
 }
 
 /// The page's beginning.
 fn beginning() -> &'static str {
-    "<!DOCTYPE html>\n<html lang=\"en\">\n<head>\n<meta charset=\"utf-8\">\n<meta name=\"viewport\" content=\"width=device-width, initial-scale=1\">\n<title>Evidence: 1 node</title>\n<style>\n"
+    "<!DOCTYPE html>\n<html lang=\"en\">\n<head>\n<meta charset=\"utf-8\">\n<meta http-equiv=\"Content-Security-Policy\" content=\"default-src 'none'; style-src 'unsafe-inline'; base-uri 'none'; form-action 'none'\">\n<meta name=\"viewport\" content=\"width=device-width, initial-scale=1\">\n<title>What the proof shows: 1 node</title>\n<style>\n"
 }
 
 /// The page from the picture on, written by hand.
@@ -83,14 +85,21 @@ fn wanted() -> &'static str {
 <section class=\"node\" id=\"node-1\" aria-labelledby=\"node-1-heading\">
 <h2 id=\"node-1-heading\">Node 1 <span class=\"badge exposed\"><span aria-hidden=\"true\">!</span> exposed</span></h2>
 <ul class=\"sentences\">
-<li id=\"node-1-sentence-1\">Signed &lt;two&gt; &amp; &quot;more&quot;. <a class=\"mark\" href=\"#entry-1-3\">entry 3 of node 1</a></li>
+<li id=\"node-1-sentence-1\">Signed &#60;two&#62; &#38; &#34;more&#34;. <a class=\"mark\" href=\"#entry-1-3\">entry 3 of node 1</a></li>
 </ul>
 <details open><summary>What is known of the log of node 1: 2 entries</summary>
-<div class=\"scroll\" role=\"region\" aria-label=\"Table\" tabindex=\"0\"><table><thead><tr><th scope=\"col\">Number</th><th scope=\"col\">Kind</th><th scope=\"col\">Known from</th><th scope=\"col\">Content</th><th scope=\"col\">Hash</th><th scope=\"col\">Marked</th></tr></thead>
+<div class=\"scroll\" role=\"region\" aria-label=\"Entries of node 1\" tabindex=\"0\"><table><thead><tr><th scope=\"col\">Number</th><th scope=\"col\">Kind</th><th scope=\"col\">Known from</th><th scope=\"col\">Content</th><th scope=\"col\">Hash</th><th scope=\"col\">Marked</th></tr></thead>
 <tbody>
-<tr class=\"marked\"><th scope=\"row\"><a href=\"#entry-1-3\">3</a></th><td>not known</td><td>statement</td><td class=\"content\">only its hash is known</td><td class=\"hash\"><code>0000000000000000000000000000000000000000000000000000000000000000</code></td><td class=\"sign\"><a href=\"#node-1-sentence-1\">! contradicts</a></td></tr>
-<tr class=\"marked\"><th scope=\"row\"><a href=\"#entry-1-3-1\">3</a></th><td>not known</td><td>statement</td><td class=\"content\">only its hash is known</td><td class=\"hash\"><code>abababababababababababababababababababababababababababababababab</code></td><td class=\"sign\"><a href=\"#node-1-sentence-1\">! contradicts</a></td></tr>
+<tr class=\"marked\"><th scope=\"row\"><a tabindex=\"-1\" href=\"#entry-1-3\">3</a></th><td>not known</td><td>statement</td><td class=\"content\">only its hash is known</td><td class=\"hash\"><code>0000000000000000000000000000000000000000000000000000000000000000</code></td><td class=\"sign\"><a href=\"#node-1-sentence-1\">! contradicts</a></td></tr>
+<tr class=\"marked\"><th scope=\"row\"><a tabindex=\"-1\" href=\"#entry-1-3-1\">3</a></th><td>not known</td><td>statement</td><td class=\"content\">only its hash is known</td><td class=\"hash\"><code>abababababababababababababababababababababababababababababababab</code></td><td class=\"sign\"><a href=\"#node-1-sentence-1\">! contradicts</a></td></tr>
 </tbody></table></div></details>
+</section>
+<section aria-labelledby=\"lines-heading\">
+<h2 id=\"lines-heading\">To check it</h2>
+<details><summary>The lines of the directory and of the proof</summary>
+<pre class=\"lines\">6f6e65
+74776f
+</pre></details>
 </section>
 </main>
 </body>

@@ -8,12 +8,12 @@ use log_chain::base_hash;
 use outcome::Memory;
 use sentences::{Lines, Logged, Sites};
 
-/// Says a hash, and where it is signed.
-fn say_hash(lines: &mut Lines, found: &Found) -> Result<(), Memory> {
+/// Says a hash of the node, and where it is signed.
+fn say_hash(lines: &mut Lines, node: NodeId, found: &Found) -> Result<(), Memory> {
     let hash = found.hash;
     let sites = Sites(&found.sites);
     let text = format!(in lines.alloc(); "Hash {hash}: {sites}.")?;
-    lines.say(text)
+    lines.say_hash(node, found.seq, hash, text)
 }
 
 /// The two in the order of the first places where they stand.
@@ -40,8 +40,8 @@ pub(crate) fn say_two_hashes(
         "Node {node} signed two hashes for entry {seq} of its log."
     )?;
     lines.say_of(node, seq, text)?;
-    say_hash(lines, first)?;
-    say_hash(lines, second)
+    say_hash(lines, node, first)?;
+    say_hash(lines, node, second)
 }
 
 /// How a statement contradicts a segment.
@@ -116,13 +116,12 @@ fn say_entry(
     grounds: &Grounds,
 ) -> Result<(), Memory> {
     let alloc = lines.alloc();
-    let text = match (entry_at(segment, seq), grounds.segment.hash) {
-        (Some(entry), Some(hash)) => {
-            let logged = Logged(entry);
-            format!(in alloc; "There entry {seq} is {logged}, with the hash {hash}.")?
-        }
-        _ => format!(in alloc; "There is no entry {seq} in it.")?,
-    };
+    if let (Some(entry), Some(hash)) = (entry_at(segment, seq), grounds.segment.hash) {
+        let logged = Logged(entry);
+        let text = format!(in alloc; "There entry {seq} is {logged}, with the hash {hash}.")?;
+        return lines.say_hash(segment.node, seq, hash, text);
+    }
+    let text = format!(in alloc; "There is no entry {seq} in it.")?;
     lines.say(text)
 }
 
@@ -157,7 +156,7 @@ pub(crate) fn say_contradiction(
     };
     let denial = denial_of(auth.seq, segment);
     say_denial(lines, auth.node, auth.seq, denial)?;
-    say_hash(lines, found)?;
+    say_hash(lines, auth.node, found)?;
     say_segment(lines, segment, &grounds.segment)?;
     say_other_side(lines, segment, auth.seq, grounds, denial)
 }

@@ -15,7 +15,10 @@ pub use evidence_set::Indication;
 pub use outcome::Memory;
 pub use proofs::{Proof, ProofFault};
 pub use replay_verifier::Program;
-pub use sentences::{Explanation, Mark, NodeExplanation, Sentence, text_of};
+pub use sentences::{
+    Basis, Explanation, Grouped, Input, Mark, NamedHash, NodeExplanation, Sentence, text_of,
+    verdict_text,
+};
 pub use telling::explain_store;
 pub use why::{NodeWhy, Why, why_of, whys_of};
 

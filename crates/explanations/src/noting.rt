@@ -243,7 +243,7 @@ impl Places {
     }
 }
 
-/// Notes the item at this place.
+/// Notes the item behind so many others: its place, from 1, is one more.
 fn note_at<P: Program, S: Evidence<P>>(
     alloc: Global,
     store: &S,
@@ -255,7 +255,7 @@ fn note_at<P: Program, S: Evidence<P>>(
         return Ok(());
     };
     checked.find(alloc, store.directory())?;
-    places.note_item(whys, place, &checked)
+    places.note_item(whys, place.saturating_add(1), &checked)
 }
 
 /// What is found of a store's items, in one pass in which each is copied and let go. Of an item that keeps what checking found

@@ -31,7 +31,7 @@ fn write_others<W: fmt::Write>(len: usize, f: &mut fmt::Formatter<W>) -> fmt::Re
     write!(f, ", and {others} more")
 }
 
-/// `entries 1 to 5 (item 0), entries 4 to 9 (item 2)`: the first twelve, and how many there are more.
+/// `entries 1 to 5 (item 1), entries 4 to 9 (item 3)`: the first twelve, and how many there are more.
 impl<'a> fmt::Display for Spans<'a> {
     fn fmt<W: fmt::Write>(&self, f: &mut fmt::Formatter<W>) -> fmt::Result {
         let mut first = true;

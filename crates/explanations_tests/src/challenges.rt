@@ -17,14 +17,14 @@ fn demands(alloc: Global, nodes: &mut Nodes) -> Result<Vec<Item>, Fail> {
 }
 
 /// What is told of them.
-fn told_of_demands(alloc: Global) -> Result<String, Fail> {
+fn told_of_demands(alloc: Global) -> Result<Vec<u8>, Fail> {
     let mut nodes = make_nodes(alloc)?;
     let items = demands(alloc, &mut nodes)?;
     told_of_items(alloc, &nodes.directory, items)
 }
 
 /// What is told where the log is shown from entry 3 on too.
-fn told_of_answer(alloc: Global) -> Result<String, Fail> {
+fn told_of_answer(alloc: Global) -> Result<Vec<u8>, Fail> {
     let mut nodes = make_nodes(alloc)?;
     let mut items = demands(alloc, &mut nodes)?;
     items.push(Box::into_inner(nodes.two.log_from(alloc, 3)?))?;
@@ -32,7 +32,7 @@ fn told_of_answer(alloc: Global) -> Result<String, Fail> {
 }
 
 /// What is told where there is no item.
-fn told_of_nothing(alloc: Global) -> Result<String, Fail> {
+fn told_of_nothing(alloc: Global) -> Result<Vec<u8>, Fail> {
     let nodes = make_nodes(alloc)?;
     told_of_items(alloc, &nodes.directory, Vec::new(alloc))
 }
@@ -42,11 +42,11 @@ fn demands_text() -> &'static str {
 1 trusted
   Statements of it stand at 1 place in the items.
 2 suspected
-  Item 0, an audit challenge, asks node 2 for its log from the beginning to entry 6.
+  Item 1, an audit challenge, asks node 2 for its log from the beginning to entry 6.
   A segment of node 2 from the beginning that has entry 6 with the hash 8efdb92f95adedfc3b0901b6cd71095fbf3ba9e41ea7217e94b2d844596172f7 would answer it.
-  Item 1, an audit challenge, asks node 2 for its log from entry 3 to entry 6.
+  Item 2, an audit challenge, asks node 2 for its log from entry 3 to entry 6.
   A segment of node 2 that has entry 3 with the hash 0bee76b99802d47101db002c12e34a0d1a06de5e939794c91dbb4101c4376d20 and entry 6 with the hash 8efdb92f95adedfc3b0901b6cd71095fbf3ba9e41ea7217e94b2d844596172f7 would answer it.
-  Item 2, a send challenge of node 1, asks node 2 to acknowledge entry 7 of node 1: \"hello\".
+  Item 3, a send challenge of node 1, asks node 2 to acknowledge entry 7 of node 1: \"hello\".
   An acknowledgement by node 2 of a message from node 1 with this number would answer it, or a segment of node 2 with a RECV of one that node 1 signed.
 "
 }
@@ -56,9 +56,9 @@ fn answer_text() -> &'static str {
 1 trusted
   Statements of it stand at 1 place in the items.
 2 suspected
-  Item 1, an audit challenge, asks node 2 for its log from the beginning to entry 6.
+  Item 2, an audit challenge, asks node 2 for its log from the beginning to entry 6.
   A segment of node 2 from the beginning that has entry 6 with the hash 8efdb92f95adedfc3b0901b6cd71095fbf3ba9e41ea7217e94b2d844596172f7 would answer it.
-  Item 3, a send challenge of node 1, asks node 2 to acknowledge entry 7 of node 1: \"hello\".
+  Item 4, a send challenge of node 1, asks node 2 to acknowledge entry 7 of node 1: \"hello\".
   An acknowledgement by node 2 of a message from node 1 with this number would answer it, or a segment of node 2 with a RECV of one that node 1 signed.
 "
 }
@@ -75,20 +75,20 @@ fn nothing_text() -> &'static str {
 #[test]
 fn open_challenges(rt: HostRuntime) -> Result<(), Fail> {
     let told = told_of_demands(rt.alloc())?;
-    assert!(rt; told.as_str() == demands_text(), "{told}");
+    assert!(rt; told.as_slice() == demands_text().as_bytes());
     Ok(())
 }
 
 #[test]
 fn an_answered_challenge(rt: HostRuntime) -> Result<(), Fail> {
     let told = told_of_answer(rt.alloc())?;
-    assert!(rt; told.as_str() == answer_text(), "{told}");
+    assert!(rt; told.as_slice() == answer_text().as_bytes());
     Ok(())
 }
 
 #[test]
 fn no_item(rt: HostRuntime) -> Result<(), Fail> {
     let told = told_of_nothing(rt.alloc())?;
-    assert!(rt; told.as_str() == nothing_text(), "{told}");
+    assert!(rt; told.as_slice() == nothing_text().as_bytes());
     Ok(())
 }

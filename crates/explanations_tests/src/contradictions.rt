@@ -41,28 +41,28 @@ fn absent_items(alloc: Global, nodes: &mut Nodes) -> Result<Vec<Item>, Fail> {
 }
 
 /// What is told of a statement that is quoted.
-fn told_of_quoted(alloc: Global) -> Result<String, Fail> {
+fn told_of_quoted(alloc: Global) -> Result<Vec<u8>, Fail> {
     let mut nodes = make_nodes(alloc)?;
     let items = quoted_items(alloc, &mut nodes)?;
     told_of_items(alloc, &nodes.directory, items)
 }
 
 /// What is told of a statement with this number, and of the log from an entry on.
-fn told_of_denied(alloc: Global, seq: u64, from: u64) -> Result<String, Fail> {
+fn told_of_denied(alloc: Global, seq: u64, from: u64) -> Result<Vec<u8>, Fail> {
     let mut nodes = make_nodes(alloc)?;
     let items = denied_items(alloc, &mut nodes, seq, from)?;
     told_of_items(alloc, &nodes.directory, items)
 }
 
 /// What is told of a statement with a number that the log has not.
-fn told_of_absent(alloc: Global) -> Result<String, Fail> {
+fn told_of_absent(alloc: Global) -> Result<Vec<u8>, Fail> {
     let mut nodes = make_nodes(alloc)?;
     let items = absent_items(alloc, &mut nodes)?;
     told_of_items(alloc, &nodes.directory, items)
 }
 
 /// What is told of the proof of a statement with this number and the log.
-fn told_of_denial(alloc: Global) -> Result<String, Fail> {
+fn told_of_denial(alloc: Global) -> Result<Vec<u8>, Fail> {
     let mut nodes = make_nodes(alloc)?;
     let items = denied_items(alloc, &mut nodes, 4, 1)?;
     told_of_proof(alloc, &nodes.directory, items, NodeId(2))
@@ -72,10 +72,10 @@ fn quoted_text() -> &'static str {
     "2 nodes: 1 trusted, 0 suspected, 1 exposed; 2 items: 1 statement, 1 segment
 1 exposed
   Node 1 signed two hashes for entry 7 of its log.
-  Hash 0101010101010101010101010101010101010101010101010101010101010101: item 0, a statement.
-  Hash 9b5feb1b21f193fcfe97931715e3180dd7cc4d0e02484675ddec3991419b3c91: item 1, a segment of node 2, whose entry 2 quotes it.
+  Hash 0101010101010101010101010101010101010101010101010101010101010101: item 1, a statement.
+  Hash 9b5feb1b21f193fcfe97931715e3180dd7cc4d0e02484675ddec3991419b3c91: item 2, a segment of node 2, whose entry 2 quotes it.
 2 trusted
-  Its log follows the program in 1 segment: entries 1 to 2 (item 1).
+  Its log follows the program in 1 segment: entries 1 to 2 (item 2).
 "
 }
 
@@ -85,8 +85,8 @@ fn left_out_text() -> &'static str {
   No item is of node 1.
 2 exposed
   Node 2 signed a hash for entry 4 that its own log leaves out.
-  Hash 0101010101010101010101010101010101010101010101010101010101010101: item 0, a statement.
-  Its log from entry 1 to entry 6: item 1, a segment.
+  Hash 0101010101010101010101010101010101010101010101010101010101010101: item 1, a statement.
+  Its log from entry 1 to entry 6: item 2, a segment.
   There entry 4 is a TIMER of the moment 20, with the hash 843fd7b48a2d6456a197c9813df8c9731d13ca3448e01eda7384e92f2f0fb400.
 "
 }
@@ -97,8 +97,8 @@ fn absent_text() -> &'static str {
   No item is of node 1.
 2 exposed
   Node 2 signed a hash for entry 2 that its own log leaves out.
-  Hash 0101010101010101010101010101010101010101010101010101010101010101: item 0, a statement.
-  Its log from entry 1 to entry 3: item 1, a segment.
+  Hash 0101010101010101010101010101010101010101010101010101010101010101: item 1, a statement.
+  Its log from entry 1 to entry 3: item 2, a segment.
   There is no entry 2 in it.
 "
 }
@@ -109,8 +109,8 @@ fn off_start_text() -> &'static str {
   No item is of node 1.
 2 exposed
   Node 2 signed a hash for entry 2 that is not the one before its own log from entry 3 on.
-  Hash 0101010101010101010101010101010101010101010101010101010101010101: item 0, a statement.
-  Its log from entry 3 to entry 6: item 1, a segment.
+  Hash 0101010101010101010101010101010101010101010101010101010101010101: item 1, a statement.
+  Its log from entry 3 to entry 6: item 2, a segment.
   There the hash before entry 3 is 5eb6d27cc7ff64ea65b2b94d3ef56f54100084fa2720ec223d51fa628e19b46f.
 "
 }
@@ -121,8 +121,8 @@ fn before_log_text() -> &'static str {
   No item is of node 1.
 2 exposed
   Node 2 signed a hash for entry 0, and its own log begins with entry 1.
-  Hash 0101010101010101010101010101010101010101010101010101010101010101: item 0, a statement.
-  Its log from entry 1 to entry 6: item 1, a segment.
+  Hash 0101010101010101010101010101010101010101010101010101010101010101: item 1, a statement.
+  Its log from entry 1 to entry 6: item 2, a segment.
 "
 }
 
@@ -139,41 +139,41 @@ fn denial_text() -> &'static str {
 #[test]
 fn a_quoted_statement(rt: HostRuntime) -> Result<(), Fail> {
     let told = told_of_quoted(rt.alloc())?;
-    assert!(rt; told.as_str() == quoted_text(), "{told}");
+    assert!(rt; told.as_slice() == quoted_text().as_bytes());
     Ok(())
 }
 
 #[test]
 fn a_statement_that_a_segment_leaves_out(rt: HostRuntime) -> Result<(), Fail> {
     let told = told_of_denied(rt.alloc(), 4, 1)?;
-    assert!(rt; told.as_str() == left_out_text(), "{told}");
+    assert!(rt; told.as_slice() == left_out_text().as_bytes());
     Ok(())
 }
 
 #[test]
 fn a_statement_of_an_entry_that_is_absent(rt: HostRuntime) -> Result<(), Fail> {
     let told = told_of_absent(rt.alloc())?;
-    assert!(rt; told.as_str() == absent_text(), "{told}");
+    assert!(rt; told.as_slice() == absent_text().as_bytes());
     Ok(())
 }
 
 #[test]
 fn a_statement_just_before_a_segment(rt: HostRuntime) -> Result<(), Fail> {
     let told = told_of_denied(rt.alloc(), 2, 3)?;
-    assert!(rt; told.as_str() == off_start_text(), "{told}");
+    assert!(rt; told.as_slice() == off_start_text().as_bytes());
     Ok(())
 }
 
 #[test]
 fn a_statement_before_the_log(rt: HostRuntime) -> Result<(), Fail> {
     let told = told_of_denied(rt.alloc(), 0, 1)?;
-    assert!(rt; told.as_str() == before_log_text(), "{told}");
+    assert!(rt; told.as_slice() == before_log_text().as_bytes());
     Ok(())
 }
 
 #[test]
 fn a_proof_of_a_statement_and_a_segment(rt: HostRuntime) -> Result<(), Fail> {
     let told = told_of_denial(rt.alloc())?;
-    assert!(rt; told.as_str() == denial_text(), "{told}");
+    assert!(rt; told.as_slice() == denial_text().as_bytes());
     Ok(())
 }

@@ -38,28 +38,28 @@ fn begun(alloc: Global, nodes: &mut Nodes, kind: u8, content: &[u8]) -> Result<V
 }
 
 /// What is told where the message is missing.
-fn told_of_missing(alloc: Global) -> Result<String, Fail> {
+fn told_of_missing(alloc: Global) -> Result<Vec<u8>, Fail> {
     let mut nodes = make_nodes(alloc)?;
     let items = deviating(alloc, &mut nodes, TIMER, &[0, 0, 0, 0, 0, 0, 0, 6])?;
     told_of_items(alloc, &nodes.directory, items)
 }
 
 /// What is told of the proof where another message is sent.
-fn told_of_other(alloc: Global) -> Result<String, Fail> {
+fn told_of_other(alloc: Global) -> Result<Vec<u8>, Fail> {
     let mut nodes = make_nodes(alloc)?;
     let items = deviating(alloc, &mut nodes, SEND, b"\0\0\0\x02say \"no\"")?;
     told_of_proof(alloc, &nodes.directory, items, NodeId(1))
 }
 
 /// What is told where a message is too many.
-fn told_of_extra(alloc: Global) -> Result<String, Fail> {
+fn told_of_extra(alloc: Global) -> Result<Vec<u8>, Fail> {
     let mut nodes = make_nodes(alloc)?;
     let items = begun(alloc, &mut nodes, SEND, b"\0\0\0\x02hello")?;
     told_of_items(alloc, &nodes.directory, items)
 }
 
 /// What is told of the proof where a CHECKPOINT has another state.
-fn told_of_state(alloc: Global) -> Result<String, Fail> {
+fn told_of_state(alloc: Global) -> Result<Vec<u8>, Fail> {
     let mut nodes = make_nodes(alloc)?;
     let items = begun(alloc, &mut nodes, CHECKPOINT, &[0, 0, 0, 0, 0, 0, 0, 5])?;
     told_of_proof(alloc, &nodes.directory, items, NodeId(1))
@@ -69,7 +69,7 @@ fn missing_text() -> &'static str {
     "2 nodes: 1 trusted, 0 suspected, 1 exposed; 1 item: 1 segment
 1 exposed
   Node 1 deviates from its program at entry 3 of its log, a TIMER: a message that the program sends is missing (MissingOutput).
-  Its log from entry 1 to entry 3: item 0, a segment.
+  Its log from entry 1 to entry 3: item 1, a segment.
   The program awaited a SEND to node 2 of the bytes 410000000000000005.
   Logged is a TIMER of the moment 6.
 2 trusted
@@ -91,7 +91,7 @@ fn extra_text() -> &'static str {
     "2 nodes: 1 trusted, 0 suspected, 1 exposed; 1 item: 1 segment
 1 exposed
   Node 1 deviates from its program at entry 2 of its log, a SEND: the program sends no message there (ExtraOutput).
-  Its log from entry 1 to entry 2: item 0, a segment.
+  Its log from entry 1 to entry 2: item 1, a segment.
   The program awaited no SEND.
   Logged is a SEND to node 2 of \"hello\".
 2 trusted
@@ -112,27 +112,27 @@ fn state_text() -> &'static str {
 #[test]
 fn a_message_that_is_missing(rt: HostRuntime) -> Result<(), Fail> {
     let told = told_of_missing(rt.alloc())?;
-    assert!(rt; told.as_str() == missing_text(), "{told}");
+    assert!(rt; told.as_slice() == missing_text().as_bytes());
     Ok(())
 }
 
 #[test]
 fn a_proof_of_another_message(rt: HostRuntime) -> Result<(), Fail> {
     let told = told_of_other(rt.alloc())?;
-    assert!(rt; told.as_str() == other_text(), "{told}");
+    assert!(rt; told.as_slice() == other_text().as_bytes());
     Ok(())
 }
 
 #[test]
 fn a_message_too_many(rt: HostRuntime) -> Result<(), Fail> {
     let told = told_of_extra(rt.alloc())?;
-    assert!(rt; told.as_str() == extra_text(), "{told}");
+    assert!(rt; told.as_slice() == extra_text().as_bytes());
     Ok(())
 }
 
 #[test]
 fn a_proof_of_another_state(rt: HostRuntime) -> Result<(), Fail> {
     let told = told_of_state(rt.alloc())?;
-    assert!(rt; told.as_str() == state_text(), "{told}");
+    assert!(rt; told.as_slice() == state_text().as_bytes());
     Ok(())
 }

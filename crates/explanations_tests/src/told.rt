@@ -27,7 +27,7 @@ pub(crate) fn told_of_items(
     alloc: Global,
     directory: &Directory,
     items: Vec<Item>,
-) -> Result<String, Fail> {
+) -> Result<Vec<u8>, Fail> {
     let store = store_of(alloc, directory, items)?;
     let explanation = explain_store::<Tally, IndexedStore<Tally>>(alloc, &Tally, &store)?;
     Ok(text_of(alloc, &explanation)?)
@@ -39,10 +39,10 @@ pub(crate) fn told_of_proof(
     directory: &Directory,
     items: Vec<Item>,
     node: NodeId,
-) -> Result<String, Fail> {
+) -> Result<Vec<u8>, Fail> {
     let store = store_of(alloc, directory, items)?;
     let Some(proof) = store.proof(node)? else {
-        return Ok(String::new(alloc));
+        return Ok(Vec::new(alloc));
     };
     let told = explain_proof(alloc, &Tally, directory, &proof)?;
     Ok(text_of(alloc, &told.explanation)?)

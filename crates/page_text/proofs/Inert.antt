@@ -1,71 +1,82 @@
 -- No byte of an escaped text ends an element or an attribute, or begins an element.
-use Rattle.std.proofs.Common.{◌≡◌, ◌<◌, ◌/◌, ◌%◌, ◌==◌, ℕ, List, [], ◌∷◌, All, Bool, true, false, codes, if◌then◌else◌, refl, arith}
+use Rattle.std.proofs.Common.{◌≡◌, ◌<◌, ◌+◌, suc, ◌/◌, ◌%◌, ℕ, List, [], ◌∷◌, All, Bool, true, false, if◌then◌else◌, refl, arith}
 use Rattle.std.proofs.lemmas.List.Elements.{All-append, All-cons, All-nil}
 use Rattle.std.proofs.lemmas.Bool.Decides.{nat_tests}
-use Rattle.page_text.specs.Escaping.{IsInert, digit, escaped, is_control, spelled}
+use Rattle.std.specs.List.{AllByRecursion}
+use Rattle.page_text.specs.Escaping.{IsInert, digit, escaped, is_digits, is_reference, seen, spelled}
 
 -- a hexadecimal digit
 inert_digit : (n : ℕ) → n < 16 → IsInert (digit n)
 inert_digit n h = grind (arith, nat_tests)
 
 -- a byte that stands as it is
-inert_byte : (b : ℕ) → (b == 60) ≡ false → (b == 62) ≡ false → (b == 34) ≡ false → (b == 39) ≡ false → is_control b ≡ false → IsInert b
-inert_byte b a c d e f = grind (arith, nat_tests)
+inert_byte : (b : ℕ) → is_reference b ≡ false → is_digits b ≡ false → IsInert b
+inert_byte b r d = grind (arith, nat_tests)
 
--- the references
-amp : All IsInert (codes "&amp;")
-amp = grind (arith, nat_tests)
+-- the decimal digits of a byte that stands as a reference
+inert_tens : (b : ℕ) → is_reference b ≡ true → IsInert (48 + b / 10)
+inert_tens b r = grind (arith, nat_tests)
 
-lt : All IsInert (codes "&lt;")
-lt = grind (arith, nat_tests)
+inert_ones : (b : ℕ) → IsInert (48 + b % 10)
+inert_ones b = (omega arith, omega arith, (λ e. omega (arith, e)), (λ e. omega (arith, e)), (λ e. omega (arith, e)), (λ e. omega (arith, e)), (λ e. omega (arith, e)))
 
-gt : All IsInert (codes "&gt;")
-gt = grind (arith, nat_tests)
+ampersand : IsInert 38
+ampersand = grind (arith, nat_tests)
 
-quot : All IsInert (codes "&quot;")
-quot = grind (arith, nat_tests)
+number_sign : IsInert 35
+number_sign = grind (arith, nat_tests)
 
-apostrophe : All IsInert (codes "&#39;")
-apostrophe = grind (arith, nat_tests)
+semicolon : IsInert 59
+semicolon = grind (arith, nat_tests)
 
--- the backslash and the letter before digits
 backslash : IsInert 92
 backslash = grind (arith, nat_tests)
 
 letter : IsInert 120
 letter = grind (arith, nat_tests)
 
-high_digit : (b : ℕ) → is_control b ≡ true → b / 16 < 16
-high_digit b h = grind (arith, nat_tests)
-
 low_digit : (b : ℕ) → b % 16 < 16
 low_digit b = omega arith
 
-control : (b : ℕ) → is_control b ≡ true → All IsInert (92 ∷ 120 ∷ digit (b / 16) ∷ digit (b % 16) ∷ [])
-control b h =
+high_digit : (b : ℕ) → b < 256 → b / 16 < 16
+high_digit b h = omega (arith, h)
+
+coded : (b : ℕ) → b < 256 → All IsInert (92 ∷ 120 ∷ digit (b / 16) ∷ digit (b % 16) ∷ [])
+coded b h =
     All-cons IsInert 92 (120 ∷ digit (b / 16) ∷ digit (b % 16) ∷ []) backslash
     (All-cons IsInert 120 (digit (b / 16) ∷ digit (b % 16) ∷ []) letter
     (All-cons IsInert (digit (b / 16)) (digit (b % 16) ∷ []) (inert_digit (b / 16) (high_digit b h))
     (All-cons IsInert (digit (b % 16)) [] (inert_digit (b % 16) (low_digit b)) (All-nil IsInert))))
 
-plain : (b : ℕ) → (b == 60) ≡ false → (b == 62) ≡ false → (b == 34) ≡ false → (b == 39) ≡ false → is_control b ≡ false → All IsInert (b ∷ [])
-plain b a c d e f = All-cons IsInert b [] (inert_byte b a c d e f) (All-nil IsInert)
+plain : (b : ℕ) → is_reference b ≡ false → is_digits b ≡ false → All IsInert (b ∷ [])
+plain b r d = All-cons IsInert b [] (inert_byte b r d) (All-nil IsInert)
+
+reference : (b : ℕ) → is_reference b ≡ true → All IsInert (38 ∷ 35 ∷ (48 + b / 10) ∷ (48 + b % 10) ∷ 59 ∷ [])
+reference b r =
+    All-cons IsInert 38 (35 ∷ (48 + b / 10) ∷ (48 + b % 10) ∷ 59 ∷ []) ampersand
+    (All-cons IsInert 35 ((48 + b / 10) ∷ (48 + b % 10) ∷ 59 ∷ []) number_sign
+    (All-cons IsInert (48 + b / 10) ((48 + b % 10) ∷ 59 ∷ []) (inert_tens b r)
+    (All-cons IsInert (48 + b % 10) (59 ∷ []) (inert_ones b)
+    (All-cons IsInert 59 [] semicolon (All-nil IsInert)))))
 
 -- by the tests in turn
-by_tests : (b : ℕ) (t0 t1 t2 t3 t4 t5 : Bool) → (b == 60) ≡ t1 → (b == 62) ≡ t2 → (b == 34) ≡ t3 → (b == 39) ≡ t4 → is_control b ≡ t5
-    → All IsInert (if t0 then codes "&amp;" else (if t1 then codes "&lt;" else (if t2 then codes "&gt;" else (if t3 then codes "&quot;" else (if t4 then codes "&#39;" else (if t5 then 92 ∷ 120 ∷ digit (b / 16) ∷ digit (b % 16) ∷ [] else b ∷ []))))))
-by_tests b true _ _ _ _ _ _ _ _ _ _ = amp
-by_tests b false true _ _ _ _ _ _ _ _ _ = lt
-by_tests b false false true _ _ _ _ _ _ _ _ = gt
-by_tests b false false false true _ _ _ _ _ _ _ = quot
-by_tests b false false false false true _ _ _ _ _ _ = apostrophe
-by_tests b false false false false false true _ _ _ _ h = control b h
-by_tests b false false false false false false a c d e f = plain b a c d e f
+by_tests : (b : ℕ) (r d : Bool) → b < 256 → is_reference b ≡ r → is_digits b ≡ d
+    → All IsInert (if r then 38 ∷ 35 ∷ (48 + b / 10) ∷ (48 + b % 10) ∷ 59 ∷ [] else (if d then 92 ∷ 120 ∷ digit (b / 16) ∷ digit (b % 16) ∷ [] else b ∷ []))
+by_tests b true _ _ r _ = reference b r
+by_tests b false true h _ _ = coded b h
+by_tests b false false _ r d = plain b r d
 
-spelled_inert : (b : ℕ) → All IsInert (spelled b)
-unfolding spelled
-spelled_inert b = by_tests b (b == 38) (b == 60) (b == 62) (b == 34) (b == 39) (is_control b) refl refl refl refl refl
+spelled_inert : (b : ℕ) → b < 256 → All IsInert (spelled b)
+unfolding spelled seen
+spelled_inert b h = by_tests b (is_reference b) (is_digits b) h refl refl
 
-pub escaped_inert : (text : List ℕ) → All IsInert (escaped text)
-escaped_inert [] = All-nil IsInert
-escaped_inert (b ∷ text) = All-append IsInert (spelled b) (escaped text) (spelled_inert b) (escaped_inert text)
+recursive : (text : List ℕ) → AllByRecursion (λ b. b < 256) text → All IsInert (escaped text)
+recursive [] _ = All-nil IsInert
+recursive (b ∷ text) h = All-append IsInert (spelled b) (escaped text) (spelled_inert b h.0) (recursive text h.1)
+
+pub by_recursion : (xs : List ℕ) → All (λ b. b < 256) xs → AllByRecursion (λ b. b < 256) xs
+by_recursion [] h = tt
+by_recursion (x ∷ xs) h = (h 0 x (omega arith), by_recursion xs (λ k d lt. h (suc k) d (omega (arith, lt))))
+
+pub escaped_inert : (text : List ℕ) → All (λ b. b < 256) text → All IsInert (escaped text)
+escaped_inert text h = recursive text (by_recursion text h)

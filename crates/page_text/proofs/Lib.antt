@@ -1,1 +1,2 @@
 pub mod Inert
+pub mod Legible

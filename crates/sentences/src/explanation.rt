@@ -2,6 +2,7 @@
 
 use authenticators::NodeId;
 use evidence_set::Indication;
+use log_chain::Hash;
 
 /// An entry of a node's log.
 #[derive(Clone, Copy, Debug, PartialEq, Eq)]
@@ -12,6 +13,17 @@ pub struct Mark {
     pub seq: u64,
 }
 
+/// A hash that a sentence names.
+#[derive(Clone, Copy, Debug, PartialEq, Eq)]
+pub struct NamedHash {
+    /// The node whose log it is of.
+    pub node: NodeId,
+    /// The entry's number.
+    pub seq: u64,
+    /// The entry's hash.
+    pub hash: Hash,
+}
+
 /// One sentence about a node.
 #[derive(Debug, Drop)]
 pub struct Sentence {
@@ -19,6 +31,8 @@ pub struct Sentence {
     pub text: String,
     /// The entries of which it says that they contradict something.
     pub marks: Vec<Mark>,
+    /// The hashes that it names of entries that contradict something.
+    pub named: Vec<NamedHash>,
 }
 
 /// What is told of a node.

@@ -2,23 +2,27 @@
 //!
 //! - [`Explanation`] has a heading, and of each node its indication and [`Sentence`]s; a [`Mark`] names an entry of which a sentence says
 //!   that it contradicts something. [`text_of`] writes an explanation down.
+//! - [`Basis`] says under which program and directory a verdict is given, and of which bytes.
 //! - [`Lines`] takes sentences one after the other.
 //! - [`Count`], [`Kind`], [`Bytes`], [`Sending`], [`Logged`] and [`Sites`] are the words for what evidence has: each writes itself.
 //!
-//! No contract speaks of the words: stored outputs hold them.
+//! `specs/Texts.antt` says how an explanation is written: of each node the line that a report has of it, and its sentences behind blanks. No
+//! contract speaks of a sentence's words: stored outputs hold them.
 #![tactic(auto)]
 
 pub use authenticators::NodeId;
+pub use basis::{Basis, Grouped};
 pub use evidence_set::Indication;
-pub use explanation::{Explanation, Mark, NodeExplanation, Sentence};
+pub use explanation::{Explanation, Mark, NamedHash, NodeExplanation, Sentence};
 pub use lines::Lines;
 pub use log_chain::Entry;
 pub use outcome::Memory;
 pub use replay_verifier::Output;
 pub use site::{Input, Role, Site, Sites};
 pub use words::{Bytes, Count, Kind, Logged, Sending};
-pub use writing::text_of;
+pub use writing::{text_of, verdict_text};
 
+mod basis;
 mod explanation;
 mod lines;
 mod site;

@@ -1,7 +1,8 @@
 //! Sentences, one after the other.
 
-use crate::explanation::{Mark, Sentence};
+use crate::explanation::{Mark, NamedHash, Sentence};
 use authenticators::NodeId;
+use log_chain::Hash;
 use outcome::Memory;
 use std::alloc::Global;
 
@@ -29,7 +30,8 @@ impl Lines {
     /// Says a sentence that speaks of no contradiction.
     pub fn say(&mut self, text: String) -> Result<(), Memory> {
         let marks = Vec::new(self.alloc);
-        self.sentences.push(Sentence { text, marks })?;
+        let named = Vec::new(self.alloc);
+        self.sentences.push(Sentence { text, marks, named })?;
         Ok(())
     }
 
@@ -37,7 +39,23 @@ impl Lines {
     pub fn say_of(&mut self, node: NodeId, seq: u64, text: String) -> Result<(), Memory> {
         let mut marks = Vec::new(self.alloc);
         marks.push(Mark { node, seq })?;
-        self.sentences.push(Sentence { text, marks })?;
+        let named = Vec::new(self.alloc);
+        self.sentences.push(Sentence { text, marks, named })?;
+        Ok(())
+    }
+
+    /// Says a sentence that names the hash of an entry which contradicts something.
+    pub fn say_hash(
+        &mut self,
+        node: NodeId,
+        seq: u64,
+        hash: Hash,
+        text: String,
+    ) -> Result<(), Memory> {
+        let mut named = Vec::new(self.alloc);
+        named.push(NamedHash { node, seq, hash })?;
+        let marks = Vec::new(self.alloc);
+        self.sentences.push(Sentence { text, marks, named })?;
         Ok(())
     }
 

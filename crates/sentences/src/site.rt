@@ -38,7 +38,7 @@ pub enum Role {
     Acknowledging,
 }
 
-/// A place in an input, and what stands there. Items are counted from 0, and parts from 1.
+/// A place in an input, and what stands there. Items and parts are counted from 1.
 #[derive(Clone, Copy, Debug, PartialEq, Eq)]
 pub struct Site {
     /// What it is a place in.
@@ -87,7 +87,7 @@ impl fmt::Display for Role {
     }
 }
 
-/// `item 0, a statement`, `part 1, a segment`.
+/// `item 1, a statement`, `part 1, a segment`.
 impl fmt::Display for Site {
     fn fmt<W: fmt::Write>(&self, f: &mut fmt::Formatter<W>) -> fmt::Result {
         let place = self.place;

@@ -1,37 +1,137 @@
 //! An explanation as text.
 
-use crate::explanation::{Explanation, NodeExplanation};
-use std::alloc::{AllocError, Global};
-use std::fmt;
+ghost use Rattle.std.specs.Prelude.{◌≡◌, ◌++◌, ◌<◌, ◌^◌, All, IfOk, OnOk, string_bytes};
+ghost use Rattle.std.specs.List.{flat_map};
+ghost use Rattle.sentences.specs.Texts.{EndsWith, in_line, in_one_line, line_of, margin, node_text, nodes_text, report_of, sentence_text, text_of};
 
-/// Writes a node's line, and its sentences below it.
-fn write_node<W: fmt::Write>(
-    explanation: &NodeExplanation,
-    f: &mut fmt::Formatter<W>,
-) -> fmt::Result {
-    let node = explanation.node;
-    let indication = explanation.indication;
-    write!(f, "{node} {indication}\n")?;
-    for sentence in explanation.sentences.as_slice() {
-        let text = sentence.text.as_str();
-        write!(f, "  {text}\n")?;
+use crate::basis::Basis;
+use crate::explanation::{Explanation, NodeExplanation, Sentence};
+use evidence_set::Indication;
+use std::alloc::{AllocError, Global};
+
+/// The byte as it stands within a line.
+fn in_line(byte: u8) -> u8
+    ensures { result ≡ in_line byte }
+{
+    if byte == b'\n' { b' ' } else { byte }
+}
+
+/// Writes a text in one line.
+fn put_text(text: &mut Vec<u8>, bytes: &[u8]) -> Result<(), AllocError>
+    ensures { OnOk result (text.new.items ≡ text.old.items ++ in_one_line bytes.now) }
+{
+    for byte in bytes {
+        text.push(in_line(*byte))?;
     }
     Ok(())
 }
 
-/// The heading's line, and for each node a line `NODE INDICATION` and its sentences, each in a line behind two blanks.
-impl fmt::Display for Explanation {
-    fn fmt<W: fmt::Write>(&self, f: &mut fmt::Formatter<W>) -> fmt::Result {
-        let heading = self.heading.as_str();
-        write!(f, "{heading}\n")?;
-        for node in self.nodes.as_slice() {
-            write_node(node, f)?;
-        }
-        Ok(())
+/// Writes a sentence in a line behind two blanks.
+fn put_sentence(text: &mut Vec<u8>, sentence: &Sentence) -> Result<(), AllocError>
+    ensures { OnOk result (text.new.items ≡ text.old.items ++ sentence_text sentence.now) }
+{
+    text.extend_from_slice(b"  ")?;
+    put_text(text, sentence.text.as_bytes())?;
+    text.extend_from_slice(b"\n")
+}
+
+/// Writes sentences below each other.
+fn put_sentences(text: &mut Vec<u8>, sentences: &[Sentence]) -> Result<(), AllocError>
+    ensures { OnOk result (text.new.items ≡ text.old.items ++ flat_map sentence_text sentences.now) }
+{
+    for sentence in sentences {
+        put_sentence(text, sentence)?;
+    }
+    Ok(())
+}
+
+/// A node's line.
+fn line_of(alloc: Global, node: u32, indication: Indication) -> Result<String, AllocError>
+    ensures { IfOk result (λ s. string_bytes s ≡ line_of (node, indication)) }
+{
+    match indication {
+        Indication::Trusted => format!(in alloc; "{node} trusted\n"),
+        Indication::Suspected => format!(in alloc; "{node} suspected\n"),
+        Indication::Exposed => format!(in alloc; "{node} exposed\n"),
     }
 }
 
-/// The text of an explanation: its lines, each with a line feed.
-pub fn text_of(alloc: Global, explanation: &Explanation) -> Result<String, AllocError> {
-    format!(in alloc; "{explanation}")
+/// Writes a node's line, and its sentences below it.
+fn put_node(alloc: Global, text: &mut Vec<u8>, node: &NodeExplanation) -> Result<(), AllocError>
+    ensures { OnOk result (text.new.items ≡ text.old.items ++ node_text node.now) }
+{
+    let line = line_of(alloc, node.node.0, node.indication)?;
+    text.extend_from_slice(line.as_bytes())?;
+    put_sentences(text, node.sentences.as_slice())
+}
+
+/// Writes nodes below each other.
+fn put_nodes(alloc: Global, text: &mut Vec<u8>, nodes: &[NodeExplanation]) -> Result<(), AllocError>
+    ensures { OnOk result (text.new.items ≡ text.old.items ++ flat_map node_text nodes.now) }
+{
+    for node in nodes {
+        put_node(alloc, text, node)?;
+    }
+    Ok(())
+}
+
+/// A node's number.
+fn number_of(node: &NodeExplanation) -> u32
+    ensures value { result ≡ node.now.node }
+    ensures fits { node.now.node < 2 ^ 32 }
+{
+    node.node.0
+}
+
+/// Nodes have numbers of 32 bits.
+fn have_numbers(nodes: &[NodeExplanation])
+    ensures { All (λ n. n.node < 2 ^ 32) nodes.now }
+{
+    for node in nodes {
+        let _number = number_of(node);
+    }
+}
+
+/// Writes an explanation.
+fn put_explanation(
+    alloc: Global,
+    text: &mut Vec<u8>,
+    explanation: &Explanation,
+) -> Result<(), AllocError>
+    ensures written { OnOk result (text.new.items ≡ text.old.items ++ text_of explanation.now) }
+    ensures report { OnOk result (margin (nodes_text explanation.now) ≡ report_of explanation.now) }
+{
+    put_text(text, explanation.heading.as_bytes())?;
+    text.extend_from_slice(b"\n")?;
+    let nodes = explanation.nodes.as_slice();
+    have_numbers(nodes);
+    put_nodes(alloc, text, nodes)?;
+    Ok(())
+}
+
+/// The text of an explanation: the heading's line, and for each node a line `NODE INDICATION` and its sentences, each in a line behind two
+/// blanks.
+pub fn text_of(alloc: Global, explanation: &Explanation) -> Result<Vec<u8>, AllocError>
+    ensures exact { IfOk result (λ text. text.items ≡ text_of explanation.now) }
+    // Behind the heading the lines that do not begin with a blank are the report, and no other.
+    ensures report { OnOk result (margin (nodes_text explanation.now) ≡ report_of explanation.now) }
+{
+    let mut text = Vec::new(alloc);
+    put_explanation(alloc, &mut text, explanation)?;
+    Ok(text)
+}
+
+/// The text of what is told under a basis: the basis' three lines, and behind them those of the explanation.
+pub fn verdict_text(
+    alloc: Global,
+    basis: &Basis,
+    explanation: &Explanation,
+) -> Result<Vec<u8>, AllocError>
+    ensures ends { IfOk result (λ text. EndsWith text.items (text_of explanation.now)) }
+    // Behind the heading the lines that do not begin with a blank are the report, and no other.
+    ensures report { OnOk result (margin (nodes_text explanation.now) ≡ report_of explanation.now) }
+{
+    let mut text = format!(in alloc; "{basis}")?.into_bytes();
+    put_explanation(alloc, &mut text, explanation)?;
+    Ok(text)
 }

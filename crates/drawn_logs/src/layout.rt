@@ -5,50 +5,57 @@ use crate::grid::Grid;
 use std::alloc::{AllocError, Global};
 
 /// Where the first column begins.
-pub(crate) const LEFT: u64 = 104;
+pub const LEFT: u64 = 104;
 
 /// How far the columns stand from each other.
-pub(crate) const COLUMN: u64 = 102;
+pub const COLUMN: u64 = 102;
 
 /// How far the lanes of a row stand from each other.
 const LANE: u64 = 58;
 
 /// The room above and below the entries of a row.
-pub(crate) const PAD: u64 = 18;
+pub const PAD: u64 = 18;
 
 /// The room between two rows.
 const BETWEEN: u64 = 12;
 
 /// An entry's width.
-pub(crate) const WIDTH: u64 = 80;
+pub const WIDTH: u64 = 80;
 
 /// An entry's height.
-pub(crate) const HEIGHT: u64 = 42;
+pub const HEIGHT: u64 = 42;
 
 /// The least number of columns.
 const LEAST_COLUMNS: u64 = 4;
 
-/// A point.
+/// A point, in pixels from the upper left corner of the picture.
 #[derive(Clone, Copy, Debug)]
-pub(crate) struct Point {
-    pub(crate) x: u64,
-    pub(crate) y: u64,
+pub struct Point {
+    /// To the right.
+    pub x: u64,
+    /// Downwards.
+    pub y: u64,
 }
 
 /// Where a row lies.
 #[derive(Clone, Copy, Debug)]
-pub(crate) struct Band {
-    pub(crate) top: u64,
-    pub(crate) height: u64,
+pub struct Band {
+    /// Its upper edge.
+    pub top: u64,
+    /// Its height.
+    pub height: u64,
 }
 
 /// The upper left corner of each entry, where each row lies, and how large the whole is.
 #[derive(Debug, Drop)]
-pub(crate) struct Layout {
+pub struct Layout {
     corners: Vec<Point>,
-    pub(crate) bands: Vec<Band>,
-    pub(crate) width: u64,
-    pub(crate) height: u64,
+    /// Where each row lies.
+    pub bands: Vec<Band>,
+    /// How wide the whole is.
+    pub width: u64,
+    /// How high it is.
+    pub height: u64,
 }
 
 /// Where the rows lie that have so many lanes.
@@ -89,7 +96,7 @@ fn corner(column: u64, lane: u64, band: Option<&Band>) -> Point {
 
 impl Layout {
     /// Where all of them lie.
-    pub(crate) fn new(alloc: Global, choice: &Choice, grid: &Grid) -> Result<Layout, AllocError> {
+    pub fn new(alloc: Global, choice: &Choice, grid: &Grid) -> Result<Layout, AllocError> {
         let lanes = grid.lanes_by_row(alloc, choice)?;
         let bands = bands_of(alloc, &lanes)?;
         let mut corners = Vec::new(alloc);
@@ -106,7 +113,7 @@ impl Layout {
     }
 
     /// The upper left corner of entry `i`.
-    pub(crate) fn corner(&self, i: usize) -> Point {
+    pub fn corner(&self, i: usize) -> Point {
         match self.corners.get(i) {
             Some(corner) => *corner,
             None => Point { x: 0, y: 0 },

@@ -19,7 +19,7 @@ struct LogEnd {
 
 /// Of each entry that is drawn its column, its lane within the row, and the entries that it stands behind and that it quotes.
 #[derive(Debug, Drop)]
-pub(crate) struct Grid {
+pub struct Grid {
     columns: Vec<u64>,
     lanes: Vec<u64>,
     before: Vec<Option<usize>>,
@@ -201,7 +201,7 @@ fn lanes_of(
 
 impl Grid {
     /// Where each entry stands.
-    pub(crate) fn new(alloc: Global, rows: &Rows, choice: &Choice) -> Result<Grid, AllocError> {
+    pub fn new(alloc: Global, rows: &Rows, choice: &Choice) -> Result<Grid, AllocError> {
         let cells = choice.cells.as_slice();
         let before = before_of(alloc, rows, cells)?;
         let quoted = quoted_of(alloc, rows, cells)?;
@@ -226,12 +226,12 @@ impl Grid {
     }
 
     /// The entry that entry `i` stands behind.
-    pub(crate) fn before(&self, i: usize) -> Option<usize> {
+    pub fn before(&self, i: usize) -> Option<usize> {
         self.before.get(i).copied().unwrap_or(None)
     }
 
     /// The entry that entry `i` quotes.
-    pub(crate) fn quoted(&self, i: usize) -> Option<usize> {
+    pub fn quoted(&self, i: usize) -> Option<usize> {
         self.quoted.get(i).copied().unwrap_or(None)
     }
 

@@ -2,13 +2,14 @@
 
 use crate::marks::{Marks, SentenceId};
 use authenticators::NodeId;
+use evidence_set::Indication;
 use explanations::Explanation;
 use known_logs::{Cell, Detail, Place, Rows};
 use std::alloc::{AllocError, Global};
 use std::collections::{BTreeMap, BTreeSet};
 
 /// A row with more entries is cut.
-const MOST_CELLS: usize = 200;
+const MOST_CELLS: usize = 40;
 
 /// How many entries stand on each side of what is spoken of, and at either end, in a row that is cut.
 const NEIGHBOURS: usize = 2;
@@ -16,42 +17,41 @@ const NEIGHBOURS: usize = 2;
 /// How many entries are drawn under one number.
 const MOST_ALIKE: u64 = 8;
 
-/// With more nodes, those of which nothing is known have no row.
-const MOST_EMPTY: usize = 20;
-
-/// With more nodes, those of which no sentence speaks have no row.
-const MOST_ROWS: usize = 200;
+/// With more nodes, those have no row against which nothing stands, and of which no entry quotes a marked one.
+const MOST_ROWS: usize = 12;
 
 /// An entry that is drawn.
 #[derive(Clone, Copy, Debug)]
-pub(crate) struct Drawn {
+pub struct Drawn {
     /// The row's place, from 0.
-    pub(crate) row: usize,
-    pub(crate) node: NodeId,
-    pub(crate) seq: u64,
+    pub row: usize,
+    /// The node whose log it is of.
+    pub node: NodeId,
+    /// Its number.
+    pub seq: u64,
     /// How many entries of this number are drawn before it.
-    pub(crate) alike: u64,
+    pub alike: u64,
     /// The sentence that marks it.
-    pub(crate) sentence: Option<SentenceId>,
+    pub sentence: Option<SentenceId>,
     /// Whether entries before it are left out.
-    pub(crate) is_behind_gap: bool,
+    pub is_behind_gap: bool,
     /// Its place among the known entries of its node. Of an entry that has none a sentence speaks, and nothing is known.
     at: Option<usize>,
 }
 
 impl Drawn {
     /// The entry, where it is known.
-    pub(crate) fn cell(&self, rows: &Rows) -> Option<Cell> {
+    pub fn cell(&self, rows: &Rows) -> Option<Cell> {
         rows.cell(self.node, self.at?)
     }
 
     /// What it says, where that is known.
-    pub(crate) fn detail(&self, rows: &Rows) -> Option<Detail> {
+    pub fn detail(&self, rows: &Rows) -> Option<Detail> {
         rows.detail(&self.cell(rows)?)
     }
 
     /// The entry that it quotes, where it does.
-    pub(crate) fn quoted(&self, rows: &Rows) -> Option<Place> {
+    pub fn quoted(&self, rows: &Rows) -> Option<Place> {
         rows.quoted(&self.cell(rows)?)
     }
 
@@ -63,12 +63,13 @@ impl Drawn {
 
 /// A row of the picture.
 #[derive(Clone, Copy, Debug)]
-pub(crate) struct PictureRow {
-    pub(crate) node: NodeId,
+pub struct PictureRow {
+    /// The node.
+    pub node: NodeId,
     /// How many entries are known of the node's log.
-    pub(crate) known: usize,
+    pub known: usize,
     /// How many of them are drawn.
-    pub(crate) drawn: usize,
+    pub drawn: usize,
     /// Where its entries begin among all that are drawn.
     from: usize,
     /// How many they are, with those of which nothing is known.
@@ -77,18 +78,20 @@ pub(crate) struct PictureRow {
 
 impl PictureRow {
     /// Whether nothing is drawn in it.
-    pub(crate) fn is_empty(&self) -> bool {
+    pub fn is_empty(&self) -> bool {
         self.count == 0
     }
 }
 
 /// What is drawn: the entries row by row, by number.
 #[derive(Debug, Drop)]
-pub(crate) struct Choice {
+pub struct Choice {
     /// How many nodes are known of that have no row.
-    pub(crate) left_out: u64,
-    pub(crate) rows: Vec<PictureRow>,
-    pub(crate) cells: Vec<Drawn>,
+    pub left_out: u64,
+    /// The rows, ascending by node.
+    pub rows: Vec<PictureRow>,
+    /// Their entries.
+    pub cells: Vec<Drawn>,
 }
 
 /// Whether a sentence speaks of the entry, or of what it quotes.
@@ -135,7 +138,7 @@ fn as_drawn(row: usize, at: usize, cell: &Cell, marks: &Marks, is_behind_gap: bo
         node,
         seq,
         alike: 0,
-        sentence: marks.sentence(node, seq),
+        sentence: marks.sentence_of(cell.place),
         is_behind_gap,
         at: Some(at),
     }
@@ -191,6 +194,25 @@ fn add_absent(
     Ok(())
 }
 
+/// Adds those entries that are marked, or those that are not.
+fn add_where(to: &mut Vec<Drawn>, from: &[Drawn], is_marked: bool) -> Result<(), AllocError> {
+    for one in from {
+        if one.sentence.is_some() == is_marked {
+            to.push(*one)?;
+        }
+    }
+    Ok(())
+}
+
+/// The entries by number, and under one number the marked ones first.
+fn in_order(alloc: Global, kept: &[Drawn]) -> Result<Vec<Drawn>, AllocError> {
+    let mut ordered = Vec::with_capacity(alloc, kept.len())?;
+    add_where(&mut ordered, kept, true)?;
+    add_where(&mut ordered, kept, false)?;
+    ordered.sort_by_key(|one| one.seq)?;
+    Ok(ordered)
+}
+
 /// Numbers the entries under one number, and keeps the first ones.
 fn numbered(alloc: Global, kept: &[Drawn]) -> Result<Vec<Drawn>, AllocError> {
     let mut numbered = Vec::new(alloc);
@@ -225,8 +247,8 @@ fn row_cells(
     if let Some(marked) = marks.of(node) {
         add_absent(&mut kept, row, node, cells, marked)?;
     }
-    kept.sort_by_key(|one| one.seq)?;
-    numbered(alloc, &kept)
+    let ordered = in_order(alloc, &kept)?;
+    numbered(alloc, &ordered)
 }
 
 impl Choice {
@@ -251,13 +273,13 @@ impl Choice {
     }
 
     /// The entries of a row.
-    pub(crate) fn cells_of(&self, row: &PictureRow) -> &[Drawn] {
+    pub fn cells_of(&self, row: &PictureRow) -> &[Drawn] {
         let behind = self.cells.get(row.from..).unwrap_or(&[]);
         behind.get(..row.count).unwrap_or(behind)
     }
 
     /// The row of a node.
-    pub(crate) fn row_of(&self, node: NodeId) -> Option<&PictureRow> {
+    pub fn row_of(&self, node: NodeId) -> Option<&PictureRow> {
         let at = self.rows.binary_search_by_key(&node, |row| row.node).ok()?;
         self.rows.get(at)
     }
@@ -279,21 +301,36 @@ fn nodes_of(
     Ok(nodes)
 }
 
-/// Whether a node has a row, of so many nodes.
-fn has_row(rows: &Rows, node: NodeId, marks: &Marks, nodes: usize) -> bool {
-    let cells = rows.of(node);
-    if marks.of(node).is_some() {
-        true
-    } else if nodes > MOST_ROWS {
-        cells.iter().any(|cell| is_spoken_of(rows, cell, marks))
-    } else {
-        nodes <= MOST_EMPTY || !cells.is_empty()
+/// Whether something stands against the node.
+fn is_at_fault(explanation: &Explanation, node: NodeId) -> bool {
+    let nodes = explanation.nodes.as_slice();
+    match nodes.binary_search_by_key(&node, |told| told.node) {
+        Ok(at) => match nodes.get(at) {
+            Some(told) => told.indication != Indication::Trusted,
+            None => false,
+        },
+        Err(_) => false,
     }
 }
 
-/// What is drawn of the rows. A row of more than 200 entries is cut to what the sentences speak of, with its neighbours and the row's
-/// ends; of more than 200 nodes those have rows of which the sentences speak.
-pub(crate) fn choice_of(
+/// Whether a node has a row, of so many nodes.
+fn has_row(
+    explanation: &Explanation,
+    rows: &Rows,
+    node: NodeId,
+    marks: &Marks,
+    nodes: usize,
+) -> bool {
+    if nodes <= MOST_ROWS || marks.of(node).is_some() || is_at_fault(explanation, node) {
+        return true;
+    }
+    let cells = rows.of(node);
+    cells.iter().any(|cell| is_spoken_of(rows, cell, marks))
+}
+
+/// What is drawn of the rows. A row of more than 40 entries is cut to what the sentences speak of, with its neighbours and the row's
+/// ends; of more than 12 nodes those have rows against which something stands, and those that quote a marked entry.
+pub fn choice_of(
     alloc: Global,
     explanation: &Explanation,
     rows: &Rows,
@@ -307,7 +344,7 @@ pub(crate) fn choice_of(
     let nodes = nodes_of(alloc, explanation, rows)?;
     for node in nodes.iter() {
         let node = NodeId(*node);
-        if has_row(rows, node, marks, nodes.len()) {
+        if has_row(explanation, rows, node, marks, nodes.len()) {
             choice.add_row(alloc, node, rows, marks)?;
         } else {
             choice.left_out = choice.left_out.saturating_add(1);

@@ -1,0 +1,65 @@
+"""Inputs that are not as they should be, and of each the line by which `explain` refuses it. Written by hand.
+
+`bad_inputs` takes the directory's line, the store's and the proof's, and the store's items as (where the item begins, how long it is), and
+gives what is asked for, the input and the line.
+"""
+
+MAGIC, COUNT = 8, 16
+
+
+def bad_inputs(directory, store, proof, items):
+    raw = bytes.fromhex(store.decode())
+    (first, first_size), (second, second_size) = items
+    digits = len(directory)
+
+    def two(one, other):
+        return one + b"\n" + other + b"\n"
+
+    def changed(at, value):
+        return two(directory, (raw[:at] + value + raw[at + len(value) :]).hex().encode())
+
+    def whole(text):
+        return two(directory, text.hex().encode())
+
+    last = second + second_size - 1
+    broken = bytes([raw[last] ^ 1])
+    swapped = raw[: first - 4] + raw[second - 4 :] + raw[first - 4 : second - 4]
+    return [
+        # The lines as they were sent.
+        ("store", b"", "refused 104 LineCount: the input is empty, and 2 lines are wanted: a directory and a store"),
+        ("proof", b"", "refused 104 LineCount: the input is empty, and 2 lines are wanted: a directory and a proof"),
+        ("store", directory + b"\n", "refused 104 LineCount: the input has 1 line, and 2 lines are wanted: a directory and a store"),
+        ("store", two(directory, store) + store + b"\n" + store, "refused 104 LineCount: the input has 4 lines, and 2 lines are wanted: a directory and a store"),
+        ("store", two(directory, store) + b"\n", "refused 104 LineCount: behind line 2 stand lines with nothing in them, and 2 lines are wanted: a directory and a store"),
+        ("store", b"\x89PNG\r\n\x1a\n\0\0\0\rIHDR", "refused 104 LineCount: the input is no text: byte 1 of it is 89, and 2 lines are wanted: a directory and a store"),
+        ("store", directory + b"\r\n" + store + b"\r\n", "refused 103 BadHex: line 1: it ends with a carriage return"),
+        ("store", two(directory, store + b"\r"), "refused 103 BadHex: line 2: it ends with a carriage return"),
+        ("store", two(directory + b" ", store), "refused 103 BadHex: line 1: it ends with a blank"),
+        ("store", two(directory, b" " + store), "refused 103 BadHex: line 2: it begins with a blank"),
+        ("store", b"\xef\xbb\xbf" + two(directory, store), "refused 103 BadHex: line 1: it begins with a byte-order mark"),
+        ("store", b"\xff\xfe" + two(directory, store), "refused 103 BadHex: line 1: it begins as UTF-16 does, and plain ASCII is wanted"),
+        ("store", two(b"0x" + directory, store), "refused 103 BadHex: line 1: it begins with `0x`, and digits alone are wanted"),
+        ("store", two(directory, store[:200] + b"z" + store[201:]), "refused 103 BadHex: line 2: character 201 is `z`, no hexadecimal digit"),
+        ("store", two(directory, store[:10] + b"\xc3\xa9" + store[12:]), "refused 103 BadHex: line 2: character 11 is the byte c3, no hexadecimal digit"),
+        ("store", two(b'"' + directory + b'"', store), "refused 103 BadHex: line 1: character 1 is `\"`, no hexadecimal digit"),
+        ("store", two(directory[:-1], store), f"refused 103 BadHex: line 1: it has {digits - 1} digits, an odd number"),
+        ("store", two(b"", store), "refused 24 Truncated: line 1: the line is empty, and a directory is wanted"),
+        ("store", two(directory, b""), "refused 40 Truncated: line 2: the line is empty, and a store is wanted"),
+        # One text in place of another.
+        ("store", two(store, directory), "refused 23 BadMagic: line 1: a store stands where the directory should be"),
+        ("store", two(directory, directory), "refused 60 BadMagic: line 2: a directory stands where the store should be"),
+        ("store", two(directory, proof), "refused 60 BadMagic: line 2: this is a proof: ask for the proof"),
+        ("proof", two(directory, store), "refused 41 BadTag: line 2: this is a store: ask for the store"),
+        # The directory.
+        ("store", two(directory[:20], store), "refused 24 Truncated: line 1: the directory is cut off"),
+        ("store", two(directory + b"00", store), "refused 25 Trailing: line 1: bytes are left over after the directory"),
+        # The store, and its items.
+        ("store", changed(0, b"X"), "refused 60 BadMagic: line 2: the store does not begin as one"),
+        ("store", whole(raw + b"\0"), "refused 43 Trailing: line 2, behind 2 items: bytes are left over"),
+        ("store", whole(raw[: second + 13]), "refused 40 Truncated: line 2, item 2, a statement of node 2, entry 3: it is cut off"),
+        ("store", whole(swapped), "refused 61 NotAscending: line 2, item 2, a statement of node 2, entry 3: its bytes are not above those of the item before"),
+        ("store", changed(last, broken), "refused 49 BadSignature: line 2, item 2, a statement of node 2, entry 3: a signature of it is not one by the node's key of the number that it names"),
+        ("store", changed(second + 1, b"\0\0\0\x63"), "refused 44 UnknownNode: line 2, item 2, a statement of node 99, entry 3: the directory does not list a node that it names"),
+        ("store", changed(second, b"\x09"), "refused 41 BadTag: line 2, item 2: a byte that tells forms apart is none of those that there are"),
+        ("store", changed(first - 4, b"\0\0\0\x06"), "refused 40 Truncated: line 2, item 1, a statement of node 2: it is cut off"),
+    ]

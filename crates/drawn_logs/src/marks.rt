@@ -1,0 +1,109 @@
+//! Which entries the sentences speak of.
+
+use authenticators::NodeId;
+use explanations::{Explanation, NamedHash, NodeExplanation, Sentence};
+use known_logs::Place;
+use std::alloc::{AllocError, Global};
+use std::collections::{BTreeMap, BTreeSet};
+
+/// A sentence: the number of the node that it is told of, and its own among that node's, from 1.
+#[derive(Clone, Copy, Debug)]
+pub struct SentenceId {
+    /// The node's number.
+    pub node: u32,
+    /// The sentence's number, from 1.
+    pub number: u64,
+}
+
+/// A number of a node's log of which a sentence names a hash.
+#[derive(Clone, Copy, Debug, PartialEq, Eq, PartialOrd, Ord)]
+struct Numbered {
+    node: NodeId,
+    seq: u64,
+}
+
+/// Of each number under which entries are marked the first sentence that marks it, and the hashes that sentences name.
+#[derive(Debug, Drop)]
+pub struct Marks {
+    by_node: BTreeMap<u32, BTreeMap<u64, SentenceId>>,
+    named: BTreeSet<Place>,
+    hashed: BTreeSet<Numbered>,
+}
+
+impl Marks {
+    /// The marks of an explanation.
+    pub fn of_explanation(alloc: Global, explanation: &Explanation) -> Result<Marks, AllocError> {
+        let mut marks = Marks {
+            by_node: BTreeMap::new(alloc),
+            named: BTreeSet::new(alloc),
+            hashed: BTreeSet::new(alloc),
+        };
+        for told in &explanation.nodes {
+            marks.note_node(alloc, told)?;
+        }
+        Ok(marks)
+    }
+
+    /// Notes the marks of a node's sentences.
+    fn note_node(&mut self, alloc: Global, told: &NodeExplanation) -> Result<(), AllocError> {
+        let NodeId(node) = told.node;
+        let mut number: u64 = 1;
+        for sentence in &told.sentences {
+            self.note_sentence(alloc, SentenceId { node, number }, sentence)?;
+            number = number.saturating_add(1);
+        }
+        Ok(())
+    }
+
+    /// Notes the marks of a sentence, and the hashes that it names.
+    fn note_sentence(
+        &mut self,
+        alloc: Global,
+        id: SentenceId,
+        sentence: &Sentence,
+    ) -> Result<(), AllocError> {
+        for mark in &sentence.marks {
+            let entries = self
+                .by_node
+                .entry(mark.node.0)?
+                .or_insert(BTreeMap::new(alloc));
+            entries.entry(mark.seq)?.or_insert(id);
+        }
+        self.note_named(&sentence.named)
+    }
+
+    /// Notes hashes that a sentence names.
+    fn note_named(&mut self, named: &[NamedHash]) -> Result<(), AllocError> {
+        for one in named {
+            let node = one.node;
+            let seq = one.seq;
+            let hash = one.hash;
+            self.named.insert(Place { node, seq, hash })?;
+            self.hashed.insert(Numbered { node, seq })?;
+        }
+        Ok(())
+    }
+
+    /// The sentence that marks an entry: where sentences name hashes of its number, its hash is one of these.
+    pub(crate) fn sentence_of(&self, place: Place) -> Option<SentenceId> {
+        let by_number = self.sentence(place.node, place.seq)?;
+        let number = Numbered {
+            node: place.node,
+            seq: place.seq,
+        };
+        if self.hashed.contains(&number) && !self.named.contains(&place) {
+            return None;
+        }
+        Some(by_number)
+    }
+
+    /// The marked entries of a node, by number.
+    pub(crate) fn of(&self, node: NodeId) -> Option<&BTreeMap<u64, SentenceId>> {
+        self.by_node.get(&node.0)
+    }
+
+    /// The sentence that marks an entry.
+    pub(crate) fn sentence(&self, node: NodeId, seq: u64) -> Option<SentenceId> {
+        self.of(node)?.get(&seq).copied()
+    }
+}

@@ -1,0 +1,62 @@
+-- How an explanation is written: of each node the line that a report has of it, and below it its sentences.
+use Rattle.std.specs.Prelude.{ℕ, ◌≡◌, ◌==◌, List, [], ◌∷◌, ◌++◌, Bool, true, not, if◌then◌else◌, map, codes, decimal, string_bytes}
+use Rattle.std.specs.List.{flat_map}
+use Rattle.evidence_set.specs.declared.indication.Indication.{Indication}
+use Rattle.evidence_set.specs.Names.{name_of}
+use Rattle.sentences.specs.declared.explanation.Explanation.{Explanation}
+use Rattle.sentences.specs.declared.explanation.NodeExplanation.{NodeExplanation}
+use Rattle.sentences.specs.declared.explanation.Sentence.{Sentence}
+
+-- A node's line: its number in decimal digits, a blank, the word for what is said of it, and a line feed.
+abbrev pub ending_of : Indication → List ℕ
+ending_of i = codes " " ++ name_of i ++ codes "\n"
+
+abbrev pub line_of : ℕ × Indication → List ℕ
+line_of row = decimal row.0 ++ ending_of row.1
+
+-- The line that a report has of a node.
+abbrev pub row_line : NodeExplanation → List ℕ
+row_line n = line_of (n.node, n.indication)
+
+-- A text in one line: a line feed in it is written as a blank.
+abbrev pub in_line : ℕ → ℕ
+in_line b = if b == 10 then 32 else b
+
+abbrev pub in_one_line : List ℕ → List ℕ
+in_one_line text = map in_line text
+
+-- A sentence, in a line of its own behind two blanks.
+abbrev pub sentence_text : Sentence → List ℕ
+sentence_text s = codes "  " ++ in_one_line (string_bytes s.text) ++ codes "\n"
+
+-- A node's line, and its sentences.
+abbrev pub node_text : NodeExplanation → List ℕ
+node_text n = row_line n ++ flat_map sentence_text n.sentences.items
+
+-- The nodes in order.
+abbrev pub nodes_text : Explanation → List ℕ
+nodes_text e = flat_map node_text e.nodes.items
+
+-- The heading's line, and the nodes.
+abbrev pub text_of : Explanation → List ℕ
+text_of e = in_one_line (string_bytes e.heading) ++ codes "\n" ++ nodes_text e
+
+-- The report of the same nodes.
+abbrev pub report_of : Explanation → List ℕ
+report_of e = flat_map row_line e.nodes.items
+
+-- Whether a byte stands in a line that does not begin with a blank: behind a line feed it tells by itself, and else the byte before told.
+unfoldable pub is_margin : ℕ → Bool → ℕ → Bool
+is_margin before so b = if before == 10 then not (b == 32) else so
+
+unfoldable pub margin_behind : ℕ → Bool → List ℕ → List ℕ
+margin_behind before so [] = []
+margin_behind before so (b ∷ text) = if is_margin before so b then b ∷ margin_behind b true text else margin_behind b (is_margin before so b) text
+
+-- The lines of a text that do not begin with a blank, each with its line feed.
+abbrev pub margin : List ℕ → List ℕ
+margin text = margin_behind 10 true text
+
+-- A text ends with another.
+abbrev pub EndsWith : List ℕ → List ℕ → Type 0
+EndsWith text end = (front : List ℕ) × (text ≡ front ++ end)
