@@ -1,0 +1,10 @@
+mod Cuts
+mod Digits
+mod Endings
+mod Feeds
+mod FrontSentences
+mod HexDigits
+mod Sentences
+mod Steps
+mod Tellings
+mod WrittenTexts
