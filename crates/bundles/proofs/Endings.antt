@@ -1,5 +1,5 @@
 -- What is left of a text.
-use Rattle.std.proofs.Common.{◌≡◌, ◌≤◌, ◌==◌, ℕ, Bool, true, false, cond, List, [], ◌∷◌, length, Result, Ok, Err, refl, sym, ap, ◌∙◌, arith}
+use Rattle.std.proofs.Common.{◌≡◌, ◌≤◌, ◌==◌, ℕ, Bool, true, false, cond, List, [], ◌∷◌, length, Err, refl, arith}
 use Rattle.std.specs.List.{onto_first, slice_split}
 use Rattle.bundles.specs.declared.fault.BundleFault.TheVariants.{BadBundle}
 use Rattle.bundles.specs.Grammar.{lines_of, nothing_left}

@@ -1,5 +1,5 @@
 -- Bytes, and what a line tells of them.
-use Rattle.std.proofs.Common.{◌≡◌, ◌==◌, ◌*◌, ◌/◌, ℕ, Bool, true, false, List, [], length, Result, Ok, Err, refl, sym, ap, subst, ◌∙◌, inr, eq-eqb, arith}
+use Rattle.std.proofs.Common.{◌≡◌, ◌/◌, ℕ, true, false, List, [], length, Result, Ok, Err, refl, ap, subst, inr, eq-eqb, arith}
 use Rattle.std.specs.Prelude.{is_ok}
 use Rattle.std.specs.Result.{result_unwrap_or}
 use Rattle.std.specs.Str.{bytes_eq}

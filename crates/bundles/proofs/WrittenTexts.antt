@@ -1,11 +1,11 @@
 -- The text of a bundle, of the pieces in which it is written.
-use Rattle.std.proofs.Common.{◌≡◌, ◌<◌, ◌≤◌, ◌^◌, ℕ, Bool, true, false, List, [], ◌∷◌, ◌++◌, length, refl, sym, ap, subst, ◌∙◌, append_assoc, append-nil, arith}
+use Rattle.std.proofs.Common.{◌≡◌, ℕ, Bool, true, false, List, [], ◌∷◌, ◌++◌, length, sym, ap, ◌∙◌, append_assoc, append-nil}
 use Rattle.std.specs.Fmt.{decimal}
 use Rattle.std.specs.List.{flat_map}
 use Rattle.std.specs.Prelude.{MatchBool, codes}
 use Rattle.hex.specs.Hex.{encode_lower}
 use Rattle.sha2.specs.Sha256.{sha256}
-use Rattle.bundles.specs.Spelling.{Contents, ended, first_line, last_lines, text_of, told_line}
+use Rattle.bundles.specs.Spelling.{Contents, ended, last_lines, text_of, told_line}
 use Rattle.bundles.specs.within.Pieces.{exposed_text, length_text, told_text}
 
 nest : (t v p n x d q e f : List ℕ) → (((((((t ++ v) ++ p) ++ n) ++ x) ++ d) ++ q) ++ e) ++ f ≡ t ++ (v ++ (p ++ (n ++ (x ++ (d ++ (q ++ (e ++ f)))))))

@@ -1,5 +1,5 @@
 -- A step from line to line.
-use Rattle.std.specs.Prelude.{◌≡◌, ◌≤◌, ◌+◌, ℕ, true, List, [], ◌∷◌, ◌++◌, length}
+use Rattle.std.specs.Prelude.{◌≡◌, ◌≤◌, ◌+◌, ℕ, true, List, ◌∷◌, ◌++◌, length}
 use Rattle.bundles.specs.Grammar.{Place, lines_of, sentences_from}
 use Rattle.bundles.specs.Spelling.{is_sentence}
 

@@ -1,4 +1,4 @@
-use Rattle.std.proofs.Common.{◌≡◌, ◌+◌, ◌≤◌, length}
+use Rattle.std.proofs.Common.{◌+◌, ◌≤◌, length}
 use Rattle.bundles.specs.within.Cursors.{AreInFront}
 use Rattle.bundles.proofs.lines.sentences_of.Given as goal
 

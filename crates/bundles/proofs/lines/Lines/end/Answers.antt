@@ -1,4 +1,4 @@
-use Rattle.std.proofs.Common.{◌≡◌, ◌∙◌, Err, ap, sym}
+use Rattle.std.proofs.Common.{◌∙◌, Err, ap, sym}
 use Rattle.bundles.proofs.Endings.{left_over}
 use Rattle.bundles.proofs.lines.Lines.end.Goals as goal
 

@@ -1,5 +1,4 @@
-use Rattle.std.proofs.Common.{◌≡◌, ◌∙◌, Ok, ap, sym}
-use Rattle.bundles.specs.declared.fault.BundleFault.{BundleFault}
+use Rattle.std.proofs.Common.{◌∙◌, Ok, ap, sym}
 use Rattle.bundles.proofs.Tellings.{all_told, half, other_length, other_sum, unwrapped}
 use Rattle.bundles.proofs.parts.Part.bytes.Goals as goal
 
