@@ -25,7 +25,7 @@ open_ends text h n =
     let here : P (text ∷ []) = refl in
     subst P (sym h) here
 
-other_first : (line : List ℕ) (parts : List (List ℕ)) → 1 ≤ length parts → is_sentence line ≡ false → (n : ℕ) → sentences_from n (line ∷ parts) ≡ ([], record { number = n; left = line ∷ parts })
+pub other_first : (line : List ℕ) (parts : List (List ℕ)) → 1 ≤ length parts → is_sentence line ≡ false → (n : ℕ) → sentences_from n (line ∷ parts) ≡ ([], record { number = n; left = line ∷ parts })
 unfolding sentences_from
 other_first line [] some h n = absurd (omega arith)
 other_first line (p ∷ ps) some h n = rw h refl

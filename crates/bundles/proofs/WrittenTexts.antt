@@ -30,7 +30,7 @@ told_regrouped t w bytes =
 told_is : (w bytes : List ℕ) → told_text w bytes ≡ ended (told_line w bytes)
 told_is w bytes = told_same w (decimal (length bytes)) (encode_lower (sha256 bytes))
 
-six : (a b c d e f : List ℕ) → flat_map ended (a ∷ b ∷ c ∷ d ∷ e ∷ f ∷ []) ≡ ended a ++ (ended b ++ (ended c ++ (ended d ++ (ended e ++ ended f))))
+pub six : (a b c d e f : List ℕ) → flat_map ended (a ∷ b ∷ c ∷ d ∷ e ∷ f ∷ []) ≡ ended a ++ (ended b ++ (ended c ++ (ended d ++ (ended e ++ ended f))))
 six a b c d e f = ap (λ (t : List ℕ). ended a ++ (ended b ++ (ended c ++ (ended d ++ (ended e ++ t))))) (append-nil (ended f))
 
 program_is : (name rest : List ℕ) → codes "program " ++ (name ++ (codes "\n" ++ rest)) ≡ ended (codes "program" ++ 32 ∷ name) ++ rest

@@ -1,3 +1,4 @@
+pub mod BundleLaws
 pub mod Grammar
 pub mod Refusals
 pub mod Spelling

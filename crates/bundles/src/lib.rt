@@ -4,7 +4,8 @@
 //! - [`read`] gives the [`OpenBundle`] of a text, or refuses it with the number of a line. It believes no sentence, and not the node that
 //!   a bundle names: what its proof exposes is for who checks that.
 //!
-//! `specs/Spelling.antt` says what a bundle is, and its one text; `specs/Grammar.antt` how a text is read.
+//! `specs/Spelling.antt` says what a bundle is, and its one text; `specs/Grammar.antt` how a text is read. [`laws`] has that each
+//! bundle's text is read as that bundle, and that nothing else is read.
 #![tactic(auto)]
 
 pub use bundle::{Bundle, OpenBundle};
@@ -16,6 +17,7 @@ mod bundle;
 mod fault;
 mod fields;
 mod heads;
+pub mod laws;
 mod lines;
 mod numbers;
 mod parts;
