@@ -57,7 +57,7 @@ digit_below (suc n) k h lt =
       | inr top ↦ let e : k ≡ n = omega arith in rw e parts.0
     ]
 
--- The bytes of a text in digits are told by digits.
+-- Bytes are spelled by digits.
 pub are_digits : (bytes : List ℕ) → IsBytes bytes → list_all is_digit (encode_lower bytes) ≡ true
 unfolding encode_with
 are_digits [] h = refl
