@@ -19,7 +19,7 @@ HEADER = TOP / "c" / "refusals.h"
 
 ARM = re.compile(r"((?:\w+::\w+(?:\(_\))?\s*\|\s*)*\w+::\w+(?:\(_\))?)\s*=>\s*(\d+|\"\w+\")")
 VARIANT = re.compile(r"(\w+)::(\w+)")
-LINE = re.compile(r'((?:^\s*///.*\n)*)(?:^\s*#\[error\("([^"]*)"\)\]\n)?^\s*(\w+),$', re.M)
+LINE = re.compile(r'((?:^\s*///.*\n)*)(?:^\s*#\[error\("([^"]*)"\)\]\n)?^\s*(\w+)(?:\(\w+\))?,$', re.M)
 
 
 def crates():

@@ -24,7 +24,7 @@ BUDGETS = [
     (3500, ["docs/DECISIONS.md"]),
     (1500, ["docs/PROVING.md"]),
     (9000, ["docs/FORMATS.md", "docs/PROGRAMS.md", "docs/OPERATORS.md", "docs/AUDITORS.md", "CONTRIBUTING.md"]),
-    (3800, ["docs/BENCHMARKS.md", "docs/GATE.md", "docs/TESTS.md", "examples/README.md"]),
+    (3500, ["docs/BENCHMARKS.md", "docs/GATE.md", "docs/TESTS.md", "examples/README.md"]),
 ]
 
 MADE = re.compile(r"<!-- made by [^>]*-->\n.*?<!-- end -->\n", re.S)

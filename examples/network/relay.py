@@ -138,6 +138,13 @@ class Relay:
             self.mail_bytes += len(text)
         self.step()
 
+    async def fork(self):
+        """Tells the keeper the other history: something else under the numbers that the first one has."""
+        self.other.timer(FETCH)
+        self.errs()
+        for item in [self.other.message(seq) for seq in self.other.waiting()[-1:]]:
+            await self.link.ask(self.ports[KEEPER], protocol.ANSWER, item, "messages")
+
     async def send(self, seq):
         """Sends what waits; and what is not acknowledged goes to the witnesses as a challenge."""
         item = self.node.message(seq)
@@ -176,6 +183,8 @@ class Relay:
         if self.me != KEEPER and self.age() < self.told["seconds"] and self.mails < min(wanted, self.told["most_mails"]):
             try:
                 self.wish()
+                if self.fault == "forks":
+                    await self.fork()
             except Refusal:
                 self.refused += 1
         due = [seq for seq in self.node.waiting() if self.due.get(seq, 0) <= self.age()]

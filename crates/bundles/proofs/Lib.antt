@@ -1,0 +1,15 @@
+mod Cuts
+mod DigitTexts
+mod Digits
+mod Endings
+mod Feeds
+mod FieldTexts
+mod FrontSentences
+mod HexDigits
+mod PlainWords
+mod ReadTexts
+mod Sentences
+mod SpelledTexts
+mod Steps
+mod Tellings
+mod WrittenTexts

@@ -1,0 +1,5 @@
+pub mod BundleLaws
+pub mod Grammar
+pub mod Refusals
+pub mod Spelling
+pub mod within

@@ -1,0 +1,13 @@
+//! Laws over the definitions. Each is a function that does nothing: its contract is the law.
+
+ghost use Rattle.bundles.specs.BundleLaws.{BundlesAreRead, TextsTellBundles};
+
+/// A text is read as the bundle whose text it is, and no other text is read.
+pub fn bundles_are_read()
+    ensures { BundlesAreRead }
+{}
+
+/// Bundles that have one text are one bundle.
+pub fn texts_tell_bundles()
+    ensures { TextsTellBundles }
+{}
