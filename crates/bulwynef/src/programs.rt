@@ -1,5 +1,8 @@
 //! The programs that nodes may run, in one table: a user's own is one line more.
 
+ghost use Rattle.std.specs.Prelude.{◌≡◌, ◌<◌, ◌≤◌, ◌^◌};
+ghost use Rattle.parallel_checking.specs.declared.limits.TheConstants.{MOST_WORKERS};
+
 use crate::opening::NamedFiles;
 use crate::words::{ProgramName, Request, Task};
 use crate::writing::Output;
@@ -8,6 +11,7 @@ use operating::asking::Ending;
 use operating::files::Limits;
 use operating::refusal::Refusal;
 use operating::{check, merge, prove, status};
+use parallel_checking::MOST_WORKERS;
 use ref_programs::{Relay, Tally};
 use replay_verifier::Program;
 use std::thread;
@@ -26,19 +30,40 @@ pub fn run<H: Threads + Sync>(
     }
 }
 
-/// How many workers there are: as many as were asked for, or as there are processors, and never more than eight.
-fn workers_of<H: Threads>(threads: &H, request: &Request) -> usize {
-    if let Some(workers) = request.workers {
-        return (workers as usize).clamp(1, 8);
-    }
+/// How many workers there are: as many as were asked for, or as there are processors, and never more than [`MOST_WORKERS`].
+fn workers_of<H: Threads>(threads: &H, request: &Request) -> usize
+    ensures { (0 < result) × (result ≤ MOST_WORKERS) }
+{
+    let wanted = match request.workers {
+        Some(workers) => workers as usize,
+        None => processors(threads),
+    };
+    within_limits(wanted)
+}
+
+fn processors<H: Threads>(threads: &H) -> usize {
     match thread::available_parallelism(threads) {
-        Ok(count) => count.get().clamp(1, 8),
+        Ok(count) => count.get(),
         Err(_) => 1,
     }
 }
 
+fn within_limits(workers: usize) -> usize
+    ensures { (0 < result) × (result ≤ MOST_WORKERS) }
+{
+    if workers == 0 {
+        return 1;
+    }
+    if workers > MOST_WORKERS {
+        return MOST_WORKERS;
+    }
+    workers
+}
+
 /// Where the answer goes.
-fn output_of<'a>(rt: &'a HostRuntime, request: &Request<'a>) -> Output<'a> {
+fn output_of<'a>(rt: &'a HostRuntime, request: &Request<'a>) -> Output<'a>
+    ensures { result.failures ≡ 0 }
+{
     let name = match request.output {
         Some("-") => None,
         other => other,
@@ -48,6 +73,13 @@ fn output_of<'a>(rt: &'a HostRuntime, request: &Request<'a>) -> Output<'a> {
         name,
         failures: 0,
     }
+}
+
+/// How many stores there are, behind the directory.
+fn stores_of(paths: &[&str]) -> usize
+    ensures { result < 2 ^ 62 }
+{
+    paths.len().saturating_sub(1)
 }
 
 fn run_with<H: Threads + Sync, P: Program + Send + Sync>(
@@ -64,7 +96,7 @@ where
         most_bytes: request.most_bytes as usize,
         workers: workers_of(threads, request),
     };
-    let stores = request.paths.len().saturating_sub(1);
+    let stores = stores_of(&request.paths);
     let mut files = NamedFiles {
         rt,
         paths: &request.paths,
