@@ -18,7 +18,7 @@ import tempfile
 
 TOP = os.path.dirname(os.path.dirname(os.path.dirname(os.path.abspath(__file__))))
 EXAMPLES = f"{TOP}/examples"
-BUILDS = [f"{TOP}/crates/bulwynef/out/bulwynef{ending}" for ending in ("", ".by-rattle")]
+BUILDS = [build for build in (f"{TOP}/crates/bulwynef/out/bulwynef{ending}" for ending in ("", ".by-rattle")) if os.path.isfile(build)]
 NODE_SIM = f"{TOP}/crates/node_sim/out/node_sim"
 WORKERS = ["1", "8"]
 
@@ -176,7 +176,9 @@ def hold_case(folder, number):
     flags = program_flags(args)
     numbers = [word for word in args[1:] if word != "--relay"]
     with tempfile.TemporaryDirectory() as at:
-        files = Files(at, lines, False)
+        # Bytes that begin like digits would be read as digits: they stand as digits.
+        begins_like_digits = any(re.match(rb"[0-9a-fA-F]{8}", bytes.fromhex(line.decode())) for line in lines)
+        files = Files(at, lines, begins_like_digits)
         for workers in WORKERS:
             if args[0] == "status":
                 hold_status(f"case {number}", files, BUILDS[0], flags, workers, wanted)
@@ -241,7 +243,7 @@ def hold_faults(build, folder, directory, store):
 def main():
     for name, text in examples():
         hold_example(name, text)
-    lines = read(f"{EXAMPLES}/two_witnesses.txt").splitlines()
+    lines = read(f"{EXAMPLES}/equivocation.txt").splitlines()
     directory, store = (bytes.fromhex(line.decode()) for line in lines[:2])
     for build in BUILDS:
         with tempfile.TemporaryDirectory() as folder:
