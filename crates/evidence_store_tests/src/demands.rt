@@ -134,3 +134,36 @@ fn demands_are_open_until_they_are_answered(rt: HostRuntime) -> Result<(), Fail>
     assert!(rt; each_open_of_all::<IndexedStore<Tally>>(rt.alloc())? == expected);
     Ok(())
 }
+
+/// What is open of the demands, which come behind two answers.
+fn open_behind<S: Evidence<Tally>>(
+    alloc: Global,
+    on: &Demands,
+    first: &Item,
+    second: &Item,
+) -> Result<Open, Fail> {
+    let mut store: Box<S> = new_store(alloc, &on.nodes.directory)?;
+    take_copy::<S>(alloc, &mut store, first)?;
+    take_copy::<S>(alloc, &mut store, second)?;
+    take_all::<S>(alloc, &mut store, &on.demands)?;
+    open_of::<S>(&store, &on.demands)
+}
+
+/// The same behind a part of the log and the acknowledgement, and behind the part and the whole log.
+fn each_open_behind<S: Evidence<Tally>>(alloc: Global) -> Result<[Open; 2], Fail> {
+    let on = make_demands(alloc)?;
+    let with_ack = open_behind::<S>(alloc, &on, &on.ack, &on.part)?;
+    let with_whole = open_behind::<S>(alloc, &on, &on.part, &on.whole)?;
+    Ok([with_ack, with_whole])
+}
+
+#[test]
+fn demands_look_for_their_answers(rt: HostRuntime) -> Result<(), Fail> {
+    let expected = [
+        open_at(2, [0, 3, NOWHERE, NOWHERE]),
+        open_at(2, [2, 3, NOWHERE, NOWHERE]),
+    ];
+    assert!(rt; each_open_behind::<PlainStore<Tally>>(rt.alloc())? == expected);
+    assert!(rt; each_open_behind::<IndexedStore<Tally>>(rt.alloc())? == expected);
+    Ok(())
+}

@@ -1,2 +1,3 @@
 mod Gathered
 pub mod Listed
+mod Owed

@@ -8,7 +8,7 @@ use Rattle.containers.specs.Container.{container_text}
 use Rattle.evidence_set.specs.Exports.{AreValid, export_of, magic}
 use Rattle.kept_evidence.proofs.Listed.{text_is}
 use Rattle.item_forms.specs.Pieces.{Piece}
-use Rattle.evidence_item.specs.Checking.{Checked, is_segment}
+use Rattle.evidence_item.specs.Checking.{Checked}
 use Rattle.item_forms.specs.declared.forms.Fields.{Fields}
 use Rattle.item_forms.specs.declared.forms.Fields.TheVariants as form
 use Rattle.evidence_set.specs.Challenges.{is_against}
@@ -17,6 +17,7 @@ use Rattle.authenticators.specs.Directory.{Listing}
 use Rattle.replay_verifier.specs.Meaning.{Meaning}
 use Rattle.evidence_item.specs.Validity.{IsValid}
 use Rattle.kept_evidence.specs.Kept.{IsWhole, Keeps}
+use Rattle.kept_items.specs.Keeping.{is_challenge}
 use Rattle.kept_evidence.proofs.Added.{counted, listed_is}
 use Rattle.kept_evidence.proofs.Bridge.{set_has}
 use Rattle.node_tables.specs.Places.{ArePlacesOf, IsAgainstAt, IsOpenAt, IsOrder, named_item}
@@ -98,13 +99,13 @@ at_this (Err e) i order n f at told = told
 
 -- ---- challenges
 
--- a segment is a challenge against nobody
-pub no_segment : (j : ℕ) (x : Fields) → is_against j x ≡ true → is_segment x ≡ true → ⊥
-no_segment j (form.Auth a) h s = cc s
-no_segment j (form.Segment t) h s = cc h
-no_segment j (form.Audit c) h s = cc s
-no_segment j (form.Send m) h s = cc s
-no_segment j (form.Ack a) h s = cc s
+-- what is against a node is a challenge
+pub is_asked : (j : ℕ) (x : Fields) → is_against j x ≡ true → is_challenge x ≡ false → ⊥
+is_asked j (form.Auth a) h s = cc h
+is_asked j (form.Segment t) h s = cc h
+is_asked j (form.Audit c) h s = cc s
+is_asked j (form.Send m) h s = cc s
+is_asked j (form.Ack a) h s = cc h
 
 -- what no item answers is a challenge
 pub open_against : (items : List Checked) (j i : ℕ) → IsOpenAt items j i → IsAgainstAt items j i

@@ -33,7 +33,7 @@ fn lend<'a, P>(
     let Some(kept) = items.get(place as usize) else {
         return Ok(());
     };
-    if let Some(item) = kept.as_item() {
+    if let Some(item) = kept.as_challenge() {
         found.push(item)?;
     }
     Ok(())
@@ -74,6 +74,6 @@ pub(crate) fn open_challenges<'a, P: Program>(
     let Some(i) = place_of(tables, node) else {
         return Ok(Vec::new(alloc));
     };
-    let found = challenges_at(alloc, items, node, &tables[i].unanswered)?;
+    let found = challenges_at(alloc, items, node, &tables[i].unanswered.places)?;
     Ok(found)
 }

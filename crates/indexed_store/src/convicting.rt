@@ -36,6 +36,14 @@ fn copy_of(alloc: Global, said: &Said<'_>) -> Result<Authenticator, Memory>
     })
 }
 
+/// A copy of the item.
+fn item_of<P>(alloc: Global, kept: &KeptItem<P>) -> Result<Item, Memory>
+    ensures { IfOk result (λ x. x ≡ kept.now.item) }
+{
+    let checked = kept.to_checked(alloc)?;
+    Ok(checked.into_item())
+}
+
 /// A copy of the segment at a place.
 fn segment_at<P>(alloc: Global, items: &[KeptItem<P>], place: u32) -> Result<Option<Item>, Memory>
     ensures none { IfOk result (λ found. IfNone found ((c : TheChecked) → slice_get items.now place ≡ Some c → IsTrue (is_segment c.item.fields) → ⊥)) }
@@ -44,10 +52,11 @@ fn segment_at<P>(alloc: Global, items: &[KeptItem<P>], place: u32) -> Result<Opt
     let Some(kept) = items.get(place as usize) else {
         return Ok(None);
     };
-    if kept.as_item().is_some() {
+    if kept.form().is_some() {
         return Ok(None);
     }
-    Ok(Some(kept.to_checked(alloc)?.into_item()))
+    let copy = item_of(alloc, kept)?;
+    Ok(Some(copy))
 }
 
 /// A proof of the statements of two rows, which are signed.

@@ -12,15 +12,23 @@ use kept_items::KeptItem;
 use node_tables::{gap_of, gap_of_kept};
 use tiered_vec::TieredVec;
 
-/// Whether the set has the item. It is looked up by binary search.
-pub(crate) fn holds<P>(items: &[KeptItem<P>], order: &TieredVec<u32>, item: &Item) -> bool
+/// Whether one of the items is this one. It is looked up by binary search.
+pub(crate) fn has<P>(items: &[KeptItem<P>], order: &TieredVec<u32>, item: &Item) -> bool
     requires { IsOrder items.now order.now.items }
-    ensures { result ≡ contains (set_of items.now) item.now }
+    ensures { result ≡ is_kept items.now item.now }
 {
     match gap_of(items, order, item) {
         Ok(_) => true,
         Err(_) => false,
     }
+}
+
+/// Whether the set has the item.
+pub(crate) fn holds<P>(items: &[KeptItem<P>], order: &TieredVec<u32>, item: &Item) -> bool
+    requires { IsOrder items.now order.now.items }
+    ensures { result ≡ contains (set_of items.now) item.now }
+{
+    has(items, order, item)
 }
 
 /// Whether the set has an item of another store.

@@ -48,7 +48,7 @@ impl<P: Program> Model for IndexedStore<P> {
     ghost use Rattle.std.specs.Coded.{codes};
     ghost use Rattle.evidence.specs.Contents.{Contents, items_code};
     ghost use Rattle.evidence_set.specs.ItemSets.{set_of};
-    ghost use Rattle.node_tables.specs.Indexed.{IsIndexed};
+    ghost use Rattle.indexed_store.specs.within.Resting.{IsAtRest};
 
     ghost Value = { Contents };
 
@@ -56,7 +56,7 @@ impl<P: Program> Model for IndexedStore<P> {
 
     ghost view = { λ s. record { directory = s.directory; items = set_of s.items.items } };
 
-    ghost invariant = { λ s. IsIndexed s.directory P.means s.items.items s.order.items s.tables.items };
+    ghost invariant = { λ s. IsAtRest s.directory P.means s.items.items s.order.items s.tables.items };
 }
 
 impl<P: Program> Evidence<P> for IndexedStore<P> {

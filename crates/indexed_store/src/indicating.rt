@@ -21,7 +21,7 @@ fn told(table: &Table) -> Indication
     if table.exposure.is_some() {
         return Indication::Exposed;
     }
-    if table.unanswered.is_empty() {
+    if table.unanswered.places.is_empty() {
         return Indication::Trusted;
     }
     Indication::Suspected

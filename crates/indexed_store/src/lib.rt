@@ -1,8 +1,9 @@
 //! The indexed store of evidence. [`IndexedStore`] keeps its items as they came, their order by spellings, and of each node what the items
 //! say of it: a question about a node looks up what is kept of that node, and an item that is taken its place. What is taken is held
-//! against the node's segments and open challenges. A send challenge looks up what answers it, and an acknowledgement or a segment closes
-//! send challenges by look-up; but an audit challenge looks at each of the node's segments, a segment at each open audit challenge, and a
-//! statement that is new at each segment that begins before it, by its numbers alone where it does not reach so far.
+//! against the node's segments and open challenges. A challenge looks up what answers it, and an acknowledgement or a segment closes
+//! challenges by look-up; a statement that is new looks at the segments from the first that reaches its number to the last that begins
+//! at it or before. Of a node alone that is exposed, or soon will be, or whose log ends at the greatest number, segments and audit
+//! challenges may be held against each other one by one.
 //!
 //! Its contract is that of the trait `Evidence`. What it keeps of a node is in `node_tables`, how it keeps an item in `kept_items`.
 #![tactic(auto)]

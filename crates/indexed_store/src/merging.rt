@@ -7,10 +7,11 @@ ghost use Rattle.evidence_set.specs.ItemSets.{Join, count, insert, pieces, set_o
 ghost use Rattle.kept_evidence.specs.Kept.{IsWhole, is_kept};
 ghost use Rattle.node_tables.specs.Indexed.{IsIndexed};
 ghost use Rattle.node_tables.specs.Places.{IsOrder};
-ghost use Rattle.node_tables.specs.Rooms.{HasRoomFor, HasRoomForAll, IsRoomier, ItemRooms};
+ghost use Rattle.node_tables.specs.Rooms.{AreReady, AreAllReleased, HasRoomFor, IsRoomier, ItemRooms, KeepsPromises};
 ghost use Rattle.node_tables.specs.Steps.{AllTables, AscendByNode, EachBecomes};
+ghost use Rattle.indexed_store.specs.within.Resting.{Awaits, IsAtRest};
 
-use crate::including::keeps;
+use crate::including::{has, keeps};
 use crate::taking::{MOST_ITEMS, add, keep};
 use authenticators::Directory;
 use evidence_item::Checked;
@@ -42,23 +43,43 @@ fn copies_of_missing<P>(
     Ok(copies)
 }
 
-/// Finds of each item what was not found yet, and keeps it, its entries shared.
-fn keep_each<P: Program>(
+/// Finds what was not found yet of the item, and keeps it, its entries shared.
+fn kept_of<P: Program>(
     alloc: Global,
     directory: &Directory,
     pool: &mut EntryPool,
+    checked: Checked<P>,
+) -> Result<KeptItem<P>, Memory>
+    requires { IsChecked directory.now P.means checked }
+    ensures whole { IfOk result (λ k. IsWhole directory.now P.means k) }
+    ensures item { IfOk result (λ k. k.item ≡ checked.item) }
+{
+    match keep(alloc, directory, pool, checked) {
+        Ok(keeping) => Ok(keeping.commit()),
+        Err(_) => Err(Memory),
+    }
+}
+
+/// Keeps each of the items that the store has not, its entries shared. Those that it has are dropped, and take no memory.
+fn keep_missing<P: Program>(
+    alloc: Global,
+    directory: &Directory,
+    pool: &mut EntryPool,
+    items: &[KeptItem<P>],
+    order: &TieredVec<u32>,
     checked: Vec<Checked<P>>,
 ) -> Result<Vec<KeptItem<P>>, Memory>
-    requires { All (IsChecked directory.now P.means) checked.items }
-    ensures pieces { IfOk result (λ kept. pieces kept.items ≡ pieces checked.items) }
+    requires order { IsOrder items.now order.now.items }
+    requires checked { All (IsChecked directory.now P.means) checked.items }
+    ensures pieces { IfOk result (λ kept. pieces kept.items ≡ pieces (filter (λ (c : TheChecked). not (is_kept items.now c.item)) checked.items)) }
     ensures whole { IfOk result (λ kept. (c : TheChecked) → Contains kept.items c → IsWhole directory.now P.means c) }
 {
-    let mut kept = Vec::with_capacity(alloc, checked.len())?;
+    let mut kept = Vec::new(alloc);
     for item in checked {
-        match keep(alloc, directory, pool, item) {
-            Ok(keeping) => kept.push(keeping.commit())?,
-            Err(_) => return Err(Memory),
+        if has(items, order, item.item()) {
+            continue;
         }
+        kept.push(kept_of(alloc, directory, pool, item)?)?;
     }
     Ok(kept)
 }
@@ -66,7 +87,7 @@ fn keep_each<P: Program>(
 /// Takes back what was promised of each of the items.
 fn release_each<P>(tables: &mut [Table], items: &[KeptItem<P>])
     requires { AscendByNode tables.old }
-    ensures { EachBecomes IsRoomier tables.old tables.new }
+    ensures { EachBecomes (AreAllReleased items.now) tables.old tables.new }
 {
     for item in items {
         release_item(tables, item);
@@ -77,7 +98,8 @@ fn release_each<P>(tables: &mut [Table], items: &[KeptItem<P>])
 fn promise_all<P>(tables: &mut [Table], more: &[KeptItem<P>]) -> Result<(), Memory>
     requires { AscendByNode tables.old }
     ensures same { EachBecomes IsRoomier tables.old tables.new }
-    ensures ok { OnOk result (AllTables (HasRoomForAll more.now) tables.new) }
+    ensures ok { OnOk result (EachBecomes (AreReady more.now) tables.old tables.new) }
+    ensures refused { OnErr result (EachBecomes KeepsPromises tables.old tables.new) }
 {
     for n in 0..more.len() {
         if promise_item(tables, &more[n]).is_err() {
@@ -96,13 +118,13 @@ fn prepare_all<P>(
     more: &[KeptItem<P>],
 ) -> Result<(), Memory>
     requires { AscendByNode tables.old }
-    ensures items { items.new.items ≡ items.old.items }
-    ensures order { order.new.items ≡ order.old.items }
+    ensures kept { (items.new.items ≡ items.old.items) × (order.new.items ≡ order.old.items) }
     ensures same { EachBecomes IsRoomier tables.old tables.new }
     ensures room { OnOk result (vec_len items.new + length more.now ≤ vec_capacity items.new) }
     ensures order_room { OnOk result (length more.now ≤ order.new.room) }
     ensures places { OnOk result (vec_len items.new + length more.now ≤ 2 ^ 32) }
-    ensures tables { OnOk result (AllTables (HasRoomForAll more.now) tables.new) }
+    ensures ready { OnOk result (EachBecomes (AreReady more.now) tables.old tables.new) }
+    ensures refused { OnErr result (EachBecomes KeepsPromises tables.old tables.new) }
 {
     let Some(count) = items.len().checked_add(more.len()) else {
         return Err(Memory);
@@ -145,25 +167,25 @@ fn add_new<P: Program>(
     add(directory, items, order, tables, gap, item);
 }
 
-/// Puts each of the items in its place, where it is not there yet. There is room for all of them.
+/// Puts each of the items in its place, the first one first, where it is not there yet. There is room for all of them.
 fn add_each<P: Program>(
     directory: &Directory,
     items: &mut Vec<KeptItem<P>>,
     order: &mut TieredVec<u32>,
     tables: &mut [Table],
-    mut more: Vec<KeptItem<P>>,
+    more: Vec<KeptItem<P>>,
 )
     requires store { IsIndexed directory.now P.means items.old.items order.old.items tables.old }
     requires whole { (c : TheChecked) → Contains more.items c → IsWhole directory.now P.means c }
     requires room { vec_len items.old + vec_len more ≤ vec_capacity items.old }
     requires order_room { vec_len more ≤ order.old.room }
     requires places { vec_len items.old + vec_len more ≤ 2 ^ 32 }
-    requires ready { AllTables (HasRoomForAll more.items) tables.old }
-    ensures store { IsIndexed directory.now P.means items.new.items order.new.items tables.new }
+    requires ready { AllTables (Awaits more.items) tables.old }
+    ensures store { IsAtRest directory.now P.means items.new.items order.new.items tables.new }
     ensures joined { set_of items.new.items ≡ Join (set_of items.old.items) (set_of more.items) }
     ensures grows { length order.old.items ≤ length order.new.items }
 {
-    while let Some(item) = more.pop() {
+    for item in more {
         add_new(directory, items, order, tables, item);
     }
 }
@@ -176,9 +198,9 @@ fn add_all<P: Program>(
     tables: &mut [Table],
     more: Vec<KeptItem<P>>,
 ) -> Result<u64, Memory>
-    requires store { IsIndexed directory.now P.means items.old.items order.old.items tables.old }
+    requires store { IsAtRest directory.now P.means items.old.items order.old.items tables.old }
     requires whole { (c : TheChecked) → Contains more.items c → IsWhole directory.now P.means c }
-    ensures store { IsIndexed directory.now P.means items.new.items order.new.items tables.new }
+    ensures store { IsAtRest directory.now P.means items.new.items order.new.items tables.new }
     ensures told { IfOk result (λ new. count (set_of items.old.items) + new ≡ count (set_of items.new.items)) }
     ensures joined { OnOk result (set_of items.new.items ≡ Join (set_of items.old.items) (set_of more.items)) }
     ensures refused { OnErr result (items.new.items ≡ items.old.items) }
@@ -199,9 +221,9 @@ pub(crate) fn merge<P: Program>(
     tables: &mut [Table],
     others: &[KeptItem<P>],
 ) -> Result<u64, Memory>
-    requires store { IsIndexed directory.now P.means items.old.items order.old.items tables.old }
+    requires store { IsAtRest directory.now P.means items.old.items order.old.items tables.old }
     requires others { (c : TheChecked) → Contains others.now c → IsWhole directory.now P.means c }
-    ensures store { IsIndexed directory.now P.means items.new.items order.new.items tables.new }
+    ensures store { IsAtRest directory.now P.means items.new.items order.new.items tables.new }
     ensures told { IfOk result (λ new. count (set_of items.old.items) + new ≡ count (set_of items.new.items)) }
     ensures joined { OnOk result (set_of items.new.items ≡ Join (set_of items.old.items) (set_of others.now)) }
     ensures refused { OnErr result (items.new.items ≡ items.old.items) }
@@ -221,14 +243,14 @@ pub(crate) fn take_all<P: Program>(
     tables: &mut [Table],
     checked: Vec<Checked<P>>,
 ) -> Result<u64, Memory>
-    requires store { IsIndexed directory.now P.means items.old.items order.old.items tables.old }
+    requires store { IsAtRest directory.now P.means items.old.items order.old.items tables.old }
     requires checked { All (IsChecked directory.now P.means) checked.items }
-    ensures store { IsIndexed directory.now P.means items.new.items order.new.items tables.new }
+    ensures store { IsAtRest directory.now P.means items.new.items order.new.items tables.new }
     ensures told { IfOk result (λ new. count (set_of items.old.items) + new ≡ count (set_of items.new.items)) }
     ensures joined { OnOk result (set_of items.new.items ≡ Join (set_of items.old.items) (set_of checked.items)) }
     ensures refused { OnErr result (items.new.items ≡ items.old.items) }
 {
-    let more = keep_each(alloc, directory, pool, checked)?;
+    let more = keep_missing(alloc, directory, pool, items, order, checked)?;
     let new = add_all(directory, items, order, tables, more)?;
     Ok(new)
 }

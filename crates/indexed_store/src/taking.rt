@@ -6,8 +6,9 @@ ghost use Rattle.evidence_set.specs.ItemSets.{Has, contains, insert, set_of};
 ghost use Rattle.kept_evidence.specs.Kept.{IsWhole};
 ghost use Rattle.node_tables.specs.Indexed.{IsIndexed};
 ghost use Rattle.node_tables.specs.Places.{IsGapAt};
-ghost use Rattle.node_tables.specs.Rooms.{HasRoomFor, IsReady, IsRoomier, ItemRooms};
+ghost use Rattle.node_tables.specs.Rooms.{HasRoomFor, IsReady, IsRoomier, ItemRooms, KeepsPromises};
 ghost use Rattle.node_tables.specs.Steps.{AllTables, AscendByNode, EachBecomes};
+ghost use Rattle.indexed_store.specs.within.Resting.{IsAtRest};
 
 use authenticators::Directory;
 use evidence::TakeRefused;
@@ -54,13 +55,13 @@ fn prepare<P>(
     item: &KeptItem<P>,
 ) -> Result<(), Memory>
     requires { AscendByNode tables.old }
-    ensures items { items.new.items ≡ items.old.items }
-    ensures order { order.new.items ≡ order.old.items }
+    ensures kept { (items.new.items ≡ items.old.items) × (order.new.items ≡ order.old.items) }
     ensures same { EachBecomes IsRoomier tables.old tables.new }
     ensures room { OnOk result (vec_len items.new < vec_capacity items.new) }
     ensures order_room { OnOk result (1 ≤ order.new.room) }
     ensures place { OnOk result (vec_len items.new < 2 ^ 32) }
     ensures ready { OnOk result (EachBecomes (IsReady item.now) tables.old tables.new) }
+    ensures refused { OnErr result (EachBecomes KeepsPromises tables.old tables.new) }
 {
     if items.len() >= MOST_ITEMS {
         return Err(Memory);
@@ -111,9 +112,9 @@ pub(crate) fn take<P: Program>(
     tables: &mut [Table],
     checked: Checked<P>,
 ) -> Result<bool, TakeRefused<P>>
-    requires store { IsIndexed directory.now P.means items.old.items order.old.items tables.old }
+    requires store { IsAtRest directory.now P.means items.old.items order.old.items tables.old }
     requires checked { IsChecked directory.now P.means checked }
-    ensures store { IsIndexed directory.now P.means items.new.items order.new.items tables.new }
+    ensures store { IsAtRest directory.now P.means items.new.items order.new.items tables.new }
     ensures told { IfOk result (λ new. new ≡ not (contains (set_of items.old.items) checked.item)) }
     ensures taken { OnOk result (set_of items.new.items ≡ insert (set_of items.old.items) checked.item) }
     ensures held { Has (set_of items.old.items) checked.item → result ≡ Ok false }

@@ -137,3 +137,36 @@ fn each_of_many_is_found_again(rt: HostRuntime) -> Result<(), Fail> {
     assert!(rt; missing(rt.alloc(), 1_100)? == 0);
     Ok(())
 }
+
+/// Whether a second pool keeps the entry as it was given to the first.
+fn is_kept(alloc: Global, content: &[u8], quoted: Option<Hash>) -> Result<bool, Memory> {
+    let entry = Entry {
+        seq: 2,
+        kind: 3,
+        content: ByteString::from_slice(alloc, content)?,
+    };
+    let mut pool = EntryPool::new(alloc);
+    let mut other = EntryPool::new(alloc);
+    let first = pool.share(alloc, hash_of(1, 0), &entry, hash_of(5, 6), quoted)?;
+    let second = other.share_again(alloc, &first)?;
+    let copy = second.to_entry(alloc)?;
+    Ok(
+        copy == entry
+            && second.seq() == 2
+            && second.kind() == 3
+            && second.content() == content
+            && second.prev() == hash_of(1, 0)
+            && second.hash() == hash_of(5, 6)
+            && second.quoted() == quoted,
+    )
+}
+
+#[test]
+fn entries_are_kept_as_they_were(rt: HostRuntime) -> Result<(), Fail> {
+    let contents: [&[u8]; 3] = [&[], &[4; 13], &[4; 14]];
+    for content in contents {
+        assert!(rt; is_kept(rt.alloc(), content, None)?);
+        assert!(rt; is_kept(rt.alloc(), content, Some(hash_of(7, 0)))?);
+    }
+    Ok(())
+}

@@ -9,8 +9,7 @@ use Rattle.std.proofs.Math.ListN.{get_or-map}
 use Rattle.std.proofs.lemmas.List.{length-map}
 use Rattle.std.proofs.lemmas.Option.{slice_get-map}
 use Rattle.log_chain.specs.declared.entry.Entry.{Entry}
-use Rattle.kept_entries.specs.declared.shared.SharedEntry.{SharedEntry}
-use Rattle.kept_entries.specs.Shared.{entries_of, hashes_of}
+use Rattle.kept_entries.specs.Shared.{SharedEntry, entries_of, hashes_of}
 use Rattle.item_forms.specs.Segments.{last_seq}
 use Rattle.proofs.specs.Contradictions.{is_rising}
 use Rattle.kept_evidence.specs.Telling.{last_or}

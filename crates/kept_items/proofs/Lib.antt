@@ -5,5 +5,4 @@ mod Made
 mod Orders
 mod Pairs
 mod Reached
-mod Singles
 mod Spelled

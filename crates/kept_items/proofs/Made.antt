@@ -10,8 +10,7 @@ use Rattle.evidence_item.specs.declared.findings.Findings.{Findings}
 use Rattle.evidence_item.specs.declared.findings.Findings.TheVariants as found
 use Rattle.evidence_item.specs.declared.findings.SegmentFindings.{SegmentFindings}
 use Rattle.evidence_item.specs.Checking.{Checked}
-use Rattle.kept_entries.specs.declared.shared.SharedEntry.{SharedEntry}
-use Rattle.kept_entries.specs.Shared.{entries_of, hashes_of}
+use Rattle.kept_entries.specs.Shared.{SharedEntry, entries_of, hashes_of}
 use Rattle.log_chain.specs.declared.entry.Entry.{Entry}
 use Rattle.kept_items.specs.Keeping.{CanBeKeptWith, IsFoundSegment}
 use Rattle.kept_items.specs.within.Parts.{fields_of, findings_in}

@@ -7,8 +7,7 @@ use Rattle.log_chain.specs.Chain.{entry_hash, hashes}
 use Rattle.item_forms.specs.declared.forms.Statement.{Statement}
 use Rattle.item_forms.specs.Segments.{has_pair, logged}
 use Rattle.evidence_set.specs.Challenges.{covers}
-use Rattle.kept_entries.specs.declared.shared.SharedEntry.{SharedEntry}
-use Rattle.kept_entries.specs.Shared.{entries_of, hashes_of}
+use Rattle.kept_entries.specs.Shared.{SharedEntry, entries_of, hashes_of}
 use Rattle.kept_items.specs.within.Parts.{segment_of}
 
 head_is : (g h : List ℕ) (gs hs : List (List ℕ)) → g ∷ gs ≡ h ∷ hs → g ≡ h

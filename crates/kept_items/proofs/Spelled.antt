@@ -1,14 +1,15 @@
 -- The spelling of shared entries is that of the entries.
-use Rattle.std.proofs.Common.{◌≡◌, ℕ, ◌+◌, List, ◌++◌, length, length-append, ap, sym, subst, ◌∙◌, arith}
-use Rattle.std.specs.Int.{to_be_bytes, w32}
+use Rattle.std.proofs.Common.{◌≡◌, ℕ, ◌+◌, List, [], ◌∷◌, ◌++◌, length, length-append, ap, sym, subst, ◌∙◌, arith}
+use Rattle.std.specs.Int.{to_be_bytes, w32, w64}
 use Rattle.std.specs.List.{All, flat_map}
 use Rattle.std.proofs.Math.ListN.{get_or-map}
 use Rattle.std.proofs.lemmas.List.Folds.{flat_map-map}
 use Rattle.log_chain.specs.Fields.{bytes_text, counted_text}
+use Rattle.log_chain.specs.declared.entry.Entry.{Entry}
 use Rattle.item_forms.specs.declared.forms.Fields.TheVariants as form
+use Rattle.item_forms.proofs.Written.{two_texts}
 use Rattle.item_forms.specs.Spelling.{FitsEntry, FitsSegment, entry_spelling, spelling}
-use Rattle.kept_entries.specs.declared.shared.SharedEntry.{SharedEntry}
-use Rattle.kept_entries.specs.Shared.{entries_of}
+use Rattle.kept_entries.specs.Shared.{SharedEntry, entries_of}
 use Rattle.kept_items.specs.within.Parts.{segment_of}
 use Rattle.kept_items.specs.within.Shared.{FitsShared, shared_spelling}
 use Rattle.kept_items.proofs.Entries.{as_many}
@@ -20,6 +21,14 @@ pub all_fit : (xs : List SharedEntry) → All FitsEntry (entries_of xs) → All 
 all_fit xs fit k d within =
     let many = as_many xs in
     subst FitsEntry (get_or-map (λ (x : SharedEntry). x.entry) xs k d) (fit k d.entry (omega (arith, many, within)))
+
+-- an entry, of which each part is written in turn
+pub entry_written : (old one two new : List ℕ) (e : Entry) (n k : ℕ) (t : List ℕ) → one ≡ old ++ to_be_bytes w64 n → two ≡ one ++ k ∷ [] → new ≡ two ++ bytes_text t → n ≡ e.seq → k ≡ e.kind → t ≡ e.content → new ≡ old ++ entry_spelling e
+entry_written old one two new e n k t first second third is_n is_k is_t =
+    let seq : one ≡ old ++ to_be_bytes w64 e.seq = first ∙ ap (λ (m : ℕ). old ++ to_be_bytes w64 m) is_n in
+    let kind : two ≡ one ++ e.kind ∷ [] = second ∙ ap (λ (m : ℕ). one ++ m ∷ []) is_k in
+    let content : new ≡ two ++ bytes_text e.content = third ∙ ap (λ (u : List ℕ). two ++ bytes_text u) is_t in
+    two_texts old two new (to_be_bytes w64 e.seq ++ e.kind ∷ []) (bytes_text e.content) (two_texts old one two (to_be_bytes w64 e.seq) (e.kind ∷ []) seq kind) content
 
 -- behind their count
 pub counted : (xs : List SharedEntry) (n : ℕ) → n ≡ length xs → to_be_bytes w32 n ++ flat_map shared_spelling xs ≡ counted_text entry_spelling (entries_of xs)

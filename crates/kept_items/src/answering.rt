@@ -14,10 +14,10 @@ use replay_verifier::Receipt;
 fn is_receipt_of(message: &Message, shared: &SharedEntry) -> bool
     ensures { result ≡ is_told_receipt message.now shared.now.entry shared.now.quoted }
 {
-    if shared.quoted.is_none() {
+    if shared.quoted().is_none() {
         return false;
     }
-    let Some(receipt) = Receipt::read(shared.entry.content.as_slice()) else {
+    let Some(receipt) = Receipt::read(shared.content()) else {
         return false;
     };
     receipt.from == message.from && receipt.seq == message.seq

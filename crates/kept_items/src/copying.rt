@@ -22,7 +22,7 @@ fn copy_entries(alloc: Global, handles: &[Handle]) -> Result<Vec<Entry>, Memory>
 {
     let mut entries = Vec::with_capacity(alloc, handles.len())?;
     for handle in handles {
-        let copy = handle.get().entry.try_clone(alloc)?;
+        let copy = handle.get().to_entry(alloc)?;
         entries.push(copy)?;
     }
     Ok(entries)
@@ -34,7 +34,7 @@ fn copy_hashes(alloc: Global, handles: &[Handle]) -> Result<HashList, Memory>
 {
     let mut hashes = Vec::with_capacity(alloc, handles.len())?;
     for handle in handles {
-        hashes.push(handle.get().hash)?;
+        hashes.push(handle.get().hash())?;
     }
     Ok(HashList::from_vec(hashes))
 }
@@ -45,7 +45,7 @@ fn copy_quotes(alloc: Global, handles: &[Handle]) -> Result<QuotedHashes, Memory
 {
     let mut quotes = Vec::with_capacity(alloc, handles.len())?;
     for handle in handles {
-        quotes.push(handle.get().quoted)?;
+        quotes.push(handle.get().quoted())?;
     }
     Ok(QuotedHashes::from_vec(quotes))
 }
@@ -81,6 +81,10 @@ impl<P> KeptItem<P> {
         ensures { IfOk result (λ c. c ≡ self.now) }
     {
         match &self.body {
+            Body::Statement(statement) => {
+                let copy = statement.try_clone(alloc)?;
+                Ok(copy.into_checked())
+            }
             Body::Single(checked) => {
                 let copy = checked.try_clone(alloc)?;
                 Ok(copy)

@@ -18,7 +18,7 @@ pub(crate) struct Handle {
 
 impl Model for Handle {
     ghost use Rattle.std.specs.Arc.{arc_value};
-    ghost use Rattle.kept_entries.specs.declared.shared.SharedEntry.{SharedEntry};
+    ghost use Rattle.kept_entries.specs.Shared.{SharedEntry};
 
     ghost Value = { SharedEntry };
 
@@ -75,8 +75,7 @@ pub(crate) fn share_again(
 {
     let mut again = Vec::with_capacity(alloc, handles.len())?;
     for handle in handles {
-        let entry = handle.get();
-        let shared = pool.share(alloc, entry.prev, &entry.entry, entry.hash, entry.quoted)?;
+        let shared = pool.share_again(alloc, handle.get())?;
         again.push(Handle { shared })?;
     }
     Ok(again)

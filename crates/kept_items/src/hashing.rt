@@ -1,6 +1,7 @@
-//! The digest of a kept item. Each field is hashed where it lies, and no memory is taken.
+//! The digest of a segment whose entries are shared. Each field is hashed where it lies, and no memory is taken.
 
 ghost use Rattle.std.specs.Prelude.{◌≡◌};
+ghost use Rattle.std.specs.Int.{to_be_bytes, w64};
 ghost use Rattle.std.specs.List.{All, flat_map};
 ghost use Rattle.log_chain.specs.declared.limits.TheConstants.{MOST_ENTRIES};
 ghost use Rattle.log_chain.specs.Fields.{IsListUpTo, counted_text};
@@ -12,18 +13,34 @@ ghost use Rattle.kept_items.specs.within.Lent.{whole};
 ghost use Rattle.kept_items.specs.within.Shared.{FitsShared, shared_spelling};
 
 use crate::handle::Handle;
-use crate::item::{Body, KeptItem};
 use crate::segment::{KeptSegment, Parts};
-use item_digests::{digest_of, feed_bytes, feed_entry, feed_hash, feed_u8, feed_u32};
+use item_digests::{feed_bytes, feed_hash, feed_u8, feed_u32};
+use kept_entries::SharedEntry;
 use log_chain::Hash;
 use sha2::{Digest, Sha256};
+
+fn feed_u64(hasher: &mut Sha256, value: u64)
+    ensures { Feeds hasher.old hasher.new (to_be_bytes w64 value) }
+{
+    hasher.update(value.to_be_bytes());
+}
+
+/// An entry, as a segment's spelling has it.
+fn feed_shared(hasher: &mut Sha256, shared: &SharedEntry)
+    requires { FitsShared shared.now }
+    ensures { Feeds hasher.old hasher.new (shared_spelling shared.now) }
+{
+    feed_u64(hasher, shared.seq());
+    feed_u8(hasher, shared.kind());
+    feed_bytes(hasher, shared.content());
+}
 
 fn feed_each(hasher: &mut Sha256, handles: &[Handle])
     requires { All FitsShared handles.now }
     ensures { Feeds hasher.old hasher.new (flat_map shared_spelling handles.now) }
 {
     for handle in handles {
-        feed_entry(hasher, &handle.get().entry);
+        feed_shared(hasher, handle.get());
     }
 }
 
@@ -46,7 +63,8 @@ fn feed_segment(hasher: &mut Sha256, parts: &Parts<'_>)
     feed_bytes(hasher, parts.sig.as_slice());
 }
 
-fn digest_of_segment(segment: &KeptSegment) -> Hash
+/// The SHA-256 value of its spelling.
+pub(crate) fn digest_of_segment(segment: &KeptSegment) -> Hash
     ensures { result ≡ digest_of segment.now.item }
 {
     let parts = segment.parts();
@@ -54,16 +72,4 @@ fn digest_of_segment(segment: &KeptSegment) -> Hash
     feed_u8(&mut hasher, 2);
     feed_segment(&mut hasher, &parts);
     Hash(hasher.finalize())
-}
-
-impl<P> KeptItem<P> {
-    /// The SHA-256 value of the item's spelling.
-    pub fn digest(&self) -> Hash
-        ensures { result ≡ digest_of self.now.item }
-    {
-        match &self.body {
-            Body::Single(checked) => digest_of(checked.item()),
-            Body::Segment(segment) => digest_of_segment(segment),
-        }
-    }
 }

@@ -1,46 +1,61 @@
 //! Kept items.
 
-ghost use Rattle.std.specs.Prelude.{◌≡◌, IfNone, IfOk, IfSome, false, option_copied, true};
+ghost use Rattle.std.specs.Prelude.{◌≡◌, IfErr, IfNone, IfOk, IfSome, false, option_copied, true};
 ghost use Rattle.std.specs.Option.{option_map};
 ghost use Rattle.evidence_item.specs.Checking.{is_segment};
 ghost use Rattle.evidence_set.specs.Challenges.{answers_audit, is_against};
+ghost use Rattle.item_digests.specs.Digests.{digest_of};
 ghost use Rattle.kept_evidence.specs.Telling.{denies, told_answers, told_send};
-ghost use Rattle.kept_items.specs.Keeping.{reach, subject};
+ghost use Rattle.item_forms.specs.Forms.{shown as shown_form};
+ghost use Rattle.kept_items.specs.Keeping.{demand, is_challenge, opening_at, reach, subject};
 ghost use Rattle.kept_items.specs.Positions.{positions, shown, stated};
+ghost use Rattle.kept_items.specs.within.Items.{IsApart, checked_in};
 
-use crate::reach::Reach;
+use crate::hashing::digest_of_segment;
+use crate::keeping::KeepRefused;
+use crate::reach::{Demand, Reach};
 use crate::said::Said;
 use crate::segment::KeptSegment;
-use crate::single::{positions_of, statement_of, subject_of};
+use crate::single::{challenge_of, demand, positions_of, statement_of, subject_of};
+use crate::statement::{KeptStatement, is_bare};
 use authenticators::NodeId;
 use evidence_item::{AuditChallenge, Checked, Form, Item, Message};
+use item_digests::digest_of;
 use kept_entries::EntryPool;
 use kept_evidence::{answers_send, is_against};
+use log_chain::Hash;
 use outcome::Memory;
 use replay_verifier::Verdict;
 use std::alloc::Global;
 use std::marker::Model;
 
-/// How an item is kept.
+/// How an item is kept. Statements, of which there are most, stand in place; what is wider has a box.
 #[derive(Drop)]
 pub(crate) enum Body<P> {
-    /// What is no segment, as it is.
-    Single(Checked<P>),
+    /// A statement that has no verdict and of which nothing was found, by its fields.
+    Statement(KeptStatement),
+    /// Any other item that is no segment, as it is.
+    Single(Box<Checked<P>>),
     /// A segment, by its shared entries.
-    Segment(KeptSegment),
+    Segment(Box<KeptSegment>),
 }
 
-/// A checked item as it is kept. A contract sees the checked item.
+/// A checked item as it is kept, with the digest of its spelling. A contract sees the checked item.
+///
+/// It is 112 bytes wide, 32 of them the digest. A statement has the bytes of its signature beside it, any other item what it is made of.
 #[derive(Drop)]
 pub struct KeptItem<P> {
     pub(crate) body: Body<P>,
+    digest: Hash,
 }
+
+const _: () = prove!(size_of::<KeptItem<()>>() == 112);
 
 impl<P> Model for KeptItem<P> {
     ghost use Rattle.evidence_item.specs.Checking.{Checked};
     ghost use Rattle.std.specs.Coded.{codes};
     ghost use Rattle.item_forms.specs.Pieces.{fits_code};
-    ghost use Rattle.kept_items.specs.within.Items.{IsApart, checked_in};
+    ghost use Rattle.kept_items.specs.within.Items.{IsKept, checked_in};
 
     ghost Value = { Checked };
 
@@ -48,27 +63,66 @@ impl<P> Model for KeptItem<P> {
 
     ghost view = { λ k. checked_in k.body };
 
-    ghost invariant = { λ k. IsApart k.body };
+    ghost invariant = { λ k. IsKept k.body k.digest };
+}
+
+/// A copy of what is kept, whose entries the pool shares.
+fn shared_body<P>(alloc: Global, pool: &mut EntryPool, body: &Body<P>) -> Result<Body<P>, Memory>
+    requires { IsApart body.now }
+    ensures same { IfOk result (λ b. checked_in b ≡ checked_in body.now) }
+    ensures apart { IfOk result (λ b. IsApart b) }
+{
+    match body {
+        Body::Statement(statement) => {
+            let copy = statement.try_clone(alloc)?;
+            Ok(Body::Statement(copy))
+        }
+        Body::Single(checked) => {
+            let copy = checked.try_clone(alloc)?;
+            let copy = Box::new(alloc, copy)?;
+            Ok(Body::Single(copy))
+        }
+        Body::Segment(segment) => {
+            let copy = segment.share(alloc, pool)?;
+            let copy = Box::new(alloc, copy)?;
+            Ok(Body::Segment(copy))
+        }
+    }
 }
 
 impl<P> KeptItem<P> {
-    /// What is no segment.
-    pub(crate) fn single(checked: Checked<P>) -> KeptItem<P>
+    /// What is no segment. Where there is no memory for a box, the item is given back.
+    pub(crate) fn single(alloc: Global, checked: Checked<P>) -> Result<KeptItem<P>, KeepRefused<P>>
         requires { is_segment checked.item.fields ≡ false }
-        ensures { result ≡ checked }
+        ensures kept { IfOk result (λ k. k ≡ checked) }
+        ensures given_back { IfErr result (λ r. r.0 ≡ checked) }
     {
-        KeptItem {
-            body: Body::Single(checked),
+        let digest = digest_of(checked.item());
+        if is_bare(&checked) {
+            let statement = KeptStatement::from_checked(checked);
+            return Ok(KeptItem {
+                body: Body::Statement(statement),
+                digest,
+            });
+        }
+        match Box::new(alloc, checked) {
+            Ok(checked) => Ok(KeptItem {
+                body: Body::Single(checked),
+                digest,
+            }),
+            Err(refused) => Err(KeepRefused(refused.value)),
         }
     }
 
     /// A segment.
-    pub(crate) fn segment(segment: KeptSegment) -> KeptItem<P>
-        requires { is_segment segment.item.fields ≡ true }
-        ensures { result ≡ segment }
+    pub(crate) fn segment(segment: Box<KeptSegment>) -> KeptItem<P>
+        requires { is_segment segment.value.item.fields ≡ true }
+        ensures { result ≡ segment.value }
     {
+        let digest = digest_of_segment(&segment);
         KeptItem {
             body: Body::Segment(segment),
+            digest,
         }
     }
 
@@ -78,20 +132,41 @@ impl<P> KeptItem<P> {
         ensures { result ≡ self }
     {
         match self.body {
-            Body::Single(checked) => checked,
+            Body::Statement(statement) => statement.into_checked(),
+            Body::Single(checked) => Box::into_inner(checked),
             Body::Segment(_) => unreachable!(),
         }
     }
 
-    /// The item, where it is no segment.
-    pub fn as_item(&self) -> Option<&Item>
+    /// The form of the item, where it is no segment, with its fields lent.
+    pub fn form(&self) -> Option<Form<'_>>
         ensures none { IfNone result (is_segment self.now.item.fields ≡ true) }
-        ensures some { IfSome result (λ i. (i.now ≡ self.now.item) × (is_segment self.now.item.fields ≡ false)) }
+        ensures some { IfSome result (λ f. (shown_form f ≡ self.now.item.fields) × (is_segment self.now.item.fields ≡ false)) }
     {
         match &self.body {
-            Body::Single(checked) => Some(checked.item()),
+            Body::Statement(statement) => Some(Form::Auth(statement.auth())),
+            Body::Single(checked) => Some(checked.item().form()),
             Body::Segment(_) => None,
         }
+    }
+
+    /// The item, where it is a challenge.
+    pub fn as_challenge(&self) -> Option<&Item>
+        ensures none { IfNone result (is_challenge self.now.item.fields ≡ false) }
+        ensures some { IfSome result (λ i. (i.now ≡ self.now.item) × (is_challenge self.now.item.fields ≡ true)) }
+    {
+        match &self.body {
+            Body::Statement(_) => None,
+            Body::Single(checked) => challenge_of(checked.item()),
+            Body::Segment(_) => None,
+        }
+    }
+
+    /// The SHA-256 value of the item's spelling. It is kept, and nothing is hashed.
+    pub fn digest(&self) -> Hash
+        ensures { result ≡ digest_of self.now.item }
+    {
+        self.digest
     }
 
     /// What replay told, where the item is a segment.
@@ -99,6 +174,7 @@ impl<P> KeptItem<P> {
         ensures { option_copied result ≡ self.now.verdict }
     {
         match &self.body {
+            Body::Statement(statement) => statement.verdict(),
             Body::Single(checked) => checked.verdict(),
             Body::Segment(segment) => segment.verdict(),
         }
@@ -109,6 +185,7 @@ impl<P> KeptItem<P> {
         ensures { result ≡ positions self.now.item.fields }
     {
         match &self.body {
+            Body::Statement(_) => 1,
             Body::Single(checked) => positions_of(checked.item()),
             Body::Segment(segment) => segment.positions(),
         }
@@ -119,6 +196,7 @@ impl<P> KeptItem<P> {
         ensures { option_map shown result ≡ stated self.now position }
     {
         match &self.body {
+            Body::Statement(statement) => statement.statement(position),
             Body::Single(checked) => statement_of(checked, position),
             Body::Segment(segment) => segment.statement(position),
         }
@@ -130,18 +208,43 @@ impl<P> KeptItem<P> {
         ensures { result ≡ subject self.now.item.fields }
     {
         match &self.body {
+            Body::Statement(_) => None,
             Body::Single(checked) => subject_of(checked.item()),
             Body::Segment(segment) => Some(segment.node()),
         }
     }
 
-    /// Of a segment the least and the greatest number of a statement that can contradict it.
+    /// Of a segment where it begins and ends. It takes a pass over the numbers of its entries, which may not rise.
     pub fn reach(&self) -> Option<Reach>
         ensures { result ≡ reach self.now.item.fields }
     {
         match &self.body {
+            Body::Statement(_) => None,
             Body::Single(_) => None,
             Body::Segment(segment) => Some(segment.reach()),
+        }
+    }
+
+    /// Where a demand begins that the item, which is a segment, can answer: at position 0 by its beginning, and at each position behind
+    /// by an entry.
+    pub fn opening(&self, position: u32) -> Option<u64>
+        ensures { result ≡ opening_at self.now.item.fields position }
+    {
+        match &self.body {
+            Body::Statement(_) => None,
+            Body::Single(_) => None,
+            Body::Segment(segment) => segment.opening(position),
+        }
+    }
+
+    /// What the item demands, where it is an audit challenge.
+    pub fn demand(&self) -> Option<Demand>
+        ensures { result ≡ demand self.now.item.fields }
+    {
+        match &self.body {
+            Body::Statement(_) => None,
+            Body::Single(checked) => demand(checked.item()),
+            Body::Segment(_) => None,
         }
     }
 
@@ -150,6 +253,7 @@ impl<P> KeptItem<P> {
         ensures { result ≡ denies (shown said.now) self.now.item.fields }
     {
         match &self.body {
+            Body::Statement(_) => false,
             Body::Single(_) => false,
             Body::Segment(segment) => segment.is_denied(said),
         }
@@ -160,6 +264,7 @@ impl<P> KeptItem<P> {
         ensures { result ≡ answers_audit challenge.now self.now.item.fields }
     {
         match &self.body {
+            Body::Statement(_) => false,
             Body::Single(_) => false,
             Body::Segment(segment) => segment.answers_audit(challenge),
         }
@@ -170,6 +275,7 @@ impl<P> KeptItem<P> {
         ensures { result ≡ told_send message.now self.now.item.fields self.now.findings }
     {
         match &self.body {
+            Body::Statement(_) => false,
             Body::Single(checked) => answers_send(message, checked),
             Body::Segment(segment) => segment.answers_send(message),
         }
@@ -179,10 +285,10 @@ impl<P> KeptItem<P> {
     pub fn answers(&self, challenge: &KeptItem<P>) -> bool
         ensures { result ≡ told_answers challenge.now.item.fields self.now }
     {
-        let Some(item) = challenge.as_item() else {
+        let Some(form) = challenge.form() else {
             return false;
         };
-        match item.form() {
+        match form {
             Form::Audit(audit) => self.answers_audit(audit),
             Form::Send(message) => self.answers_send(message),
             Form::Auth(_) | Form::Segment(_) | Form::Ack(_) => false,
@@ -194,6 +300,7 @@ impl<P> KeptItem<P> {
         ensures { result ≡ is_against node self.now.item.fields }
     {
         match &self.body {
+            Body::Statement(_) => false,
             Body::Single(checked) => is_against(node, checked.item()),
             Body::Segment(_) => false,
         }
@@ -203,19 +310,10 @@ impl<P> KeptItem<P> {
     pub fn share(&self, alloc: Global, pool: &mut EntryPool) -> Result<KeptItem<P>, Memory>
         ensures { IfOk result (λ k. k ≡ self.now) }
     {
-        match &self.body {
-            Body::Single(checked) => {
-                let copy = checked.try_clone(alloc)?;
-                Ok(KeptItem {
-                    body: Body::Single(copy),
-                })
-            }
-            Body::Segment(segment) => {
-                let copy = segment.share(alloc, pool)?;
-                Ok(KeptItem {
-                    body: Body::Segment(copy),
-                })
-            }
-        }
+        let body = shared_body(alloc, pool, &self.body)?;
+        Ok(KeptItem {
+            body,
+            digest: self.digest,
+        })
     }
 }

@@ -71,11 +71,11 @@ fn shared_segment<P>(
     alloc: Global,
     pool: &mut EntryPool,
     checked: &Checked<P>,
-) -> Result<Option<KeptSegment>, Memory>
+) -> Result<Option<Box<KeptSegment>>, Memory>
     requires { CanBeKept checked.now }
     ensures none { IfOk result (λ o. IfNone o (is_segment checked.now.item.fields ≡ false)) }
-    ensures some { IfOk result (λ o. IfSome o (λ k. k ≡ checked.now)) }
-    ensures segment { IfOk result (λ o. IfSome o (λ k. is_segment k.item.fields ≡ true)) }
+    ensures some { IfOk result (λ o. IfSome o (λ k. k.value ≡ checked.now)) }
+    ensures segment { IfOk result (λ o. IfSome o (λ k. is_segment k.value.item.fields ≡ true)) }
 {
     let Form::Segment(segment) = checked.item().form() else {
         return Ok(None);
@@ -99,7 +99,18 @@ fn shared_segment<P>(
         sig,
         checked.verdict().copied(),
     );
+    let kept = Box::new(alloc, kept)?;
     Ok(Some(kept))
+}
+
+/// What is no segment, in a box where it has one.
+fn keep_single<P>(alloc: Global, checked: Checked<P>) -> Result<Keeping<P>, KeepRefused<P>>
+    requires { is_segment checked.item.fields ≡ false }
+    ensures kept { IfOk result (λ k. k ≡ checked) }
+    ensures given_back { IfErr result (λ r. r.0 ≡ checked) }
+{
+    let item = KeptItem::single(alloc, checked)?;
+    Ok(Keeping { item, given: None })
 }
 
 impl<P> KeptItem<P> {
@@ -116,10 +127,7 @@ impl<P> KeptItem<P> {
     {
         match shared_segment(alloc, pool, &checked) {
             Err(Memory) => Err(KeepRefused(checked)),
-            Ok(None) => Ok(Keeping {
-                item: KeptItem::single(checked),
-                given: None,
-            }),
+            Ok(None) => keep_single(alloc, checked),
             Ok(Some(segment)) => Ok(Keeping {
                 item: KeptItem::segment(segment),
                 given: Some(checked),

@@ -1,6 +1,6 @@
 //! What follows of the definitions. Each function does nothing, and is called to tell the prover what its contract says.
 
-ghost use Rattle.kept_items.specs.Keeping.{CheckedItemsCanBeKept, DenialsAreWithinReach, FoundItemsCanBeKept};
+ghost use Rattle.kept_items.specs.Keeping.{AnswersAreWithinReach, CheckedItemsCanBeKept, DenialsAreWithinReach, FoundItemsCanBeKept, OpeningsAreNamed};
 
 /// An item of which everything was found can be kept.
 pub fn found_items_can_be_kept()
@@ -15,4 +15,14 @@ pub fn checked_items_can_be_kept()
 /// A statement that contradicts a segment lies within its reach.
 pub fn denials_are_within_reach()
     ensures { DenialsAreWithinReach }
+{}
+
+/// So does what an audit challenge demands that the segment answers.
+pub fn answers_are_within_reach()
+    ensures { AnswersAreWithinReach }
+{}
+
+/// The segment names where the demand begins.
+pub fn openings_are_named()
+    ensures { OpeningsAreNamed }
 {}

@@ -3,7 +3,8 @@
 //! - A [`KeptItem`] is a checked item, which [`KeptItem::keep`] makes by way of a [`Keeping`]. A contract sees the checked item,
 //!   however it is kept.
 //! - [`Said`] lends a statement from where it lies; [`KeptItem::statement`] tells which stands at a position.
-//! - [`Reach`] tells which statements can contradict a segment.
+//! - [`Reach`] tells which statements can contradict a segment, and which demands it can answer; [`Demand`] is what an audit challenge
+//!   demands.
 //!
 //! `specs/Positions.antt` has the statements by their positions, `specs/Keeping.antt` what can be kept and of whom an item tells.
 //! [`laws`] has what follows; `specs/within` has the words of private code.
@@ -11,7 +12,7 @@
 
 pub use item::KeptItem;
 pub use keeping::{KeepRefused, Keeping};
-pub use reach::Reach;
+pub use reach::{Demand, Reach};
 pub use said::{Said, compare_said};
 
 mod answering;
@@ -29,4 +30,5 @@ mod reach;
 mod said;
 mod segment;
 mod single;
+mod statement;
 mod writing;

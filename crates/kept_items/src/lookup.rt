@@ -6,8 +6,7 @@ ghost use Rattle.std.specs.Str.{bytes_eq};
 ghost use Rattle.log_chain.specs.Chain.{Rising, hashes};
 ghost use Rattle.item_forms.specs.Segments.{has_pair, logged};
 ghost use Rattle.evidence_set.specs.Challenges.{covers};
-ghost use Rattle.kept_entries.specs.declared.shared.SharedEntry.{SharedEntry as TheEntry};
-ghost use Rattle.kept_entries.specs.Shared.{entries_of, hashes_of};
+ghost use Rattle.kept_entries.specs.Shared.{SharedEntry as TheEntry, entries_of, hashes_of};
 ghost use Rattle.kept_items.specs.within.Parts.{IsHashed, segment_of};
 
 use crate::handle::Handle;
@@ -20,7 +19,7 @@ use log_chain::{Hash, base_hash};
 fn have_pair(handles: &[Handle], seq: u64, hash: Hash) -> bool
     ensures { result ≡ list_any (λ (x : TheEntry). (x.entry.seq == seq) && bytes_eq x.hash hash) handles.now }
 {
-    handles.iter().any(|handle| handle.get().entry.seq == seq && handle.get().hash == hash)
+    handles.iter().any(|handle| handle.get().seq() == seq && handle.get().hash() == hash)
 }
 
 /// The same of entries behind the hash `prev` whose numbers rise: the entry is looked up by binary search.
@@ -32,7 +31,7 @@ pub(crate) fn finds_pair(prev: Hash, handles: &[Handle], seq: u64, hash: Hash) -
     rises_by_pairs();
     match place_of(handles, seq) {
         None => false,
-        Some(place) => handles[place].get().hash == hash,
+        Some(place) => handles[place].get().hash() == hash,
     }
 }
 

@@ -8,20 +8,51 @@ ghost use Rattle.item_forms.specs.Groups.{block_order, group_cmp, shown_group, t
 ghost use Rattle.item_forms.specs.Pieces.{by_bytes};
 ghost use Rattle.item_forms.specs.SegmentOrders.{counted_order, entry_order, segment_order};
 ghost use Rattle.kept_entries.specs.Shared.{entries_of};
+ghost use Rattle.kept_items.specs.within.Bare.{statement_order};
 ghost use Rattle.kept_items.specs.within.Lent.{whole};
 
 use crate::handle::Handle;
 use crate::item::{Body, KeptItem};
 use crate::segment::{KeptSegment, Parts};
+use crate::statement::KeptStatement;
+use authenticators::Authenticator;
 use evidence_item::{Entry, Form, Hash, Item, Segment};
 use item_forms::laws::segments_are_ordered_by_fields;
-use item_forms::{Group, compare_entries, compare_texts};
+use item_forms::{Group, compare_texts};
+use kept_entries::SharedEntry;
 use std::cmp::Ordering;
 
 fn compare_hashes(a: Hash, b: Hash) -> Ordering
     ensures { result ≡ block_order a b }
 {
     a.0.as_slice().cmp(b.0.as_slice())
+}
+
+/// Bytes behind their length: the shorter come first.
+fn compare_contents(a: &[u8], b: &[u8]) -> Ordering
+    ensures { result ≡ text_order a.now b.now }
+{
+    a.len().cmp(&b.len()).then_with(|| a.cmp(b))
+}
+
+/// By number, kind and content.
+fn compare_to_entry(a: &SharedEntry, b: &Entry) -> Ordering
+    ensures { result ≡ entry_order a.now.entry b.now }
+{
+    a.seq()
+        .cmp(&b.seq)
+        .then_with(|| a.kind().cmp(&b.kind))
+        .then_with(|| compare_contents(a.content(), b.content.as_slice()))
+}
+
+/// The same of two shared entries.
+fn compare_shared(a: &SharedEntry, b: &SharedEntry) -> Ordering
+    ensures { result ≡ entry_order a.now.entry b.now.entry }
+{
+    a.seq()
+        .cmp(&b.seq())
+        .then_with(|| a.kind().cmp(&b.kind()))
+        .then_with(|| compare_contents(a.content(), b.content()))
 }
 
 fn compare_each(a: &[Handle], b: &[Entry]) -> Ordering
@@ -32,7 +63,7 @@ fn compare_each(a: &[Handle], b: &[Entry]) -> Ordering
         let [other, others @ ..] = rest else {
             return Ordering::Greater;
         };
-        let order = compare_entries(&handle.get().entry, other);
+        let order = compare_to_entry(handle.get(), other);
         if order.is_ne() {
             return order;
         }
@@ -53,7 +84,7 @@ fn compare_each_shared(a: &[Handle], b: &[Handle]) -> Ordering
         let [other, others @ ..] = rest else {
             return Ordering::Greater;
         };
-        let order = compare_entries(&handle.get().entry, &other.get().entry);
+        let order = compare_shared(handle.get(), other.get());
         if order.is_ne() {
             return order;
         }
@@ -179,6 +210,75 @@ fn compare_to_segment(item: &Item, segment: &KeptSegment) -> Ordering
     }
 }
 
+/// By node, number, hash and signature.
+fn compare_fields(a: &Authenticator, b: &Authenticator) -> Ordering
+    ensures { result ≡ statement_order a.now b.now }
+{
+    a.node
+        .0
+        .cmp(&b.node.0)
+        .then_with(|| a.seq.cmp(&b.seq))
+        .then_with(|| compare_hashes(a.hash, b.hash))
+        .then_with(|| compare_texts(&a.sig, &b.sig))
+}
+
+/// A statement and any item.
+fn compare_statement_to_item(statement: &KeptStatement, item: &Item) -> Ordering
+    ensures { result ≡ by_bytes statement.now.item item.now }
+{
+    segments_are_ordered_by_fields();
+    let auth = statement.auth();
+    match item.form() {
+        Form::Auth(other) => compare_fields(auth, other),
+        Form::Segment(_) => Ordering::Less,
+        Form::Audit(_) => Ordering::Less,
+        Form::Send(_) => Ordering::Less,
+        Form::Ack(_) => Ordering::Less,
+    }
+}
+
+/// Any item and a statement.
+fn compare_to_statement(item: &Item, statement: &KeptStatement) -> Ordering
+    ensures { result ≡ by_bytes item.now statement.now.item }
+{
+    segments_are_ordered_by_fields();
+    let auth = statement.auth();
+    match item.form() {
+        Form::Auth(other) => compare_fields(other, auth),
+        Form::Segment(_) => Ordering::Greater,
+        Form::Audit(_) => Ordering::Greater,
+        Form::Send(_) => Ordering::Greater,
+        Form::Ack(_) => Ordering::Greater,
+    }
+}
+
+/// Two statements, as items.
+fn compare_statements(a: &KeptStatement, b: &KeptStatement) -> Ordering
+    ensures { result ≡ by_bytes a.now.item b.now.item }
+{
+    compare_fields(a.auth(), b.auth())
+}
+
+/// A statement and a segment of shared entries.
+fn compare_statement_to_segment(statement: &KeptStatement, segment: &KeptSegment) -> Ordering
+    ensures { result ≡ by_bytes statement.now.item segment.now.item }
+{
+    segments_are_ordered_by_fields();
+    let _auth = statement.auth();
+    let _parts = segment.parts();
+    Ordering::Less
+}
+
+/// A segment of shared entries and a statement.
+fn compare_segment_to_statement(segment: &KeptSegment, statement: &KeptStatement) -> Ordering
+    ensures { result ≡ by_bytes segment.now.item statement.now.item }
+{
+    segments_are_ordered_by_fields();
+    let _auth = statement.auth();
+    let _parts = segment.parts();
+    Ordering::Greater
+}
+
 /// A segment of shared entries and a group.
 fn compare_to_group(segment: &KeptSegment, group: &Group<'_>) -> Ordering
     ensures { result ≡ group_cmp (shown_group group.now) segment.now.item.fields }
@@ -198,6 +298,7 @@ impl<P> KeptItem<P> {
         ensures { result ≡ by_bytes self.now.item item.now }
     {
         match &self.body {
+            Body::Statement(statement) => compare_statement_to_item(statement, item),
             Body::Single(checked) => checked.item().cmp(item),
             Body::Segment(segment) => compare_to_item(segment, item),
         }
@@ -208,9 +309,12 @@ impl<P> KeptItem<P> {
         ensures { result ≡ by_bytes self.now.item other.now.item }
     {
         match (&self.body, &other.body) {
-            (Body::Single(a), Body::Single(b)) => a.item().cmp(b.item()),
+            (_, Body::Single(b)) => self.compare(b.item()),
+            (Body::Statement(a), Body::Statement(b)) => compare_statements(a, b),
+            (Body::Statement(a), Body::Segment(b)) => compare_statement_to_segment(a, b),
+            (Body::Single(a), Body::Statement(b)) => compare_to_statement(a.item(), b),
             (Body::Single(a), Body::Segment(b)) => compare_to_segment(a.item(), b),
-            (Body::Segment(a), Body::Single(b)) => compare_to_item(a, b.item()),
+            (Body::Segment(a), Body::Statement(b)) => compare_segment_to_statement(a, b),
             (Body::Segment(a), Body::Segment(b)) => compare_segments(a, b),
         }
     }
@@ -220,6 +324,7 @@ impl<P> KeptItem<P> {
         ensures { result ≡ group_cmp (shown_group group.now) self.now.item.fields }
     {
         match &self.body {
+            Body::Statement(_) => Ordering::Less,
             Body::Single(checked) => checked.item().cmp_group(group),
             Body::Segment(segment) => compare_to_group(segment, group),
         }

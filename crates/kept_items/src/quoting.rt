@@ -23,7 +23,7 @@ fn last_hash(prev: Hash, handles: &[Handle]) -> Hash
 {
     match handles {
         [] => prev,
-        [.., last] => last.get().hash,
+        [.., last] => last.get().hash(),
     }
 }
 
@@ -43,10 +43,10 @@ pub(crate) fn end_of<'a>(node: NodeId, prev: Hash, handles: &[Handle], sig: &'a 
 fn quote_of(shared: &SharedEntry) -> Option<Said<'_>>
     ensures { option_map shown result ≡ told_quote shared.now.entry shared.now.quoted }
 {
-    let Some(hash) = shared.quoted else {
+    let Some(hash) = shared.quoted() else {
         return None;
     };
-    let Some(receipt) = Receipt::read(shared.entry.content.as_slice()) else {
+    let Some(receipt) = Receipt::read(shared.content()) else {
         return None;
     };
     Some(Said {

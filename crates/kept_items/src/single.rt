@@ -1,12 +1,13 @@
-//! The statements of a checked item that is no segment, lent from where they lie.
+//! What a checked item that is no segment has, lent from where it lies.
 
-ghost use Rattle.std.specs.Prelude.{◌≡◌, Some, false};
+ghost use Rattle.std.specs.Prelude.{◌≡◌, IfNone, IfSome, Some, false, true};
 ghost use Rattle.std.specs.Option.{option_map};
 ghost use Rattle.evidence_item.specs.Checking.{is_segment};
 ghost use Rattle.evidence_item.specs.Statements.{named, says};
-ghost use Rattle.kept_items.specs.Keeping.{subject};
+ghost use Rattle.kept_items.specs.Keeping.{demand, is_challenge, subject};
 ghost use Rattle.kept_items.specs.Positions.{either_at, positions, shown, stated};
 
+use crate::reach::{Demand, demand_of};
 use crate::said::Said;
 use authenticators::NodeId;
 use evidence_item::{
@@ -101,6 +102,17 @@ pub(crate) fn statement_of<P>(checked: &Checked<P>, position: u32) -> Option<Sai
     }
 }
 
+/// The item, where it is a challenge.
+pub(crate) fn challenge_of(item: &Item) -> Option<&Item>
+    ensures none { IfNone result (is_challenge item.now.fields ≡ false) }
+    ensures some { IfSome result (λ i. (i.now ≡ item.now) × (is_challenge item.now.fields ≡ true)) }
+{
+    match item.form() {
+        Form::Auth(_) | Form::Segment(_) | Form::Ack(_) => None,
+        Form::Audit(_) | Form::Send(_) => Some(item),
+    }
+}
+
 /// How many positions an item has that is no segment.
 pub(crate) fn positions_of(item: &Item) -> u32
     requires { is_segment item.now.fields ≡ false }
@@ -122,5 +134,15 @@ pub(crate) fn subject_of(item: &Item) -> Option<NodeId>
         Form::Audit(challenge) => Some(challenge.node),
         Form::Send(message) => Some(message.to),
         Form::Ack(ack) => Some(ack.message.to),
+    }
+}
+
+/// What an audit challenge demands.
+pub(crate) fn demand(item: &Item) -> Option<Demand>
+    ensures { result ≡ demand item.now.fields }
+{
+    match item.form() {
+        Form::Audit(challenge) => Some(demand_of(challenge)),
+        Form::Auth(_) | Form::Segment(_) | Form::Send(_) | Form::Ack(_) => None,
     }
 }

@@ -15,10 +15,20 @@ use crate::handle::Handle;
 use crate::item::{Body, KeptItem};
 use crate::segment::Parts;
 use containers::HasItem;
+use evidence_item::Form;
 use item_forms::laws::spellings_are_short;
-use item_forms::{entry_len, write_entry, write_framed};
+use item_forms::write_framed;
+use kept_entries::SharedEntry;
 use log_chain::FieldWriter;
 use outcome::Memory;
+
+/// How many bytes the entry has in a segment's spelling.
+fn entry_len(shared: &SharedEntry) -> usize
+    requires { FitsShared shared.now }
+    ensures { result ≡ length (shared_spelling shared.now) }
+{
+    13 + shared.content().len()
+}
 
 /// How many bytes the entries have in a segment's spelling.
 fn entries_len(handles: &[Handle]) -> usize
@@ -28,9 +38,20 @@ fn entries_len(handles: &[Handle]) -> usize
 {
     let mut len = 0;
     for handle in handles {
-        len += entry_len(&handle.get().entry);
+        len += entry_len(handle.get());
     }
     len
+}
+
+/// The entry, as a segment's spelling has it.
+fn write_entry(writer: &mut FieldWriter, shared: &SharedEntry) -> Result<(), Memory>
+    requires { FitsShared shared.now }
+    ensures { OnOk result (writer.new ≡ writer.old ++ shared_spelling shared.now) }
+{
+    writer.u64(shared.seq())?;
+    writer.u8(shared.kind())?;
+    writer.bytes(shared.content())?;
+    Ok(())
 }
 
 fn write_each(writer: &mut FieldWriter, handles: &[Handle]) -> Result<(), Memory>
@@ -38,7 +59,7 @@ fn write_each(writer: &mut FieldWriter, handles: &[Handle]) -> Result<(), Memory
     ensures { OnOk result (writer.new ≡ writer.old ++ flat_map shared_spelling handles.now) }
 {
     for handle in handles {
-        write_entry(writer, &handle.get().entry)?;
+        write_entry(writer, handle.get())?;
     }
     Ok(())
 }
@@ -89,6 +110,7 @@ impl<P> HasItem for KeptItem<P> {
 
     fn encoded_len(&self) -> usize {
         match &self.body {
+            Body::Statement(statement) => Form::Auth(statement.auth()).encoded_len(),
             Body::Single(checked) => checked.item().encoded_len(),
             Body::Segment(segment) => segment_len(&segment.parts()),
         }
@@ -96,6 +118,7 @@ impl<P> HasItem for KeptItem<P> {
 
     fn write(&self, writer: &mut FieldWriter) -> Result<(), Memory> {
         match &self.body {
+            Body::Statement(statement) => write_framed(writer, Form::Auth(statement.auth())),
             Body::Single(checked) => write_framed(writer, checked.item().form()),
             Body::Segment(segment) => write_framed_segment(writer, &segment.parts()),
         }

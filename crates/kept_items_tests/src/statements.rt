@@ -121,6 +121,60 @@ fn what_items_tell_of_their_node(rt: HostRuntime) -> Result<(), Fail> {
     Ok(())
 }
 
+/// What an item demands, and where demands begin that it can answer, by the first four positions.
+#[derive(Clone, Copy, Debug, PartialEq, Eq)]
+struct Opens {
+    demand: Option<(u64, u64)>,
+    openings: [Option<u64>; 4],
+}
+
+fn opens(kept: &KeptItem<Tally>) -> Opens {
+    Opens {
+        demand: kept.demand().map(|demand| (demand.opening, demand.last)),
+        openings: [
+            kept.opening(0),
+            kept.opening(1),
+            kept.opening(2),
+            kept.opening(3),
+        ],
+    }
+}
+
+fn all_opens(alloc: Global) -> Result<Vec<Opens>, Fail> {
+    let kept = keep_all(alloc)?;
+    let mut all = Vec::new(alloc);
+    for one in &kept.kept {
+        all.push(opens(one))?;
+    }
+    Ok(all)
+}
+
+const fn at(openings: [Option<u64>; 4]) -> Opens {
+    Opens {
+        demand: None,
+        openings,
+    }
+}
+
+#[test]
+fn demands_begin_above_numbers(rt: HostRuntime) -> Result<(), Fail> {
+    // Node 2's log has the numbers 1, 2 and 3; the segment whose numbers do not rise has 1, 3 and 3.
+    let wanted = [
+        at([None; 4]),
+        at([Some(0), Some(2), Some(3), Some(4)]),
+        at([Some(0), Some(2), Some(3), None]),
+        at([Some(0), Some(2), Some(4), Some(4)]),
+        Opens {
+            demand: Some((0, 3)),
+            openings: [None; 4],
+        },
+        at([None; 4]),
+        at([None; 4]),
+    ];
+    assert!(rt; all_opens(rt.alloc())?.as_slice() == wanted.as_slice());
+    Ok(())
+}
+
 fn said(seq: u64, hash: Hash, sig: &[u8]) -> Said<'_> {
     Said {
         node: NodeId(2),

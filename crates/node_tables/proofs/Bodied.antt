@@ -72,28 +72,28 @@ not_open items j n c here never (d, at, h) =
 module _ (items : List Checked) (n : ℕ) (t u : Table) where
   closing_step : u.node ≡ t.node → u.rows ≡ t.rows → u.receipts ≡ t.receipts → (j : ℕ) → t.node ≡ j
       → ((i : ℕ) → Stands u.spans.items i ↔ (Stands t.spans.items i ⊎ ((i ≡ n) × IsSegmentAt items t.node n)))
-      → (IsOpenAt items t.node n → ⊥) → u.unanswered.items ≡ filter (λ i. not (answers_at items i n)) t.unanswered.items → BodyStep items n t u
+      → (IsOpenAt items t.node n → ⊥) → u.unanswered.places.items ≡ filter (λ i. not (answers_at items i n)) t.unanswered.places.items → BodyStep items n t u
   closing_step node rows receipts j own stands closed_here is = record {
     node = node;
     rows = rows;
     receipts = receipts;
     stands = stands;
-    unanswered = λ i. let c = closed items n t.unanswered.items u.unanswered.items is i in (
+    unanswered = λ i. let c = closed items n t.unanswered.places.items u.unanswered.places.items is i in (
       λ has. inl (c.0 has),
       λ h. ⊎_elim (λ old. c.1 old) (λ (e : (i ≡ n) × IsOpenAt items t.node n). absurd (closed_here e.1)) h,
     );
   }
 
-  pub segment_closes : (v : Table) → SegmentStep items n t v → IsSegmentAt items t.node n → u.node ≡ v.node → u.rows ≡ v.rows → u.receipts ≡ v.receipts → u.spans ≡ v.spans → u.unanswered.items ≡ filter (λ i. not (answers_at items i n)) v.unanswered.items → BodyStep items n t u
+  pub segment_closes : (v : Table) → SegmentStep items n t v → IsSegmentAt items t.node n → u.node ≡ v.node → u.rows ≡ v.rows → u.receipts ≡ v.receipts → u.spans ≡ v.spans → u.unanswered.places.items ≡ filter (λ i. not (answers_at items i n)) v.unanswered.places.items → BodyStep items n t u
   segment_closes v step segment node rows receipts spans is = closing_step (node ∙ step.node) (rows ∙ step.rows) (receipts ∙ step.receipts) t.node refl
       (λ i. subst (λ w. Stands w.items i ↔ (Stands t.spans.items i ⊎ ((i ≡ n) × IsSegmentAt items t.node n))) (sym spans) (
         λ h. ⊎_elim (λ old. inl old) (λ new. inr (new, segment)) ((step.stands i).0 h),
         λ h. (step.stands i).1 (⊎_elim (λ old. inl old) (λ (e : (i ≡ n) × IsSegmentAt items t.node n). inr e.0) h),
       ))
       (not_open items t.node n segment.0 segment.1 (not_against_segment t.node t.node segment.0.item.fields segment.2))
-      (is ∙ ap (λ w. filter (λ i. not (answers_at items i n)) w.items) step.unanswered)
+      (is ∙ ap (λ w. filter (λ i. not (answers_at items i n)) w.places.items) step.unanswered)
 
-  pub ack_closes : IsAckAt items n → u.node ≡ t.node → u.rows ≡ t.rows → u.receipts ≡ t.receipts → u.spans ≡ t.spans → u.unanswered.items ≡ filter (λ i. not (answers_at items i n)) t.unanswered.items → BodyStep items n t u
+  pub ack_closes : IsAckAt items n → u.node ≡ t.node → u.rows ≡ t.rows → u.receipts ≡ t.receipts → u.spans ≡ t.spans → u.unanswered.places.items ≡ filter (λ i. not (answers_at items i n)) t.unanswered.places.items → BodyStep items n t u
   ack_closes (c, here, ack) node rows receipts spans is = closing_step node rows receipts t.node refl
       (λ i. (
         λ h. inl (subst (λ w. Stands w.items i) spans h),
@@ -170,7 +170,7 @@ module _ (items : List Checked) (n : ℕ) (t : Table) (c : Checked) (here : slic
     );
   }
 
-  module _ (u : Table) (node : u.node ≡ t.node) (rows : u.rows ≡ t.rows) (receipts : u.receipts ≡ t.receipts) (spans : u.spans ≡ t.spans) (unanswered : (i : ℕ) → Contains u.unanswered.items i ↔ (Contains t.unanswered.items i ⊎ (i ≡ n))) where
+  module _ (u : Table) (node : u.node ≡ t.node) (rows : u.rows ≡ t.rows) (receipts : u.receipts ≡ t.receipts) (spans : u.spans ≡ t.spans) (unanswered : (i : ℕ) → Contains u.unanswered.places.items i ↔ (Contains t.unanswered.places.items i ⊎ (i ≡ n))) where
     pub open_step : is_answered items c.item.fields ≡ false → BodyStep items n t u
     open_step not_so = record {
       node = node;
@@ -179,7 +179,7 @@ module _ (items : List Checked) (n : ℕ) (t : Table) (c : Checked) (here : slic
       stands = λ i. subst (λ v. Stands v.items i ↔ (Stands t.spans.items i ⊎ ((i ≡ n) × IsSegmentAt items t.node n))) (sym spans) (stands_still i);
       unanswered = λ i. (
         λ has. ⊎_elim (λ old. inl (old, nothing_answered i)) (λ new. inr (new, (c, here, open_so (is_against t.node c.item.fields) (is_answered items c.item.fields) against not_so))) ((unanswered i).0 has),
-        λ h. (unanswered i).1 (⊎_elim (λ (old : Contains t.unanswered.items i × (answers_at items i n ≡ false)). inl old.0) (λ (e : (i ≡ n) × IsOpenAt items t.node n). inr e.0) h),
+        λ h. (unanswered i).1 (⊎_elim (λ (old : Contains t.unanswered.places.items i × (answers_at items i n ≡ false)). inl old.0) (λ (e : (i ≡ n) × IsOpenAt items t.node n). inr e.0) h),
       );
     }
 
@@ -204,7 +204,7 @@ false_by true h = absurd (h refl)
 false_by false h = refl
 
 -- Nothing comes to the table of another node.
-pub body_still : (items : List Checked) (n : ℕ) (t : Table) (c : Checked) → slice_get items n ≡ Some c → (subject c.item.fields ≡ Some t.node → ⊥) → ((i : ℕ) → Contains t.unanswered.items i → IsAgainstAt items t.node i) → BodyStep items n t t
+pub body_still : (items : List Checked) (n : ℕ) (t : Table) (c : Checked) → slice_get items n ≡ Some c → (subject c.item.fields ≡ Some t.node → ⊥) → ((i : ℕ) → Contains t.unanswered.places.items i → IsAgainstAt items t.node i) → BodyStep items n t t
 body_still items n t c here other against = record {
   node = refl;
   rows = refl;

@@ -4,6 +4,7 @@ use Rattle.std.specs.Prelude.{◌↔◌, ◌||◌, slice_get, map}
 use Rattle.std.specs.List.{Contains, list_any}
 use Rattle.std.proofs.lemmas.Option.{same_Some}
 use Rattle.authenticators.specs.declared.authenticator.Authenticator.{Authenticator}
+use Rattle.item_forms.specs.declared.forms.AuditChallenge.{AuditChallenge}
 use Rattle.evidence_item.specs.Checking.{Checked}
 use Rattle.node_tables.specs.declared.exposure.ExposingPlaces.{ExposingPlaces}
 use Rattle.node_tables.specs.declared.exposure.ExposingPlaces.TheVariants as exposure
@@ -12,7 +13,7 @@ use Rattle.node_tables.specs.declared.span.Span.{Span}
 use Rattle.node_tables.specs.declared.table.Table.{Table}
 use Rattle.node_tables.specs.Receipts.{AscendBySending}
 use Rattle.node_tables.specs.Rows.{AreRowsOf, stated_at, stated_by}
-use Rattle.node_tables.specs.Tables.{AreSpans, DoNotFall, IsSpan, IsTold, IsUpToDate, Names, Says, denied_by, denies_at, deviates_at, deviating}
+use Rattle.node_tables.specs.Tables.{AreSpans, IsSpan, IsTold, IsUpToDate, Names, Says, denied_by, denies_at, deviates_at, deviating, shown_by, shows_at}
 use Rattle.node_tables.proofs.RowLists.{row_names}
 use Rattle.node_tables.proofs.Told.{held_says}
 
@@ -77,13 +78,18 @@ module _ (items : List Checked) (x : Checked) where
   denies_more : (j : ℕ) (p : Span) → IsSpan items j p → (a : Authenticator) → denies_at more a p.item ≡ denies_at items a p.item
   denies_more j p is a = let (c, at, of) = is.segment in ap (λ (o : Option Checked). denied_by o a) (still_at items x p.item c at) ∙ sym (ap (λ (o : Option Checked). denied_by o a) at)
 
+  shows_more : (j : ℕ) (p : Span) → IsSpan items j p → (d : AuditChallenge) → shows_at more d p.item ≡ shows_at items d p.item
+  shows_more j p is d = let (c, at, of) = is.segment in ap (λ (o : Option Checked). shown_by o d) (still_at items x p.item c at) ∙ sym (ap (λ (o : Option Checked). shown_by o d) at)
+
   deviates_more : (j : ℕ) (p : Span) → IsSpan items j p → deviates_at more p.item ≡ deviates_at items p.item
   deviates_more j p is = let (c, at, of) = is.segment in ap deviating (still_at items x p.item c at) ∙ sym (ap deviating at)
 
   span_more : (j : ℕ) (p : Span) → IsSpan items j p → IsSpan more j p
   span_more j p is = record {
     segment = let (c, at, of) = is.segment in (c, still_at items x p.item c at, of);
+    fits = is.fits;
     reach = λ a h. is.reach a (sym (denies_more j p is a) ∙ h);
+    covers = λ d h. is.covers d (sym (shows_more j p is d) ∙ h);
   }
 
   module _ (j : ℕ) (held : List Authenticator) (spans : List Span) (all : AreSpans items j spans) where
@@ -107,7 +113,6 @@ module _ (items : List Checked) (x : Checked) where
     rows = subst (λ (l : List Row). AreRowsOf more l told.held) (sym rows) (map_still t.rows.items told.held told.rows);
     ascending = told.ascending;
     own = λ a has. told.own a has ∙ sym node;
-    by_low = subst DoNotFall (sym spans) told.by_low;
     receipts = subst AscendBySending (sym receipts) told.receipts;
     spans = λ p has. subst (λ n. IsSpan more n p) (sym node) (span_more t.node p (told.spans p (subst (λ (l : List Span). Contains l p) spans has)));
     told = subst (λ (l : List Span). IsUpToDate more told.held l u.exposure) (sym spans) (subst (IsUpToDate more told.held t.spans.items) (sym exposure) (told_more t.node told.held t.spans.items told.spans t.exposure told.told));

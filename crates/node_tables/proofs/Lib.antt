@@ -3,13 +3,14 @@ pub mod Again
 pub mod Alike
 pub mod Answerers
 pub mod Asked
+pub mod Audited
 pub mod Beside
 pub mod Between
 pub mod Bodied
+pub mod Demands
 pub mod Edges
 pub mod Grown
 pub mod Joined
-pub mod Lates
 pub mod Lookup
 pub mod Many
 pub mod Meant
@@ -24,6 +25,7 @@ pub mod RowLists
 pub mod Searching
 pub mod Segmented
 pub mod Sendings
+pub mod Spanned
 pub mod Spans
 pub mod Stated
 pub mod Stepping

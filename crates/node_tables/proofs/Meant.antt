@@ -184,12 +184,12 @@ module _ {S : Type 0} (ds : Listing) (program : Meaning S) (differ : DeviatingLi
     pub open_same : (y : Fields) → is_unanswered is.kept t.node y ≡ is_unanswered items t.node y
     open_same y = ap (λ b. is_against t.node y && not b) (answered_same y)
 
-    some_open : (i : ℕ) → Contains t.unanswered.items i → SomeItem (set_of is.kept) (IsUnanswered ds (set_of is.kept) t.node)
+    some_open : (i : ℕ) → Contains t.unanswered.places.items i → SomeItem (set_of is.kept) (IsUnanswered ds (set_of is.kept) t.node)
     some_open i has =
         let (c, at, h) = (table.unanswered i).0 has in
         (suspected_decides ds is.kept t.node found).0 (one_suffices (λ (k : Checked). is_unanswered is.kept t.node k.item.fields) is.kept c (is.covers c (contains_at items i c at)) (open_same c.item.fields ∙ h))
 
-    open_some : SomeItem (set_of is.kept) (IsUnanswered ds (set_of is.kept) t.node) → (i : ℕ) × Contains t.unanswered.items i
+    open_some : SomeItem (set_of is.kept) (IsUnanswered ds (set_of is.kept) t.node) → (i : ℕ) × Contains t.unanswered.places.items i
     open_some some =
         let one = some_passes (λ (k : Checked). is_unanswered is.kept t.node k.item.fields) is.kept ((suspected_decides ds is.kept t.node found).1 some) in
         let (i, at) = at_contains items one.0 (kept_items items order is one.0 one.1) in
@@ -208,17 +208,17 @@ module _ {S : Type 0} (ds : Listing) (program : Meaning S) (differ : DeviatingLi
     -- What the table tells is the indication of its node.
     pub tells_is : (r : Indication) → Tells t r → IsIndication ds program (set_of items) t.node r
     tells_is Exposed (e, some) = exposed_by e some
-    tells_is Suspected (none, some) = (unexposed_by none, let (i, has) = first_of t.unanswered.items some in subst IsSuspected same_set (some_open i has))
-    tells_is Trusted (none, empty) = (unexposed_by none, λ some. let (i, has) = open_some (subst IsSuspected (sym same_set) some) in none_in t.unanswered.items i empty has)
+    tells_is Suspected (none, some) = (unexposed_by none, let (i, has) = first_of t.unanswered.places.items some in subst IsSuspected same_set (some_open i has))
+    tells_is Trusted (none, empty) = (unexposed_by none, λ some. let (i, has) = open_some (subst IsSuspected (sym same_set) some) in none_in t.unanswered.places.items i empty has)
 
     -- ---- the list of them
 
     abbrev IsOpen : Piece → Type 0
     IsOpen x = Has (set_of items) x × IsUnanswered ds (set_of items) t.node x.fields
 
-    named_open : (c : Checked) → Contains table.asked.named c → IsOpen c.item
+    named_open : (c : Checked) → Contains table.asked.spelled.named c → IsOpen c.item
     named_open c has =
-        let (i, in_places, at) = named_by (slice_get items) t.unanswered.items table.asked.named c table.asked.names has 0 in
+        let (i, in_places, at) = named_by (slice_get items) t.unanswered.places.items table.asked.spelled.named c table.asked.spelled.names has 0 in
         let (d, there, h) = (table.unanswered i).0 in_places in
         let same : d ≡ c = same_Some d c (sym there ∙ at) in
         let is_open : is_unanswered is.kept t.node c.item.fields ≡ true = open_same c.item.fields ∙ subst (λ (k : Checked). is_unanswered items t.node k.item.fields ≡ true) same h in (
@@ -226,13 +226,13 @@ module _ {S : Type 0} (ds : Listing) (program : Meaning S) (differ : DeviatingLi
           subst (λ (E : Items). IsUnanswered ds E t.node c.item.fields) same_set ((unanswered_decides ds is.kept t.node c.item.fields found).0 is_open),
         )
 
-    open_named : (x : Piece) → IsOpen x → (c : Checked) × Contains table.asked.named c × (c.item ≡ x)
+    open_named : (x : Piece) → IsOpen x → (c : Checked) × Contains table.asked.spelled.named c × (c.item ≡ x)
     open_named x (has, unanswered) =
         let (c, in_items, is_x) = (set_has items x).0 has in
         let (i, at) = at_contains items c in_items in
         let h : is_unanswered is.kept t.node x.fields ≡ true = (unanswered_decides ds is.kept t.node x.fields found).1 (subst (λ (E : Items). IsUnanswered ds E t.node x.fields) (sym same_set) unanswered) in
         let open_c : is_unanswered items t.node c.item.fields ≡ true = sym (open_same c.item.fields) ∙ ap (λ (y : Piece). is_unanswered is.kept t.node y.fields) is_x ∙ h in
-        (c, row_names (slice_get items) t.unanswered.items table.asked.named i c table.asked.names ((table.unanswered i).1 (c, at, open_c)) at, is_x)
+        (c, row_names (slice_get items) t.unanswered.places.items table.asked.spelled.named i c table.asked.spelled.names ((table.unanswered i).1 (c, at, open_c)) at, is_x)
 
     in_pieces : (xs : List Checked) (c : Checked) → Contains xs c → Contains (pieces xs) c.item
     in_pieces xs c (k, inside, is_c) = (k, omega (arith, inside, length-map xs (λ (d : Checked). d.item)), get_or-map (λ (d : Checked). d.item) xs k c c.item inside ∙ ap (λ (d : Checked). d.item) is_c)
@@ -244,12 +244,12 @@ module _ {S : Type 0} (ds : Listing) (program : Meaning S) (differ : DeviatingLi
         (c, Contains-get_or xs k (bare x) within, sym (get_or-map (λ (d : Checked). d.item) xs k (bare x) x within) ∙ is_x)
 
     -- The challenges that stand in the table, in its order, are those that no item of the set answers.
-    pub open_members : (listed : List Piece) → listed ≡ pieces table.asked.named → (x : Piece) → Contains listed x ↔ IsOpen x
+    pub open_members : (listed : List Piece) → listed ≡ pieces table.asked.spelled.named → (x : Piece) → Contains listed x ↔ IsOpen x
     open_members listed is_listed x = subst (λ (l : List Piece). Contains l x ↔ IsOpen x) (sym is_listed) (
-      λ has. let (c, in_named, is_x) = of_pieces table.asked.named x has in subst IsOpen is_x (named_open c in_named),
-      λ opens. let (c, in_named, is_x) = open_named x opens in subst (Contains (pieces table.asked.named)) is_x (in_pieces table.asked.named c in_named),
+      λ has. let (c, in_named, is_x) = of_pieces table.asked.spelled.named x has in subst IsOpen is_x (named_open c in_named),
+      λ opens. let (c, in_named, is_x) = open_named x opens in subst (Contains (pieces table.asked.spelled.named)) is_x (in_pieces table.asked.spelled.named c in_named),
     )
 
     -- They ascend.
-    pub open_ascend : (listed : List Piece) → listed ≡ pieces table.asked.named → IsStrictlySortedBy by_bytes listed
-    open_ascend listed is_listed = subst (IsStrictlySortedBy by_bytes) (sym is_listed) (pieces_ascend table.asked.named table.asked.ascending)
+    pub open_ascend : (listed : List Piece) → listed ≡ pieces table.asked.spelled.named → IsStrictlySortedBy by_bytes listed
+    open_ascend listed is_listed = subst (IsStrictlySortedBy by_bytes) (sym is_listed) (pieces_ascend table.asked.spelled.named table.asked.spelled.ascending)

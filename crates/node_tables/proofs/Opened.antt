@@ -21,22 +21,21 @@ use Rattle.node_tables.specs.Indexed.{HasNode, IsIndexed, IsTable}
 use Rattle.node_tables.specs.Receipts.{AscendBySending, by_sending}
 use Rattle.node_tables.specs.Rows.{AreRowsOf}
 use Rattle.node_tables.specs.Steps.{AllTables, AscendByNode, by_node}
-use Rattle.node_tables.specs.Places.{AscendBySpelling}
-use Rattle.node_tables.specs.Tables.{AreSpans, DoNotFall, IsUpToDate}
+use Rattle.node_tables.specs.Places.{AscendBySpelling, RiseByDemand}
+use Rattle.node_tables.specs.Tables.{AreSpans, IsUpToDate}
 use Rattle.node_tables.proofs.Lookup.{found}
 use Rattle.node_tables.proofs.Places.{at_contains, contains_at}
 use Rattle.node_tables.proofs.Stepping.{by_node_total}
 
 -- A table with nothing says what no items say.
-pub empty_table : (t : Table) → t.rows.items ≡ [] → t.receipts.items ≡ [] → t.spans.items ≡ [] → t.unanswered.items ≡ [] → t.exposure ≡ None → IsTable [] t
-empty_table t rows receipts spans unanswered exposure = record {
+pub empty_table : (t : Table) → t.rows.items ≡ [] → t.receipts.items ≡ [] → t.spans.items ≡ [] → t.unanswered.places.items ≡ [] → t.unanswered.audits.items ≡ [] → t.exposure ≡ None → IsTable [] t
+empty_table t rows receipts spans unanswered audits exposure = record {
   told = record {
     held = [];
     rows = subst (λ (l : List Row). AreRowsOf [] l []) (sym rows) refl;
     ascending = sorted-nil by_fields;
     own = λ a has. absurd (none_here a has);
     spans = subst (λ (l : List Span). AreSpans [] t.node l) (sym spans) (λ p has. absurd (none_here p has));
-    by_low = subst DoNotFall (sym spans) (λ i j d le inside. absurd (omega (arith, inside)));
     receipts = subst AscendBySending (sym receipts) (sorted-nil by_sending);
     told = subst (IsUpToDate [] [] t.spans.items) (sym exposure) (record {
       one_hash = λ a b in_a in_b clash. absurd (none_here a in_a);
@@ -51,7 +50,12 @@ empty_table t rows receipts spans unanswered exposure = record {
   receipts = λ s. (λ h. absurd (none_here s (subst (λ (l : List Sending). Contains l s) receipts h)), λ h. absurd cc);
   stands = λ i. (λ h. absurd (none_here h.0 (subst (λ (l : List Span). Contains l h.0) spans h.1)), λ h. absurd cc);
   unanswered = λ i. (λ h. absurd (none_here i (subst (λ (l : List ℕ). Contains l i) unanswered h)), λ h. absurd cc);
-  asked = subst (AscendBySpelling []) (sym unanswered) (record { named = []; names = refl; ascending = sorted-nil by_item });
+  asked = record {
+    spelled = subst (AscendBySpelling []) (sym unanswered) (record { named = []; names = refl; ascending = sorted-nil by_item });
+    rising = subst (RiseByDemand []) (sym audits) (λ i j d le inside. absurd (omega (arith, inside)));
+    there = λ i has. absurd (none_here i (subst (λ (l : List ℕ). Contains l i) audits has));
+    audits = λ i d has is. absurd (none_here i (subst (λ (l : List ℕ). Contains l i) unanswered has));
+  };
 }
 
 module _ (tables : List Table) (up : AscendByNode tables) (t : Table) where

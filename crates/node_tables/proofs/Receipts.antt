@@ -1,7 +1,8 @@
 -- What a segment answers: send challenges by the messages that it quotes, and audit challenges.
 use Rattle.std.proofs.Common.{◌≡◌, ℕ, zero, suc, ◌+◌, ◌-◌, ◌<◌, ◌≤◌, Bool, true, false, cond, not, List, [], ◌∷◌, length, map, Option, Some, None, refl, sym, ap, subst, ◌∙◌, ◌⊎◌, inl, inr, ⊎_elim, arith}
 use Rattle.std.specs.Prelude.{◌==◌, ◌&&◌, ◌||◌, slice_get}
-use Rattle.std.specs.List.{filter}
+use Rattle.kept_evidence.proofs.Members.{passing}
+use Rattle.std.specs.List.{Contains, filter}
 use Rattle.std.specs.Ordering.{is_eq}
 use Rattle.std.proofs.lemmas.Bool.{cases_lt}
 use Rattle.std.proofs.lemmas.Bool.Decides.{Decides-eqb}
@@ -247,7 +248,7 @@ module _ (j : ℕ) (d : Checked) (own : IsSegmentOf j d.item.fields) where
 
 -- ---- lists without what is answered
 
-both_filters : {X : Type 0} (p q : X → Bool) (xs : List X) → filter (λ x. not (q x)) (filter (λ x. not (p x)) xs) ≡ filter (λ x. not (p x || q x)) xs
+pub both_filters : {X : Type 0} (p q : X → Bool) (xs : List X) → filter (λ x. not (q x)) (filter (λ x. not (p x)) xs) ≡ filter (λ x. not (p x || q x)) xs
 both_filters p q [] = refl
 both_filters p q (x ∷ xs) = by_head (p x) (both_filters p q xs)
   where
@@ -295,6 +296,10 @@ module _ (items : List Checked) where
       let q : ℕ → Bool = λ i. is_among (received j (stated_in d.item.fields d.findings (suc n))) (slice_get items i) in
       let here : new ≡ filter (λ i. not (q i)) mid = subst (λ k. new ≡ filter (λ i. not (is_among (received j (stated_in d.item.fields d.findings k)) (slice_get items i))) mid) (sym at) last in
       subst (λ k. new ≡ filter (λ i. not (is_received j d.item.fields d.findings k (slice_get items i))) old) at (here ∙ ap (λ l. filter (λ i. not (q i)) l) first ∙ both_filters p q old)
+
+  -- What stays was there.
+  pub still_here : (j : ℕ) (d : Checked) (old new : List ℕ) → new ≡ filter (λ i. not (is_received j d.item.fields d.findings (positions d.item.fields - 1) (slice_get items i))) old → (i : ℕ) → Contains new i → Contains old i
+  still_here j d old new is i has = (passing (λ (k : ℕ). not (is_received j d.item.fields d.findings (positions d.item.fields - 1) (slice_get items k))) old i (subst (λ (l : List ℕ). Contains l i) is has)).0
 
   -- What a segment takes in two steps is what it answers.
   pub segment_takes : (j n : ℕ) (d : Checked) → slice_get items n ≡ Some d → IsSegmentAt items j n → (old mid new : List ℕ)

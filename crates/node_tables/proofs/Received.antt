@@ -25,7 +25,7 @@ use Rattle.node_tables.specs.Indexed.{AreReceipts}
 use Rattle.node_tables.specs.Receipts.{AscendBySending, IsReceived, by_sending, receipt_at, receipt_by, receipt_in, received}
 use Rattle.node_tables.specs.Rows.{AreRowsOf, stated_at, stated_by}
 use Rattle.node_tables.specs.Steps.{AllTables, EachBecomes, room}
-use Rattle.node_tables.specs.Tables.{DoNotFall, IsSpan, IsTold, IsUpToDate, Says}
+use Rattle.node_tables.specs.Tables.{IsSpan, IsTold, IsUpToDate, Says}
 use Rattle.node_tables.specs.within.Bringing.{ReceiptStep, RowStep, StatementStep, StatementsStep}
 use Rattle.node_tables.specs.within.Placing.{AreOtherReceipts, BodyStep}
 use Rattle.node_tables.proofs.Grown.{at_cases, still_at}
@@ -167,7 +167,6 @@ told_receipts items t u node rows spans exposure up told = record {
   ascending = told.ascending;
   own = λ a has. told.own a has ∙ sym node;
   spans = λ p has. subst (λ n. IsSpan items n p) (sym node) (told.spans p (subst (λ v. Contains v.items p) spans has));
-  by_low = subst (λ v. DoNotFall v.items) (sym spans) told.by_low;
   receipts = up;
   told = subst (λ v. IsUpToDate items told.held v.items u.exposure) (sym spans) (subst (IsUpToDate items told.held t.spans.items) (sym exposure) told.told);
 }

@@ -1,6 +1,6 @@
 -- Room for the statements of an item, and for what it is beside them; promises, and taking them back.
 use Rattle.std.proofs.Common.{◌≡◌, ◌≢◌, ℕ, zero, suc, ◌+◌, ◌-◌, ◌≤◌, ◌==◌, min, Bool, true, false, List, [], ◌∷◌, ◌++◌, get_or, Option, Some, None, Result, Ok, Err, refl, sym, ap, subst, ◌∙◌, ⊎_elim, arith}
-use Rattle.std.specs.Prelude.{◌<◌, if◌then◌else◌, OnErr, OnOk, slice_get, slice_set, vec_capacity, vec_len}
+use Rattle.std.specs.Prelude.{◌<◌, if◌then◌else◌, OnErr, OnOk, slice_get, slice_set}
 use Rattle.std.specs.List.{Contains}
 use Rattle.std.proofs.lemmas.Bool.{cases_lt}
 use Rattle.std.proofs.lemmas.Bool.Decides.{Decides-eqb}
@@ -13,7 +13,7 @@ use Rattle.tiered_vec.specs.Tiers.{Tiered}
 use Rattle.node_tables.specs.declared.row.Row.{Row}
 use Rattle.node_tables.specs.declared.sending.Sending.{Sending}
 use Rattle.node_tables.specs.declared.table.Table.{Table}
-use Rattle.node_tables.specs.Places.{bodies, is_subject, open_room, span_room}
+use Rattle.node_tables.specs.Places.{asked_room, bodies, is_subject, open_room, span_room}
 use Rattle.node_tables.specs.Rows.{stated_by}
 use Rattle.node_tables.specs.Rooms.{AreMany, AreReady, HasRoomFor, HasRoomForAll, IsReady, IsReleased, IsRoomier, ItemRooms, KeepsPromises, bodies_of, rows_of, sum_of}
 use Rattle.node_tables.specs.Steps.{AscendByNode, EachBecomes, position_of, room, wanted}
@@ -24,7 +24,7 @@ use Rattle.node_tables.proofs.Places.{contains_at}
 use Rattle.node_tables.proofs.Stepping.{becomes_set, distinct}
 
 pub roomier_still : (t : Table) → IsRoomier t t
-roomier_still t = record { node = refl; rows = refl; receipts = refl; spans = refl; unanswered = refl; exposure = refl; room = omega arith; span_room = omega arith; open_room = omega arith }
+roomier_still t = record { node = refl; rows = refl; receipts = refl; spans = refl; unanswered = refl; audits = refl; exposure = refl; room = omega arith; span_room = omega arith; open_room = omega arith }
 
 pub roomier_then : (t u v : Table) → IsRoomier t u → IsRoomier u v → IsRoomier t v
 roomier_then t u v a b = record {
@@ -33,6 +33,7 @@ roomier_then t u v a b = record {
   receipts = b.receipts ∙ a.receipts;
   spans = b.spans ∙ a.spans;
   unanswered = b.unanswered ∙ a.unanswered;
+  audits = b.audits ∙ a.audits;
   exposure = b.exposure ∙ a.exposure;
   room = omega (arith, a.room, b.room);
   span_room = omega (arith, a.span_room, b.span_room);
@@ -329,41 +330,20 @@ room_for_all xs t u many =
       unanswered = subst (λ n. sum_of bodies_of xs n ≤ open_room u) (sym same) (at_most (sum_of bodies_of xs t.node) t.bodies (open_room u) many.unanswered);
     }
 
--- room for the last of them, and behind it for the others
-pub room_for_last : (xs : List Checked) (x : Checked) (u : Table) → HasRoomForAll (xs ++ x ∷ []) u → HasRoomFor x u
-room_for_last xs x u all =
-    let rows = sum_push rows_of xs x u.node in
-    let others = sum_push bodies_of xs x u.node in
-    record {
-      statements = omega (arith, rows, all.rows);
-      body = λ own.
-          let e : bodies_of x u.node ≡ 1 = subject_is (subject x.item.fields) u.node own in
-          record { spans = omega (arith, e, others, all.spans); unanswered = omega (arith, e, others, all.unanswered) };
-    }
+-- room for the first of them, and behind it for the others
+pub room_for_first : (x : Checked) (xs : List Checked) (u : Table) → HasRoomForAll (x ∷ xs) u → HasRoomFor x u
+room_for_first x xs u all = record {
+  statements = omega (arith, all.rows);
+  body = λ own.
+      let e : bodies_of x u.node ≡ 1 = subject_is (subject x.item.fields) u.node own in
+      record { spans = omega (arith, e, all.spans); unanswered = omega (arith, e, all.unanswered) };
+}
 
-pub room_for_others : (xs : List Checked) (x : Checked) (t u : Table) → HasRoomForAll (xs ++ x ∷ []) t → ItemRooms x t u → HasRoomForAll xs u
-room_for_others xs x t u all step =
-    let rows = sum_push rows_of xs x t.node in
-    let others = sum_push bodies_of xs x t.node in
-    record {
-      rows = subst (λ n. sum_of rows_of xs n ≤ room u) (sym step.node) (omega (arith, rows, all.rows, step.rows));
-      spans = subst (λ n. sum_of bodies_of xs n ≤ span_room u) (sym step.node) (omega (arith, others, all.spans, step.spans));
-      unanswered = subst (λ n. sum_of bodies_of xs n ≤ open_room u) (sym step.node) (omega (arith, others, all.unanswered, step.unanswered));
-    }
-
--- an item that was there takes nothing
-pub room_for_fewer : (xs : List Checked) (x : Checked) (u : Table) → HasRoomForAll (xs ++ x ∷ []) u → HasRoomForAll xs u
-room_for_fewer xs x u all =
-    let rows = sum_push rows_of xs x u.node in
-    let others = sum_push bodies_of xs x u.node in
-    record { rows = omega (arith, rows, all.rows); spans = omega (arith, others, all.spans); unanswered = omega (arith, others, all.unanswered) }
-
--- more room serves as well
-pub room_roomier : (xs : List Checked) (t u : Table) → HasRoomForAll xs t → IsRoomier t u → HasRoomForAll xs u
-room_roomier xs t u all same = record {
-  rows = subst (λ n. sum_of rows_of xs n ≤ room u) (sym same.node) (omega (arith, all.rows, same.room));
-  spans = subst (λ n. sum_of bodies_of xs n ≤ span_room u) (sym same.node) (omega (arith, all.spans, same.span_room));
-  unanswered = subst (λ n. sum_of bodies_of xs n ≤ open_room u) (sym same.node) (omega (arith, all.unanswered, same.open_room));
+pub room_for_rest : (x : Checked) (xs : List Checked) (t u : Table) → HasRoomForAll (x ∷ xs) t → ItemRooms x t u → HasRoomForAll xs u
+room_for_rest x xs t u all step = record {
+  rows = subst (λ n. sum_of rows_of xs n ≤ room u) (sym step.node) (omega (arith, all.rows, step.rows));
+  spans = subst (λ n. sum_of bodies_of xs n ≤ span_room u) (sym step.node) (omega (arith, all.spans, step.spans));
+  unanswered = subst (λ n. sum_of bodies_of xs n ≤ open_room u) (sym step.node) (omega (arith, all.unanswered, step.unanswered));
 }
 
 -- ---- what is taken of the rooms
@@ -390,8 +370,8 @@ pub item_rooms : (items : List Checked) (n k : ℕ) (x : Checked) → slice_get 
 item_rooms items n k x here is t u v (one, back) (other, rooms) =
     let of_x : (j : ℕ) → bodies (subject_by (slice_get items n)) j ≡ bodies_of x j = λ j. ap (λ (o : Option Checked). bodies (subject_by o) j) here in
     let same : bodies (subject_by (slice_get items n)) u.node ≡ bodies_of x t.node = of_x u.node ∙ ap (bodies_of x) one.node in
-    let had : span_room t ≡ span_room u = ap (λ s. vec_capacity s - vec_len s) (sym one.spans) in
-    let had_asked : open_room t ≡ open_room u = ap (λ s. vec_capacity s - vec_len s) (sym one.unanswered) in
+    let had : span_room t ≡ span_room u = ap (λ s. s.room) (sym one.spans) in
+    let had_asked : open_room t ≡ open_room u = ap asked_room (sym one.unanswered) in
     let rows : wanted (position_of items n) k t.node ≡ rows_of x t.node = ap (λ (o : Option Checked). wanted (stated_by o) k t.node) here ∙ ap (λ m. wanted (stated x) m t.node) is in
     let kept : room u ≡ room v = subst (λ (w : Tiered Row). room u ≡ min w.room v.receipts.room) (sym other.rows) (subst (λ (w : Tiered Sending). room u ≡ min u.rows.room w.room) (sym other.receipts) refl) in
     record {

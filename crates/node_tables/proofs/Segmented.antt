@@ -1,12 +1,13 @@
 -- A segment more in the table of its node.
-use Rattle.std.proofs.Common.{◌≡◌, ℕ, ◌≤◌, true, false, List, Option, Some, None, refl, sym, ap, subst, ◌∙◌, inl, inr, ⊎_elim}
+use Rattle.std.proofs.Common.{◌≡◌, ℕ, ◌+◌, ◌≤◌, true, false, List, Option, Some, None, refl, sym, ap, subst, ◌∙◌, inl, inr, ⊎_elim}
 use Rattle.std.specs.Prelude.{◌↔◌, ◌⊎◌, slice_get}
 use Rattle.std.specs.List.{Contains}
 use Rattle.authenticators.specs.declared.authenticator.Authenticator.{Authenticator}
 use Rattle.evidence_item.specs.Checking.{Checked}
 use Rattle.kept_evidence.specs.Telling.{denies}
 use Rattle.kept_items.specs.declared.reach.Reach.{Reach}
-use Rattle.kept_items.specs.Keeping.{DenialsAreWithinReach, reach}
+use Rattle.kept_items.specs.Keeping.{AnswersAreWithinReach, DenialsAreWithinReach, opening, reach}
+use Rattle.item_forms.specs.declared.forms.AuditChallenge.{AuditChallenge}
 use Rattle.node_tables.specs.declared.exposure.ExposingPlaces.{ExposingPlaces}
 use Rattle.node_tables.specs.declared.exposure.ExposingPlaces.TheVariants as exposure
 use Rattle.node_tables.specs.declared.row.Row.{Row}
@@ -14,7 +15,7 @@ use Rattle.node_tables.specs.declared.span.Span.{Span}
 use Rattle.node_tables.specs.declared.table.Table.{Table}
 use Rattle.node_tables.specs.Receipts.{AscendBySending}
 use Rattle.node_tables.specs.Rows.{AreRowsOf}
-use Rattle.node_tables.specs.Tables.{AreSpans, DoNotFall, IsQuiet, IsSpan, IsTold, IsUpToDate, ShowsAt, Stands, denied_by, denies_at, deviates_at}
+use Rattle.node_tables.specs.Tables.{AreSpans, IsQuiet, IsSpan, IsTold, IsUpToDate, ShowsAt, Stands, denied_by, denies_at, deviates_at, shown_by, shows_at}
 use Rattle.node_tables.specs.within.Bringing.{IsBroughtBySegment, IsNextBySegment, SegmentBringsNothing, SegmentStep}
 use Rattle.node_tables.proofs.Told.{held_says, says_held}
 
@@ -24,8 +25,11 @@ module _ (items : List Checked) (place : ℕ) (c : Checked) (here : slice_get it
   same_denial : (a : Authenticator) → denies_at items a place ≡ denies a c.item.fields
   same_denial a = ap (λ (o : Option Checked). denied_by o a) here
 
-  pub span_reach : DenialsAreWithinReach → (r : Reach) → reach c.item.fields ≡ Some r → (a : Authenticator) → denies_at items a place ≡ true → (r.low ≤ a.seq) × (a.seq ≤ r.last)
+  pub span_reach : DenialsAreWithinReach → (r : Reach) → reach c.item.fields ≡ Some r → (a : Authenticator) → denies_at items a place ≡ true → (r.low ≤ a.seq + 2) × (a.seq ≤ r.last)
   span_reach law r is a h = let w = law a c.item.fields r is (sym (same_denial a) ∙ h) in (w.from, w.to)
+
+  pub span_covers : AnswersAreWithinReach → (r : Reach) → reach c.item.fields ≡ Some r → (d : AuditChallenge) → shows_at items d place ≡ true → (r.low ≤ opening d.first) × (d.last.seq ≤ r.last)
+  span_covers law r is d h = let w = law d c.item.fields r is (sym (ap (λ (o : Option Checked). shown_by o d) here) ∙ h) in (w.from, w.to)
 
 -- ---- the table
 
@@ -75,15 +79,14 @@ module _ (items : List Checked) (spans more : List Span) (p : Span) (members : (
     next_told None (Some e) told next = now_shows e next
 
 module _ (items : List Checked) (t u : Table) (p : Span) (d : Row) (node : u.node ≡ t.node) (rows : u.rows ≡ t.rows) (receipts : u.receipts ≡ t.receipts) (members : (q : Span) → Contains u.spans.items q ↔ (Contains t.spans.items q ⊎ (q ≡ p))) where
-  pub told_segment : IsTold items t → IsSpan items t.node p → DoNotFall u.spans.items → IsNextBySegment items t.rows.items p.item t.exposure u.exposure → IsTold items u
-  told_segment told is by_low next = record {
+  pub told_segment : IsTold items t → IsSpan items t.node p → IsNextBySegment items t.rows.items p.item t.exposure u.exposure → IsTold items u
+  told_segment told is next = record {
     held = told.held;
     rows = subst (λ v. AreRowsOf items v.items told.held) (sym rows) told.rows;
     ascending = told.ascending;
     own = λ a has. told.own a has ∙ sym node;
     spans = subst (λ n. AreSpans items n u.spans.items) (sym node)
         (λ q has. ⊎_elim (λ old. told.spans q old) (λ new. subst (IsSpan items t.node) (sym new) is) ((members q).0 has));
-    by_low = by_low;
     receipts = subst (λ v. AscendBySending v.items) (sym receipts) told.receipts;
     told = next_told items t.spans.items u.spans.items p members t.rows.items told.held told.rows d t.exposure u.exposure told.told next;
   }

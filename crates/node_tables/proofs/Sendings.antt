@@ -180,7 +180,7 @@ module _ (items : List Checked) (places : List ℕ) (s : Sending) (i j : ℕ) (i
 
 -- ---- what an acknowledgement answers
 
-equal_is : (o : Ordering) → is_eq o ≡ true → o ≡ Equal
+pub equal_is : (o : Ordering) → is_eq o ≡ true → o ≡ Equal
 equal_is Less h = absurd cc
 equal_is Equal h = refl
 equal_is Greater h = absurd cc

@@ -20,7 +20,7 @@ use Rattle.node_tables.specs.declared.span.Span.{Span}
 use Rattle.node_tables.specs.declared.table.Table.{Table}
 use Rattle.node_tables.specs.Receipts.{AscendBySending}
 use Rattle.node_tables.specs.Rows.{AreRowsOf, stated_at}
-use Rattle.node_tables.specs.Tables.{AreSpans, DoNotFall, IsQuiet, IsTold, IsUpToDate, Says, ShowsAt, denies_at}
+use Rattle.node_tables.specs.Tables.{AreSpans, IsQuiet, IsTold, IsUpToDate, Says, ShowsAt, denies_at}
 use Rattle.node_tables.specs.within.Bringing.{BringsNothing, IsBrought, IsNext, NoneBeside, RowStep, order_at, order_by, two_by}
 use Rattle.node_tables.proofs.RowLists.{insert_names, named_at, named_by, row_names, same_length}
 use Rattle.node_tables.proofs.Searching.{IsGap, found_row, gap_found}
@@ -174,7 +174,6 @@ module _ (items : List Checked) (row : Row) (t : Table) (told : IsTold items t) 
       ascending = more_ascend items t.rows.items told.held told.rows row a is i told.ascending inside place;
       own = λ b has. ⊎_elim (λ old. told.own b old ∙ sym node) (λ new. ap (λ (z : Authenticator). z.node) new ∙ of_node ∙ sym node) ((members-insert told.held i a b).0 has);
       spans = subst (λ (l : List Span). AreSpans items u.node l) (sym (ap (λ v. v.items) spans)) (subst (λ (n : ℕ). AreSpans items n t.spans.items) (sym node) told.spans);
-      by_low = subst (λ (l : List Span). DoNotFall l) (sym (ap (λ v. v.items) spans)) told.by_low;
       receipts = subst (λ v. AscendBySending v.items) (sym receipts) told.receipts;
       told = subst (λ (l : List Span). IsUpToDate items (insert told.held i a) l u.exposure) (sym (ap (λ v. v.items) spans))
           (next_told items t.rows.items told.held told.rows row a is i told.ascending inside place own t.spans.items t.exposure u.exposure told.told next);

@@ -1,6 +1,6 @@
 -- An item more in the tables of all nodes.
 use Rattle.std.proofs.Common.{◌≡◌, ◌≢◌, ℕ, ◌<◌, ◌≤◌, Bool, true, false, not, List, [], ◌∷◌, ◌++◌, length, Option, Some, None, refl, sym, ap, subst, ◌∙◌, ◌⊎◌, inl, inr, ⊎_elim, arith}
-use Rattle.std.specs.Prelude.{◌↔◌, ◌&&◌, ◌||◌, slice_get, vec_capacity, vec_len}
+use Rattle.std.specs.Prelude.{◌↔◌, ◌&&◌, ◌||◌, slice_get}
 use Rattle.std.specs.List.{Contains}
 use Rattle.std.proofs.lemmas.Option.{same_Some, slice_get_within}
 use Rattle.authenticators.specs.declared.authenticator.Authenticator.{Authenticator}
@@ -11,7 +11,7 @@ use Rattle.kept_evidence.specs.Kept.{Keeps}
 use Rattle.kept_evidence.specs.Telling.{IsSegmentOf, is_answered, told_answers}
 use Rattle.node_tables.specs.declared.table.Table.{Table}
 use Rattle.node_tables.specs.Indexed.{AreReceipts, IsSaid, IsTable}
-use Rattle.node_tables.specs.Places.{AscendBySpelling, HasBodyRoom, IsAgainstAt, IsOpenAt}
+use Rattle.node_tables.specs.Places.{AreAsked, AscendBySpelling, HasBodyRoom, IsAgainstAt, IsOpenAt, RiseByDemand, asked_room}
 use Rattle.kept_items.specs.Positions.{positions, stated}
 use Rattle.node_tables.specs.Receipts.{AscendBySending, IsReceived}
 use Rattle.node_tables.specs.Rooms.{HasRoomFor, IsRoomier}
@@ -20,7 +20,7 @@ use Rattle.node_tables.specs.declared.sending.Sending.{Sending}
 use Rattle.node_tables.specs.declared.span.Span.{Span}
 use Rattle.node_tables.specs.Rows.{AreRowsOf, stated_by}
 use Rattle.node_tables.specs.Steps.{AllTables, EachBecomes, position_of, room, wanted}
-use Rattle.node_tables.specs.Tables.{AreSpans, DoNotFall, IsSegmentAt, IsTold, IsUpToDate, Says, Stands}
+use Rattle.node_tables.specs.Tables.{AreSpans, IsSegmentAt, IsTold, IsUpToDate, Says, Stands}
 use Rattle.node_tables.specs.within.Bringing.{StatementsStep}
 use Rattle.node_tables.specs.within.Placing.{AreAgainst, AreOthers, BodyStep, IsNewAmong, ItemStep, answered_by, answers_at, subject_by}
 use Rattle.node_tables.proofs.Grown.{any_more, at_cases, last_at, says_grown, still_at}
@@ -35,8 +35,8 @@ item_step items n k t u v one other = record {
   says = λ a. subst (λ w. Says items w.items a ↔ (Says items t.rows.items a ⊎ ((p : ℕ) × (p < k) × (position_of items n p ≡ Some a) × (a.node ≡ t.node)))) (sym other.rows) (one.says a);
   stands = λ i. subst (λ j. Stands v.spans.items i ↔ (Stands t.spans.items i ⊎ ((i ≡ n) × IsSegmentAt items j n))) one.node
       (subst (λ w. Stands v.spans.items i ↔ (Stands w.items i ⊎ ((i ≡ n) × IsSegmentAt items u.node n))) one.spans (other.stands i));
-  unanswered = λ i. subst (λ j. Contains v.unanswered.items i ↔ ((Contains t.unanswered.items i × (answers_at items i n ≡ false)) ⊎ ((i ≡ n) × IsOpenAt items j n))) one.node
-      (subst (λ w. Contains v.unanswered.items i ↔ ((Contains w.items i × (answers_at items i n ≡ false)) ⊎ ((i ≡ n) × IsOpenAt items u.node n))) one.unanswered (other.unanswered i));
+  unanswered = λ i. subst (λ j. Contains v.unanswered.places.items i ↔ ((Contains t.unanswered.places.items i × (answers_at items i n ≡ false)) ⊎ ((i ≡ n) × IsOpenAt items j n))) one.node
+      (subst (λ w. Contains v.unanswered.places.items i ↔ ((Contains w.places.items i × (answers_at items i n ≡ false)) ⊎ ((i ≡ n) × IsOpenAt items u.node n))) one.unanswered (other.unanswered i));
 }
 
 pub others_still : (items : List Checked) (n k : ℕ) (old mid : List Table) → EachBecomes (StatementsStep items n k) old mid → AllTables (λ (t : Table). AreOthers items t.node n t.spans.items) old → AllTables (λ (t : Table). AreOthers items t.node n t.spans.items) mid
@@ -44,20 +44,20 @@ others_still items n k old mid each all i u at =
     let (t, in_old, step) = each i u at in
     subst (λ j. AreOthers items j n u.spans.items) (sym step.node) (subst (λ w. AreOthers items t.node n w.items) (sym step.spans) (all i t in_old))
 
-pub asked_still : (items : List Checked) (n k : ℕ) (old mid : List Table) → EachBecomes (StatementsStep items n k) old mid → AllTables (λ (t : Table). AscendBySpelling items t.unanswered.items) old → AllTables (λ (t : Table). AscendBySpelling items t.unanswered.items) mid
+pub asked_still : (items : List Checked) (n k : ℕ) (old mid : List Table) → EachBecomes (StatementsStep items n k) old mid → AllTables (λ (t : Table). AreAsked items t.unanswered) old → AllTables (λ (t : Table). AreAsked items t.unanswered) mid
 asked_still items n k old mid each all i u at =
     let (t, in_old, step) = each i u at in
-    subst (λ w. AscendBySpelling items w.items) (sym step.unanswered) (all i t in_old)
+    subst (AreAsked items) (sym step.unanswered) (all i t in_old)
 
-pub new_still : (items : List Checked) (n k : ℕ) (old mid : List Table) → EachBecomes (StatementsStep items n k) old mid → AllTables (λ (t : Table). IsNewAmong items n t.unanswered.items) old → AllTables (λ (t : Table). IsNewAmong items n t.unanswered.items) mid
+pub new_still : (items : List Checked) (n k : ℕ) (old mid : List Table) → EachBecomes (StatementsStep items n k) old mid → AllTables (λ (t : Table). IsNewAmong items n t.unanswered.places.items) old → AllTables (λ (t : Table). IsNewAmong items n t.unanswered.places.items) mid
 new_still items n k old mid each all i u at =
     let (t, in_old, step) = each i u at in
-    subst (λ w. IsNewAmong items n w.items) (sym step.unanswered) (all i t in_old)
+    subst (λ w. IsNewAmong items n w.places.items) (sym step.unanswered) (all i t in_old)
 
 pub against_still : (items : List Checked) (n k : ℕ) (old mid : List Table) → EachBecomes (StatementsStep items n k) old mid → AllTables (AreAgainst items) old → AllTables (AreAgainst items) mid
 against_still items n k old mid each all i u at m has =
     let (t, in_old, step) = each i u at in
-    subst (λ j. IsAgainstAt items j m) (sym step.node) (all i t in_old m (subst (λ w. Contains w.items m) step.unanswered has))
+    subst (λ j. IsAgainstAt items j m) (sym step.node) (all i t in_old m (subst (λ w. Contains w.places.items m) step.unanswered has))
 
 pub room_of : (items : List Checked) (n k : ℕ) (x : Checked) → slice_get items n ≡ Some x → (t : Table) → wanted (stated x) k t.node ≤ room t → wanted (position_of items n) k t.node ≤ room t
 room_of items n k x at t h = subst (λ (o : Option Checked). wanted (stated_by o) k t.node ≤ room t) (sym at) h
@@ -140,7 +140,7 @@ module _ (items : List Checked) (x : Checked) where
   answers_last : (i : ℕ) (c : Checked) → slice_get items i ≡ Some c → answers_at more i n ≡ told_answers c.item.fields x
   answers_last i c at = ap (λ (o : Option Checked). answered_by o (slice_get more n)) (still_at items x i c at) ∙ ap (answered_by (Some c)) (last_at items x)
 
-  pub new_here : (t : Table) → IsTable items t → (Keeps items x.item → ⊥) → IsNewAmong more n t.unanswered.items
+  pub new_here : (t : Table) → IsTable items t → (Keeps items x.item → ⊥) → IsNewAmong more n t.unanswered.places.items
   new_here t table absent i c d has at_i at_n same =
       let (e, there, open_e) = (table.unanswered i).0 has in
       let is_x : d ≡ x = same_Some d x (sym at_n ∙ last_at items x) in
@@ -175,7 +175,7 @@ module _ (items : List Checked) (x : Checked) where
   -- ---- the table
 
   -- After the item came, the table has just what more items say of its node.
-  pub table_more : (t u : Table) → IsTable items t → ItemStep more n (positions x.item.fields) t u → IsTold more u → AscendBySpelling more u.unanswered.items → AreReceipts more u → IsTable more u
+  pub table_more : (t u : Table) → IsTable items t → ItemStep more n (positions x.item.fields) t u → IsTold more u → AreAsked more u.unanswered → AreReceipts more u → IsTable more u
   table_more t u before step told asked receipts = record {
     told = told;
     asked = asked;
@@ -196,9 +196,9 @@ module _ (items : List Checked) (x : Checked) where
       λ h. (segment_or t.node i).1 (⊎_elim (λ old. inl ((before.stands i).0 old)) (λ new. inr new) ((step.stands i).0 h)),
       λ h. (step.stands i).1 (⊎_elim (λ old. inl ((before.stands i).1 old)) (λ new. inr new) ((segment_or t.node i).0 h)),
     );
-    unanswered = λ i. subst (λ j. Contains u.unanswered.items i ↔ IsOpenAt more j i) (sym step.node) (
+    unanswered = λ i. subst (λ j. Contains u.unanswered.places.items i ↔ IsOpenAt more j i) (sym step.node) (
       λ h. (open_or t.node i).1 (⊎_elim
-          (λ (old : Contains t.unanswered.items i × (answers_at more i n ≡ false)). inl ((before.unanswered i).0 old.0, old.1))
+          (λ (old : Contains t.unanswered.places.items i × (answers_at more i n ≡ false)). inl ((before.unanswered i).0 old.0, old.1))
           (λ new. inr new) ((step.unanswered i).0 h)),
       λ h. (step.unanswered i).1 (⊎_elim
           (λ (old : IsOpenAt items t.node i × (answers_at more i n ≡ false)). inl ((before.unanswered i).1 old.0, old.1))
@@ -214,7 +214,6 @@ table_roomier items t u same before = record {
     rows = subst (λ (l : List Row). AreRowsOf items l before.told.held) (sym same.rows) before.told.rows;
     ascending = before.told.ascending;
     own = λ a has. before.told.own a has ∙ sym same.node;
-    by_low = subst DoNotFall (sym same.spans) before.told.by_low;
     receipts = subst AscendBySending (sym same.receipts) before.told.receipts;
     spans = subst (λ (l : List Span). AreSpans items u.node l) (sym same.spans) (subst (λ j. AreSpans items j t.spans.items) (sym same.node) before.told.spans);
     told = subst (λ (l : List Span). IsUpToDate items before.told.held l u.exposure) (sym same.spans) (subst (IsUpToDate items before.told.held t.spans.items) (sym same.exposure) before.told.told);
@@ -222,8 +221,13 @@ table_roomier items t u same before = record {
   says = λ a. subst (λ j. Says items u.rows.items a ↔ (IsSaid items a × (a.node ≡ j))) (sym same.node) (subst (λ (l : List Row). Says items l a ↔ (IsSaid items a × (a.node ≡ t.node))) (sym same.rows) (before.says a));
   receipts = λ s. subst (λ j. Contains u.receipts.items s ↔ (IsReceived items s × (s.from ≡ j))) (sym same.node) (subst (λ (l : List Sending). Contains l s ↔ (IsReceived items s × (s.from ≡ t.node))) (sym same.receipts) (before.receipts s));
   stands = λ i. subst (λ j. Stands u.spans.items i ↔ IsSegmentAt items j i) (sym same.node) (subst (λ (l : List Span). Stands l i ↔ IsSegmentAt items t.node i) (sym same.spans) (before.stands i));
-  unanswered = λ i. subst (λ j. Contains u.unanswered.items i ↔ IsOpenAt items j i) (sym same.node) (subst (λ (l : List ℕ). Contains l i ↔ IsOpenAt items t.node i) (sym same.unanswered) (before.unanswered i));
-  asked = subst (AscendBySpelling items) (sym same.unanswered) before.asked;
+  unanswered = λ i. subst (λ j. Contains u.unanswered.places.items i ↔ IsOpenAt items j i) (sym same.node) (subst (λ (l : List ℕ). Contains l i ↔ IsOpenAt items t.node i) (sym same.unanswered) (before.unanswered i));
+  asked = record {
+    spelled = subst (AscendBySpelling items) (sym same.unanswered) before.asked.spelled;
+    rising = subst (RiseByDemand items) (sym same.audits) before.asked.rising;
+    there = λ i has. before.asked.there i (subst (λ l. Contains l i) same.audits has);
+    audits = λ i d has is. subst (λ l. Contains l i) (sym same.audits) (before.asked.audits i d (subst (λ l. Contains l i) same.unanswered has) is);
+  };
 }
 
 pub body_room_of : (items : List Checked) (n k : ℕ) (x : Checked) → slice_get items n ≡ Some x → (old mid : List Table) → EachBecomes (StatementsStep items n k) old mid → AllTables (HasRoomFor x) old
@@ -232,6 +236,6 @@ body_room_of items n k x here old mid each all i u at own =
     let (t, in_old, step) = each i u at in
     let enough = (all i t in_old).body (sym (ap subject_by here) ∙ own ∙ ap (λ j. Some j) step.node) in
     record {
-      spans = subst (λ v. vec_len v < vec_capacity v) (sym step.spans) enough.spans;
-      unanswered = subst (λ v. vec_len v < vec_capacity v) (sym step.unanswered) enough.unanswered;
+      spans = subst (λ v. 1 ≤ v.room) (sym step.spans) enough.spans;
+      unanswered = subst (λ v. 1 ≤ asked_room v) (sym step.unanswered) enough.unanswered;
     }

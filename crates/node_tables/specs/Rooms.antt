@@ -13,7 +13,8 @@ pub record IsRoomier (t u : Table) : Type 0 where
   pub rows : u.rows.items ≡ t.rows.items
   pub receipts : u.receipts.items ≡ t.receipts.items
   pub spans : u.spans.items ≡ t.spans.items
-  pub unanswered : u.unanswered.items ≡ t.unanswered.items
+  pub unanswered : u.unanswered.places.items ≡ t.unanswered.places.items
+  pub audits : u.unanswered.audits.items ≡ t.unanswered.audits.items
   pub exposure : u.exposure ≡ t.exposure
   pub room : room t ≤ room u
   pub span_room : span_room t ≤ span_room u
@@ -54,6 +55,11 @@ pub record HasRoomForAll (xs : List Checked) (u : Table) : Type 0 where
   pub spans : sum_of bodies_of xs u.node ≤ span_room u
   pub unanswered : sum_of bodies_of xs u.node ≤ open_room u
 
+-- What was promised to the table and did not come yet is just what the items of the list need. Where there are none, it owes nothing.
+pub record Owes (xs : List Checked) (t : Table) : Type 0 where
+  pub statements : t.promised ≡ sum_of rows_of xs t.node
+  pub bodies : t.bodies ≡ sum_of bodies_of xs t.node
+
 -- What the item takes of the rooms of any table, at most; what was promised of it is taken back.
 pub record ItemRooms (x : Checked) (t u : Table) : Type 0 where
   pub node : u.node ≡ t.node
@@ -78,3 +84,9 @@ pub record IsReleased (x : Checked) (t u : Table) : Type 0 where
   pub roomier : IsRoomier t u
   pub promised : u.promised ≡ t.promised - rows_of x t.node
   pub bodies : u.bodies ≡ t.bodies - bodies_of x t.node
+
+-- The same of all items of a list.
+pub record AreAllReleased (xs : List Checked) (t u : Table) : Type 0 where
+  pub roomier : IsRoomier t u
+  pub promised : u.promised ≡ t.promised - sum_of rows_of xs t.node
+  pub bodies : u.bodies ≡ t.bodies - sum_of bodies_of xs t.node

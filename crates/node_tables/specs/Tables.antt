@@ -1,11 +1,13 @@
 -- What is kept of one node, by the places of its items.
-use Rattle.std.specs.List.Sorted.{IsNonDecreasingBy}
 use Rattle.std.specs.List.{Contains}
-use Rattle.std.specs.Prelude.{◌≡◌, ℕ, Bool, true, false, List, Option, Some, None, slice_get, ◌≤◌}
+use Rattle.std.specs.Prelude.{◌≡◌, ℕ, Bool, true, false, List, Option, Some, None, slice_get, ◌+◌, ◌^◌, ◌<◌, ◌≤◌}
 use Rattle.authenticators.specs.StatementSet.{Conflict, IsAscending, NoConflict}
 use Rattle.authenticators.specs.declared.authenticator.Authenticator.{Authenticator}
 use Rattle.evidence_item.specs.Checking.{Checked}
+use Rattle.item_forms.specs.declared.forms.AuditChallenge.{AuditChallenge}
+use Rattle.evidence_set.specs.Challenges.{answers_audit}
 use Rattle.kept_evidence.specs.Telling.{IsSegmentOf, denies, deviates}
+use Rattle.kept_items.specs.Keeping.{opening}
 use Rattle.node_tables.specs.Receipts.{AscendBySending}
 use Rattle.node_tables.specs.Rows.{AreRowsOf, stated_at}
 use Rattle.node_tables.specs.declared.exposure.ExposingPlaces.TheVariants as exposure
@@ -36,17 +38,23 @@ deviates_at items i = deviating (slice_get items i)
 abbrev pub IsSegmentAt : List Checked → ℕ → ℕ → Type 0
 IsSegmentAt items j i = (c : Checked) × (slice_get items i ≡ Some c) × IsSegmentOf j c.item.fields
 
--- A segment of node j, with the numbers that a statement must have to contradict it.
+-- The item at the place answers the audit challenge.
+abbrev pub shown_by : Option Checked → AuditChallenge → Bool
+shown_by None c = false
+shown_by (Some d) c = answers_audit c d.item.fields
+
+abbrev pub shows_at : List Checked → AuditChallenge → ℕ → Bool
+shows_at items c i = shown_by (slice_get items i) c
+
+-- A segment of node j, with where the statements lie that can contradict it, and the demands that it can answer.
 pub record IsSpan (items : List Checked) (j : ℕ) (p : Span) : Type 0 where
   pub segment : IsSegmentAt items j p.item
-  pub reach : (a : Authenticator) → denies_at items a p.item ≡ true → (p.low ≤ a.seq) × (a.seq ≤ p.last)
+  pub fits : p.low < 2 ^ 64
+  pub reach : (a : Authenticator) → denies_at items a p.item ≡ true → (p.low ≤ a.seq + 2) × (a.seq ≤ p.last)
+  pub covers : (c : AuditChallenge) → shows_at items c p.item ≡ true → (p.low ≤ opening c.first) × (c.last.seq ≤ p.last)
 
 abbrev pub AreSpans : List Checked → ℕ → List Span → Type 0
 AreSpans items j spans = (p : Span) → Contains spans p → IsSpan items j p
-
--- The least numbers do not fall, so that a look at those within the reach of a number stops early.
-abbrev pub DoNotFall : List Span → Type 0
-DoNotFall spans = IsNonDecreasingBy (λ (p : Span). p.low) spans
 
 -- One of the segments stands at the place.
 abbrev pub Stands : List Span → ℕ → Type 0
@@ -76,15 +84,14 @@ IsUpToDate items held spans (Some e) = ShowsAt items held spans e
 
 -- ---- the table
 
--- The table of a node: its rows name just these statements, ascending; its spans are segments of the node, by their least numbers; its
--- receipts ascend; and what exposes it is kept, where something does.
+-- The table of a node: its rows name just these statements, ascending; its spans are segments of the node; its receipts
+-- ascend; and what exposes it is kept, where something does.
 pub record IsTold (items : List Checked) (t : Table) : Type 0 where
   pub held : List Authenticator
   pub rows : AreRowsOf items t.rows.items held
   pub ascending : IsAscending held
   pub own : (a : Authenticator) → Contains held a → a.node ≡ t.node
   pub spans : AreSpans items t.node t.spans.items
-  pub by_low : DoNotFall t.spans.items
   pub receipts : AscendBySending t.receipts.items
   pub told : IsUpToDate items held t.spans.items t.exposure
 

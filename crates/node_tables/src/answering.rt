@@ -6,19 +6,18 @@ ghost use Rattle.evidence_set.specs.Challenges.{is_against};
 ghost use Rattle.kept_evidence.specs.Telling.{is_answered};
 ghost use Rattle.node_tables.specs.declared.span.Span.{Span as TheSpan};
 ghost use Rattle.node_tables.specs.declared.table.Table.{Table as TheTable};
-ghost use Rattle.node_tables.specs.Indexed.{AreReceipts};
 ghost use Rattle.node_tables.specs.Places.{AscendBySpelling, IsAcknowledged, IsOrder};
-ghost use Rattle.node_tables.specs.Steps.{AllTables, AscendByNode};
+ghost use Rattle.node_tables.specs.Steps.{AllTables};
 ghost use Rattle.node_tables.specs.Tables.{IsTold};
-ghost use Rattle.node_tables.specs.within.Placing.{AreOthers, HasAcknowledgement, IsAckAt, answers_at};
+ghost use Rattle.node_tables.specs.within.Placing.{AreOthers, AreStanding, HasAcknowledgement, IsAckAt, answers_at};
 ghost use Rattle.node_tables.specs.within.Sendings.{acknowledged, acknowledged_by};
 
+use crate::asking::near;
 use crate::order::GroupProbe;
 use crate::quoting::is_received;
 use crate::sending::{Sending, take_sending};
 use crate::span::Span;
 use crate::table::Table;
-use authenticators::NodeId;
 use evidence_item::{Form, Message};
 use item_forms::Group;
 use kept_items::KeptItem;
@@ -41,10 +40,10 @@ fn answers_at<P>(items: &[KeptItem<P>], challenge: u32, answer: u32) -> bool
 fn acknowledged<P>(kept: &KeptItem<P>) -> Option<Sending>
     ensures { result ≡ acknowledged kept.now.item.fields }
 {
-    let Some(item) = kept.as_item() else {
+    let Some(form) = kept.form() else {
         return None;
     };
-    match item.form() {
+    match form {
         Form::Auth(_) | Form::Segment(_) | Form::Audit(_) | Form::Send(_) => None,
         Form::Ack(ack) => Some(Sending {
             from: ack.message.from,
@@ -111,33 +110,30 @@ fn has_acknowledgement<P>(
     requires { IsOrder items.now order.now.items }
     ensures { IsTrue result ↔ HasAcknowledgement items.now challenge.now.item.fields }
 {
-    let Some(item) = challenge.as_item() else {
+    let Some(form) = challenge.form() else {
         return false;
     };
-    match item.form() {
+    match form {
         Form::Send(message) => is_acknowledged(items, order, message),
         Form::Auth(_) | Form::Segment(_) | Form::Audit(_) | Form::Ack(_) => false,
     }
 }
 
-/// Whether some item answers the challenge against the node at the place. For a send challenge it looks up an acknowledgement, and then a
-/// receipt; for another, or where the sender has no table, it looks at the node's segments, which are those that are given.
+/// Whether some item answers the challenge against the table's node at the place. For a send challenge it looks up an acknowledgement, and
+/// then a receipt, which suffices where its sender has a table; for an audit challenge it looks up a segment that can answer it.
 fn is_answered<P>(
     items: &[KeptItem<P>],
     order: &TieredVec<u32>,
     tables: &[Table],
-    node: NodeId,
-    spans: &[Span],
+    table: &Table,
     challenge: &KeptItem<P>,
     place: u32,
 ) -> bool
-    requires order { IsOrder items.now order.now.items }
-    requires ascending { AscendByNode tables.now }
-    requires told { AllTables (IsTold items.now) tables.now }
-    requires receipts { AllTables (λ t. AreReceipts items.now t) tables.now }
+    requires standing { AreStanding items.now order.now.items tables.now }
+    requires told { IsTold items.now table.now }
     requires here { slice_get items.now place ≡ Some challenge.now }
-    requires against { is_against node challenge.now.item.fields ≡ true }
-    requires others { AreOthers items.now node place spans.now }
+    requires against { is_against table.now.node challenge.now.item.fields ≡ true }
+    requires others { AreOthers items.now table.now.node place table.now.spans.items }
     ensures { result ≡ is_answered items.now challenge.now.item.fields }
 {
     if has_acknowledgement(items, order, challenge) {
@@ -145,11 +141,11 @@ fn is_answered<P>(
     }
     match is_received(items, tables, challenge) {
         Some(received) => received,
-        None => one_answers(items, spans, place),
+        None => one_answers(items, near(&table.spans, challenge), place),
     }
 }
 
-/// The same of an item that may be no challenge against the node, by the node's table.
+/// The same of an item that may be no challenge against the node.
 fn is_answered_in<P>(
     items: &[KeptItem<P>],
     order: &TieredVec<u32>,
@@ -158,10 +154,8 @@ fn is_answered_in<P>(
     kept: &KeptItem<P>,
     place: u32,
 ) -> bool
-    requires order { IsOrder items.now order.now.items }
-    requires ascending { AscendByNode tables.now }
-    requires told { AllTables (IsTold items.now) tables.now }
-    requires receipts { AllTables (λ t. AreReceipts items.now t) tables.now }
+    requires standing { AreStanding items.now order.now.items tables.now }
+    requires told { IsTold items.now table.now }
     requires here { slice_get items.now place ≡ Some kept.now }
     requires others { AreOthers items.now table.now.node place table.now.spans.items }
     ensures { is_against table.now.node kept.now.item.fields ≡ true → result ≡ is_answered items.now kept.now.item.fields }
@@ -169,7 +163,7 @@ fn is_answered_in<P>(
     if !kept.is_against(table.node) {
         return false;
     }
-    is_answered(items, order, tables, table.node, &table.spans, kept, place)
+    is_answered(items, order, tables, table, kept, place)
 }
 
 /// The same by the place of the node's table.
@@ -181,10 +175,7 @@ pub(crate) fn is_answered_at<P>(
     kept: &KeptItem<P>,
     place: u32,
 ) -> bool
-    requires order { IsOrder items.now order.now.items }
-    requires ascending { AscendByNode tables.now }
-    requires told { AllTables (IsTold items.now) tables.now }
-    requires receipts { AllTables (λ t. AreReceipts items.now t) tables.now }
+    requires standing { AreStanding items.now order.now.items tables.now }
     requires here { slice_get items.now place ≡ Some kept.now }
     requires others { AllTables (λ t. AreOthers items.now t.node place t.spans.items) tables.now }
     requires inside { i < length tables.now }

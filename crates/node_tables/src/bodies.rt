@@ -1,25 +1,28 @@
 //! Putting what an item is, beside its statements, into the table of its node.
 
-ghost use Rattle.std.specs.Prelude.{◌≡◌, ◌↔◌, ◌⊎◌, ◌+◌, ◌-◌, ◌<◌, ℕ, Contains, Some, false, length, slice_get, true, vec_capacity, vec_len};
+ghost use Rattle.std.specs.Prelude.{◌≡◌, ◌↔◌, ◌⊎◌, ◌+◌, ◌-◌, ◌<◌, ◌≤◌, ℕ, Contains, Some, false, length, slice_get, true, vec_capacity, vec_len};
 ghost use Rattle.std.specs.List.Sorted.{IsBinarySearchResult, IsSearchInRange};
 ghost use Rattle.evidence_set.specs.Challenges.{is_against};
 ghost use Rattle.evidence_item.specs.Checking.{is_segment};
+ghost use Rattle.item_forms.specs.Forms.{shown};
 ghost use Rattle.kept_evidence.specs.Telling.{is_answered};
-ghost use Rattle.kept_items.specs.Keeping.{subject};
+ghost use Rattle.kept_items.specs.Keeping.{demand, subject};
+ghost use Rattle.kept_items.specs.declared.reach.Demand.{Demand as TheDemand};
 ghost use Rattle.node_tables.specs.Indexed.{AreReceipts};
-ghost use Rattle.node_tables.specs.Places.{AscendBySpelling, HasBodyRoom, IsOrder, item_order_by};
+ghost use Rattle.node_tables.specs.Places.{AreAsked, AscendBySpelling, HasBodyRoom, IsOrder, RiseByDemand, item_order_by, open_room};
 ghost use Rattle.node_tables.specs.Rooms.{KeepsPromises};
 ghost use Rattle.node_tables.specs.Steps.{AllTables, AscendByNode, EachBecomes};
 ghost use Rattle.node_tables.specs.Tables.{IsSegmentAt, IsTold};
 ghost use Rattle.node_tables.specs.within.Placing.{AreAgainst, AreOthers, BodyRooms, BodyRoomsOf, BodyStep, IsAckAt, IsNewAmong, subject_by};
 
 use crate::answering::{close_acknowledged, is_answered_at};
+use crate::asking::put_by_demand;
 use crate::closing::close_by_segment;
 use crate::order::compare_kept_at;
 use crate::segments::put_segment;
 use crate::table::Table;
 use crate::tables::place_of;
-use evidence_item::{Form, Item};
+use evidence_item::Form;
 use kept_items::KeptItem;
 use tiered_vec::TieredVec;
 
@@ -27,10 +30,10 @@ use tiered_vec::TieredVec;
 fn put_whole_segment<P>(items: &[KeptItem<P>], table: &mut Table, place: u32)
     requires told { IsTold items.now table.old }
     requires segment { IsSegmentAt items.now table.old.node place }
-    requires room { vec_len table.old.spans < vec_capacity table.old.spans }
-    requires asked { AscendBySpelling items.now table.old.unanswered.items }
+    requires room { 1 ≤ table.old.spans.room }
+    requires asked { AreAsked items.now table.old.unanswered }
     ensures told { IsTold items.now table.new }
-    ensures asked { AscendBySpelling items.now table.new.unanswered.items }
+    ensures asked { AreAsked items.now table.new.unanswered }
     ensures step { BodyStep items.now place table.old table.new }
     ensures rooms { BodyRooms table.old table.new }
     ensures counts { KeepsPromises table.old table.new }
@@ -43,18 +46,22 @@ fn put_whole_segment<P>(items: &[KeptItem<P>], table: &mut Table, place: u32)
 fn put_acknowledgement<P>(items: &[KeptItem<P>], table: &mut Table, place: u32)
     requires told { IsTold items.now table.old }
     requires here { IsAckAt items.now place }
-    requires asked { AscendBySpelling items.now table.old.unanswered.items }
+    requires asked { AreAsked items.now table.old.unanswered }
     ensures told { IsTold items.now table.new }
-    ensures asked { AscendBySpelling items.now table.new.unanswered.items }
+    ensures asked { AreAsked items.now table.new.unanswered }
     ensures step { BodyStep items.now place table.old table.new }
     ensures rooms { BodyRooms table.old table.new }
     ensures counts { KeepsPromises table.old table.new }
 {
-    close_acknowledged(items, &mut table.unanswered, place);
+    close_acknowledged(items, &mut table.unanswered.places, place);
 }
 
 /// Where the item at a place, which is a new one, would stand among places that ascend by spelling.
-fn gap_among<P>(items: &[KeptItem<P>], places: &[u32], kept: &KeptItem<P>) -> Result<usize, usize>
+pub(crate) fn gap_among<P>(
+    items: &[KeptItem<P>],
+    places: &[u32],
+    kept: &KeptItem<P>,
+) -> Result<usize, usize>
     ensures bound { IsSearchInRange result (length places.now) }
     ensures position { IsBinarySearchResult (λ i. item_order_by (slice_get items.now i) kept.now.item) places.now result }
 {
@@ -78,6 +85,21 @@ fn put_by_spelling<P>(items: &[KeptItem<P>], places: &mut Vec<u32>, place: u32, 
     let _ = places.insert(gap, place);
 }
 
+/// Puts the place of a new audit challenge among others, by its demand; of another challenge nothing. There is room for it.
+fn put_audit<P>(items: &[KeptItem<P>], audits: &mut Vec<u32>, place: u32, kept: &KeptItem<P>)
+    requires rising { RiseByDemand items.now audits.old.items }
+    requires here { slice_get items.now place ≡ Some kept.now }
+    requires room { vec_len audits.old < vec_capacity audits.old }
+    ensures rising { RiseByDemand items.now audits.new.items }
+    ensures members { (i : ℕ) → Contains audits.new.items i ↔ (Contains audits.old.items i ⊎ ((i ≡ place) × ((d : TheDemand) × (demand kept.now.item.fields ≡ Some d)))) }
+    ensures len { vec_len audits.new ≤ vec_len audits.old + 1 }
+    ensures capacity { vec_capacity audits.new ≡ vec_capacity audits.old }
+{
+    if let Some(demand) = kept.demand() {
+        put_by_demand(items, audits, place, demand);
+    }
+}
+
 /// Puts a challenge, which is open unless something answers it.
 fn put_challenge<P>(
     items: &[KeptItem<P>],
@@ -90,11 +112,11 @@ fn put_challenge<P>(
     requires here { slice_get items.now place ≡ Some kept.now }
     requires against { is_against table.old.node kept.now.item.fields ≡ true }
     requires answered { answered ≡ is_answered items.now kept.now.item.fields }
-    requires room { vec_len table.old.unanswered < vec_capacity table.old.unanswered }
-    requires asked { AscendBySpelling items.now table.old.unanswered.items }
-    requires new { IsNewAmong items.now place table.old.unanswered.items }
+    requires room { 1 ≤ open_room table.old }
+    requires asked { AreAsked items.now table.old.unanswered }
+    requires new { IsNewAmong items.now place table.old.unanswered.places.items }
     ensures told { IsTold items.now table.new }
-    ensures asked { AscendBySpelling items.now table.new.unanswered.items }
+    ensures asked { AreAsked items.now table.new.unanswered }
     ensures step { BodyStep items.now place table.old table.new }
     ensures rooms { BodyRooms table.old table.new }
     ensures counts { KeepsPromises table.old table.new }
@@ -102,7 +124,8 @@ fn put_challenge<P>(
     if answered {
         return;
     }
-    put_by_spelling(items, &mut table.unanswered, place, kept);
+    put_by_spelling(items, &mut table.unanswered.places, place, kept);
+    put_audit(items, &mut table.unanswered.audits, place, kept);
 }
 
 /// Puts what an item that is no segment is, beside its statements, into the table of its node.
@@ -111,25 +134,25 @@ fn put_other<P>(
     table: &mut Table,
     place: u32,
     kept: &KeptItem<P>,
-    item: &Item,
+    form: Form<'_>,
     answered: bool,
 )
     requires told { IsTold items.now table.old }
     requires here { slice_get items.now place ≡ Some kept.now }
-    requires item { item.now ≡ kept.now.item }
-    requires other { is_segment item.now.fields ≡ false }
-    requires subject { subject item.now.fields ≡ Some table.old.node }
-    requires answered { is_against table.old.node item.now.fields ≡ true → answered ≡ is_answered items.now item.now.fields }
-    requires room { vec_len table.old.unanswered < vec_capacity table.old.unanswered }
-    requires asked { AscendBySpelling items.now table.old.unanswered.items }
-    requires new { IsNewAmong items.now place table.old.unanswered.items }
+    requires form { shown form ≡ kept.now.item.fields }
+    requires other { is_segment kept.now.item.fields ≡ false }
+    requires subject { subject kept.now.item.fields ≡ Some table.old.node }
+    requires answered { is_against table.old.node kept.now.item.fields ≡ true → answered ≡ is_answered items.now kept.now.item.fields }
+    requires room { 1 ≤ open_room table.old }
+    requires asked { AreAsked items.now table.old.unanswered }
+    requires new { IsNewAmong items.now place table.old.unanswered.places.items }
     ensures told { IsTold items.now table.new }
-    ensures asked { AscendBySpelling items.now table.new.unanswered.items }
+    ensures asked { AreAsked items.now table.new.unanswered }
     ensures step { BodyStep items.now place table.old table.new }
     ensures rooms { BodyRooms table.old table.new }
     ensures counts { KeepsPromises table.old table.new }
 {
-    match item.form() {
+    match form {
         Form::Auth(_) | Form::Segment(_) => {}
         Form::Ack(_) => put_acknowledgement(items, table, place),
         Form::Audit(_) | Form::Send(_) => put_challenge(items, table, place, kept, answered),
@@ -148,19 +171,19 @@ fn put_form<P>(
     requires here { slice_get items.now place ≡ Some kept.now }
     requires subject { subject kept.now.item.fields ≡ Some table.old.node }
     requires answered { is_against table.old.node kept.now.item.fields ≡ true → answered ≡ is_answered items.now kept.now.item.fields }
-    requires spans { vec_len table.old.spans < vec_capacity table.old.spans }
-    requires unanswered { vec_len table.old.unanswered < vec_capacity table.old.unanswered }
-    requires asked { AscendBySpelling items.now table.old.unanswered.items }
-    requires new { IsNewAmong items.now place table.old.unanswered.items }
+    requires spans { 1 ≤ table.old.spans.room }
+    requires unanswered { 1 ≤ open_room table.old }
+    requires asked { AreAsked items.now table.old.unanswered }
+    requires new { IsNewAmong items.now place table.old.unanswered.places.items }
     ensures told { IsTold items.now table.new }
-    ensures asked { AscendBySpelling items.now table.new.unanswered.items }
+    ensures asked { AreAsked items.now table.new.unanswered }
     ensures step { BodyStep items.now place table.old table.new }
     ensures rooms { BodyRooms table.old table.new }
     ensures counts { KeepsPromises table.old table.new }
 {
-    match kept.as_item() {
+    match kept.form() {
         None => put_whole_segment(items, table, place),
-        Some(item) => put_other(items, table, place, kept, item, answered),
+        Some(form) => put_other(items, table, place, kept, form, answered),
     }
 }
 
@@ -176,12 +199,12 @@ fn put_in<P>(
     requires here { slice_get items.now place ≡ Some kept.now }
     requires subject { subject kept.now.item.fields ≡ Some table.old.node }
     requires answered { is_against table.old.node kept.now.item.fields ≡ true → answered ≡ is_answered items.now kept.now.item.fields }
-    requires spans { vec_len table.old.spans < vec_capacity table.old.spans }
-    requires unanswered { vec_len table.old.unanswered < vec_capacity table.old.unanswered }
-    requires asked { AscendBySpelling items.now table.old.unanswered.items }
-    requires new { IsNewAmong items.now place table.old.unanswered.items }
+    requires spans { 1 ≤ table.old.spans.room }
+    requires unanswered { 1 ≤ open_room table.old }
+    requires asked { AreAsked items.now table.old.unanswered }
+    requires new { IsNewAmong items.now place table.old.unanswered.places.items }
     ensures told { IsTold items.now table.new }
-    ensures asked { AscendBySpelling items.now table.new.unanswered.items }
+    ensures asked { AreAsked items.now table.new.unanswered }
     ensures step { BodyStep items.now place table.old table.new }
     ensures rooms { BodyRooms table.old table.new }
     ensures counts { (table.new.promised ≡ table.old.promised) × (table.new.bodies ≡ table.old.bodies - 1) }
@@ -204,11 +227,11 @@ pub(crate) fn put_body<P>(
     requires there { place < length items.now }
     requires others { AllTables (λ t. AreOthers items.now t.node place t.spans.items) tables.old }
     requires against { AllTables (λ t. AreAgainst items.now t) tables.old }
-    requires asked { AllTables (λ t. AscendBySpelling items.now t.unanswered.items) tables.old }
-    requires new { AllTables (λ t. IsNewAmong items.now place t.unanswered.items) tables.old }
+    requires asked { AllTables (λ t. AreAsked items.now t.unanswered) tables.old }
+    requires new { AllTables (λ t. IsNewAmong items.now place t.unanswered.places.items) tables.old }
     requires room { AllTables (λ t. subject_by (slice_get items.now place) ≡ Some t.node → HasBodyRoom t) tables.old }
     ensures told { AllTables (IsTold items.now) tables.new }
-    ensures asked { AllTables (λ t. AscendBySpelling items.now t.unanswered.items) tables.new }
+    ensures asked { AllTables (λ t. AreAsked items.now t.unanswered) tables.new }
     ensures step { EachBecomes (BodyStep items.now place) tables.old tables.new }
     ensures rooms { EachBecomes (BodyRoomsOf (subject_by (slice_get items.now place))) tables.old tables.new }
 {

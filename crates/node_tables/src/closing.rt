@@ -1,17 +1,18 @@
 //! Which open challenges a segment closes.
 
-ghost use Rattle.std.specs.Prelude.{◌≡◌, ◌≤◌, ◌-◌, Some, false, length, not, slice_get, vec_capacity, vec_len};
-ghost use Rattle.std.specs.List.{AllWithin, filter};
+ghost use Rattle.std.specs.Prelude.{◌≡◌, ◌≤◌, ◌-◌, Some, not, slice_get, vec_capacity, vec_len};
+ghost use Rattle.std.specs.List.{filter};
 ghost use Rattle.kept_items.specs.Positions.{positions, stated};
-ghost use Rattle.node_tables.specs.Places.{AscendBySpelling};
+ghost use Rattle.node_tables.specs.Places.{AreAsked, AscendBySpelling, asked_room};
 ghost use Rattle.node_tables.specs.Receipts.{received};
 ghost use Rattle.node_tables.specs.Tables.{IsSegmentAt};
 ghost use Rattle.node_tables.specs.within.Placing.{answers_at};
-ghost use Rattle.node_tables.specs.within.Sendings.{audited_by, is_among, is_late, is_late_by, is_received, told_audit};
+ghost use Rattle.node_tables.specs.within.Sendings.{is_among, is_received};
 
+use crate::auditing::close_audits;
 use crate::sending::{Sending, take_sending};
+use crate::unanswered::Unanswered;
 use authenticators::NodeId;
-use evidence_item::Form;
 use kept_items::KeptItem;
 
 /// The message that an entry of a segment of the node quotes: by its sender, its receiver and its number.
@@ -73,124 +74,38 @@ fn take_each_received<P>(
     }
 }
 
-/// Whether the item is an audit challenge, and the other one answers it.
-fn answers_audit<P>(challenge: &KeptItem<P>, answer: &KeptItem<P>) -> bool
-    ensures { result ≡ told_audit challenge.now.item.fields answer.now.item.fields }
-{
-    let Some(item) = challenge.as_item() else {
-        return false;
-    };
-    match item.form() {
-        Form::Auth(_) | Form::Segment(_) | Form::Send(_) | Form::Ack(_) => false,
-        Form::Audit(_) => answer.answers(challenge),
-    }
-}
-
-/// The same of the items at two places.
-fn answers_audit_at<P>(items: &[KeptItem<P>], challenge: u32, answer: u32) -> bool
-    ensures { result ≡ audited_by (slice_get items.now challenge) (slice_get items.now answer) }
-{
-    let Some(challenge) = items.get(challenge as usize) else {
-        return false;
-    };
-    match items.get(answer as usize) {
-        None => false,
-        Some(answer) => answers_audit(challenge, answer),
-    }
-}
-
-/// Whether the item is of a form that stands behind all audit challenges.
-fn is_late<P>(kept: &KeptItem<P>) -> bool
-    ensures { result ≡ is_late kept.now.item.fields }
-{
-    let Some(item) = kept.as_item() else {
-        return false;
-    };
-    match item.form() {
-        Form::Auth(_) | Form::Segment(_) | Form::Audit(_) => false,
-        Form::Send(_) | Form::Ack(_) => true,
-    }
-}
-
-/// The same of the item at a place.
-fn is_late_at<P>(items: &[KeptItem<P>], place: u32) -> bool
-    ensures { result ≡ is_late_by (slice_get items.now place) }
-{
-    match items.get(place as usize) {
-        None => false,
-        Some(kept) => is_late(kept),
-    }
-}
-
-/// Whether the segment at a place answers one of the audit challenges, which stand first among challenges. It looks at no other.
-fn answers_one<P>(items: &[KeptItem<P>], places: &[u32], answer: u32) -> bool
-    requires { AscendBySpelling items.now places.now }
-    ensures { result ≡ false → AllWithin (λ i. audited_by (slice_get items.now i) (slice_get items.now answer) ≡ false) places.now 0 (length places.now) }
-{
-    for place in places {
-        if is_late_at(items, *place) {
-            return false;
-        }
-        if answers_audit_at(items, *place, answer) {
-            return true;
-        }
-    }
-    false
-}
-
-/// Takes away the audit challenges that the segment at a place answers.
-fn take_answered<P>(items: &[KeptItem<P>], unanswered: &mut Vec<u32>, answer: u32)
-    ensures items { unanswered.new.items ≡ filter (λ i. not (audited_by (slice_get items.now i) (slice_get items.now answer))) unanswered.old.items }
-    ensures len { vec_len unanswered.new ≤ vec_len unanswered.old }
-    ensures capacity { vec_capacity unanswered.new ≡ vec_capacity unanswered.old }
-{
-    unanswered.retain(|challenge| !answers_audit_at(items, *challenge, answer));
-}
-
-/// The same, where it answers one.
-fn close_audits<P>(items: &[KeptItem<P>], unanswered: &mut Vec<u32>, answer: u32)
-    requires { AscendBySpelling items.now unanswered.old.items }
-    ensures items { unanswered.new.items ≡ filter (λ i. not (audited_by (slice_get items.now i) (slice_get items.now answer))) unanswered.old.items }
-    ensures len { vec_len unanswered.new ≤ vec_len unanswered.old }
-    ensures capacity { vec_capacity unanswered.new ≡ vec_capacity unanswered.old }
-{
-    if answers_one(items, unanswered, answer) {
-        take_answered(items, unanswered, answer);
-    }
-}
-
 /// Takes away the challenges that the segment answers.
 fn close_both<P>(
     items: &[KeptItem<P>],
-    unanswered: &mut Vec<u32>,
+    unanswered: &mut Unanswered,
     node: NodeId,
     answer: u32,
     kept: &KeptItem<P>,
 )
     requires here { slice_get items.now answer ≡ Some kept.now }
     requires segment { IsSegmentAt items.now node answer }
-    requires asked { AscendBySpelling items.now unanswered.old.items }
-    ensures items { unanswered.new.items ≡ filter (λ i. not (answers_at items.now i answer)) unanswered.old.items }
-    ensures len { vec_len unanswered.new ≤ vec_len unanswered.old }
-    ensures capacity { vec_capacity unanswered.new ≡ vec_capacity unanswered.old }
+    requires asked { AreAsked items.now unanswered.old }
+    ensures items { unanswered.new.places.items ≡ filter (λ i. not (answers_at items.now i answer)) unanswered.old.places.items }
+    ensures asked { AreAsked items.now unanswered.new }
+    ensures room { asked_room unanswered.old ≤ asked_room unanswered.new }
 {
-    take_each_received(items, unanswered, kept, node);
-    close_audits(items, unanswered, answer);
+    take_each_received(items, &mut unanswered.places, kept, node);
+    close_audits(items, unanswered, answer, kept);
 }
 
-/// Takes away the challenges that the segment of the node at a place answers. Send challenges are looked up, for each message that it
-/// quotes; of the others each open audit challenge is looked at.
+/// Takes away the challenges that the segment of the node at a place answers. They are looked up: send challenges for each message that
+/// it quotes, and audit challenges for each number from which on one can demand it.
 pub(crate) fn close_by_segment<P>(
     items: &[KeptItem<P>],
-    unanswered: &mut Vec<u32>,
+    unanswered: &mut Unanswered,
     node: NodeId,
     answer: u32,
 )
     requires segment { IsSegmentAt items.now node answer }
-    requires asked { AscendBySpelling items.now unanswered.old.items }
-    ensures items { unanswered.new.items ≡ filter (λ i. not (answers_at items.now i answer)) unanswered.old.items }
-    ensures len { vec_len unanswered.new ≤ vec_len unanswered.old }
-    ensures capacity { vec_capacity unanswered.new ≡ vec_capacity unanswered.old }
+    requires asked { AreAsked items.now unanswered.old }
+    ensures items { unanswered.new.places.items ≡ filter (λ i. not (answers_at items.now i answer)) unanswered.old.places.items }
+    ensures asked { AreAsked items.now unanswered.new }
+    ensures room { asked_room unanswered.old ≤ asked_room unanswered.new }
 {
     let Some(kept) = items.get(answer as usize) else {
         return;

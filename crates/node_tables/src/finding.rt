@@ -5,12 +5,13 @@ ghost use Rattle.std.specs.List.{Contains};
 ghost use Rattle.kept_items.specs.Positions.{shown};
 ghost use Rattle.node_tables.specs.declared.row.Row.{Row as TheRow};
 ghost use Rattle.node_tables.specs.declared.span.Span.{Span as TheSpan};
-ghost use Rattle.node_tables.specs.Tables.{AreSpans, DoNotFall, denies_at};
+ghost use Rattle.node_tables.specs.Tables.{AreSpans, denies_at};
 ghost use Rattle.node_tables.specs.within.Bringing.{AreUndenied, BringsNothing, IsBrought, NoneBeside, again_at, two_at};
 
 use crate::exposure::ExposingPlaces;
 use crate::row::{Row, said_at};
 use crate::span::Span;
+use crate::span_list::SpanList;
 use authenticators::NodeId;
 use kept_items::{KeptItem, Said};
 use tiered_vec::TieredVec;
@@ -142,16 +143,18 @@ fn is_reached<P>(items: &[KeptItem<P>], span: &Span, said: &Said<'_>) -> bool
 }
 
 /// The place of a segment that the statement contradicts. It looks at those that a statement of its number can contradict.
-fn denied_by<P>(items: &[KeptItem<P>], spans: &[Span], node: NodeId, said: &Said<'_>) -> Option<u32>
-    requires spans { AreSpans items.now node spans.now }
-    requires by_low { DoNotFall spans.now }
-    ensures none { IfNone result ((p : TheSpan) → Contains spans.now p → denies_at items.now (shown said.now) p.item ≡ false) }
-    ensures some { IfSome result (λ i. (p : TheSpan) × Contains spans.now p × (p.item ≡ i) × (denies_at items.now (shown said.now) i ≡ true)) }
+fn denied_by<P>(
+    items: &[KeptItem<P>],
+    spans: &SpanList,
+    node: NodeId,
+    said: &Said<'_>,
+) -> Option<u32>
+    requires { AreSpans items.now node spans.now.items }
+    ensures none { IfNone result ((p : TheSpan) → Contains spans.now.items p → denies_at items.now (shown said.now) p.item ≡ false) }
+    ensures some { IfSome result (λ i. (p : TheSpan) × Contains spans.now.items p × (p.item ≡ i) × (denies_at items.now (shown said.now) i ≡ true)) }
 {
-    for span in spans {
-        if said.seq < span.low {
-            return None;
-        }
+    let near = spans.around(said.seq.saturating_add(2), said.seq);
+    for span in near {
         if is_reached(items, span, said) {
             return Some(span.item);
         }
@@ -164,17 +167,16 @@ fn denied_by<P>(items: &[KeptItem<P>], spans: &[Span], node: NodeId, said: &Said
 pub(crate) fn brought_by<P>(
     items: &[KeptItem<P>],
     rows: &TieredVec<Row>,
-    spans: &[Span],
+    spans: &SpanList,
     place: usize,
     row: Row,
     said: &Said<'_>,
 ) -> Option<ExposingPlaces>
-    requires spans { AreSpans items.now said.now.node spans.now }
-    requires by_low { DoNotFall spans.now }
+    requires spans { AreSpans items.now said.now.node spans.now.items }
     requires place { place ≤ length rows.now.items }
-    requires quiet { AreUndenied items.now rows.now.items spans.now }
-    ensures none { IfNone result (BringsNothing items.now rows.now.items spans.now place (shown said.now)) }
-    ensures some { IfSome result (IsBrought items.now rows.now.items spans.now row (shown said.now)) }
+    requires quiet { AreUndenied items.now rows.now.items spans.now.items }
+    ensures none { IfNone result (BringsNothing items.now rows.now.items spans.now.items place (shown said.now)) }
+    ensures some { IfSome result (IsBrought items.now rows.now.items spans.now.items row (shown said.now)) }
 {
     if let Some(other) = other_beside(items, rows, place, said) {
         return Some(ExposingPlaces::TwoHashes(row, other));

@@ -4,7 +4,7 @@ ghost use Rattle.std.specs.Prelude.{◌≡◌, ◌<◌, ◌≤◌, ◌^◌, ◌+
 ghost use Rattle.evidence_item.specs.Checking.{Checked as TheChecked};
 ghost use Rattle.kept_items.specs.Positions.{positions};
 ghost use Rattle.node_tables.specs.Indexed.{AreOfOthers, AreReceipts, IsTable};
-ghost use Rattle.node_tables.specs.Places.{AscendBySpelling, IsOrder};
+ghost use Rattle.node_tables.specs.Places.{AreAsked, IsOrder};
 ghost use Rattle.node_tables.specs.Rooms.{HasRoomFor, ItemRooms};
 ghost use Rattle.node_tables.specs.Steps.{AllTables, AscendByNode, EachBecomes};
 ghost use Rattle.node_tables.specs.Tables.{IsTold};
@@ -25,12 +25,12 @@ fn put_item<P>(items: &[KeptItem<P>], order: &TieredVec<u32>, tables: &mut [Tabl
     requires receipts { AllTables (λ t. AreOtherReceipts items.now place t) tables.old }
     requires others { AllTables (λ t. AreOthers items.now t.node place t.spans.items) tables.old }
     requires against { AllTables (λ t. AreAgainst items.now t) tables.old }
-    requires asked { AllTables (λ t. AscendBySpelling items.now t.unanswered.items) tables.old }
-    requires new { AllTables (λ t. IsNewAmong items.now place t.unanswered.items) tables.old }
+    requires asked { AllTables (λ t. AreAsked items.now t.unanswered) tables.old }
+    requires new { AllTables (λ t. IsNewAmong items.now place t.unanswered.places.items) tables.old }
     requires room { (x : TheChecked) → slice_get items.now place ≡ Some x → AllTables (HasRoomFor x) tables.old }
     ensures told { AllTables (IsTold items.now) tables.new }
     ensures receipts { AllTables (λ t. AreReceipts items.now t) tables.new }
-    ensures asked { AllTables (λ t. AscendBySpelling items.now t.unanswered.items) tables.new }
+    ensures asked { AllTables (λ t. AreAsked items.now t.unanswered) tables.new }
     ensures step { (x : TheChecked) → slice_get items.now place ≡ Some x → EachBecomes (ItemStep items.now place (positions x.item.fields)) tables.old tables.new }
     ensures rooms { (x : TheChecked) → slice_get items.now place ≡ Some x → EachBecomes (ItemRooms x) tables.old tables.new }
 {

@@ -6,9 +6,12 @@ ghost use Rattle.std.specs.Ordering.{nat_cmp};
 ghost use Rattle.authenticators.specs.Directory.{is_listed};
 ghost use Rattle.node_tables.specs.declared.table.Table.{Table as TheTable};
 ghost use Rattle.node_tables.specs.Indexed.{HasNode, IsTable};
+ghost use Rattle.node_tables.specs.Rooms.{Owes};
 ghost use Rattle.node_tables.specs.Steps.{AllTables, AscendByNode};
 
+use crate::span_list::SpanList;
 use crate::table::Table;
+use crate::unanswered::Unanswered;
 use authenticators::{Directory, NodeId};
 use outcome::Memory;
 use std::alloc::Global;
@@ -18,13 +21,14 @@ use tiered_vec::TieredVec;
 fn empty(alloc: Global, node: NodeId) -> Table
     ensures node { result.node ≡ node }
     ensures table { IsTable [] result }
+    ensures owes { Owes [] result }
 {
     Table {
         node,
         rows: TieredVec::new(alloc),
         receipts: TieredVec::new(alloc),
-        spans: Vec::new(alloc),
-        unanswered: Vec::new(alloc),
+        spans: SpanList::new(alloc),
+        unanswered: Unanswered::new(alloc),
         exposure: None,
         promised: 0,
         bodies: 0,
@@ -42,8 +46,10 @@ fn search(tables: &[Table], node: NodeId) -> Result<usize, usize>
 fn open(alloc: Global, tables: &mut Vec<Table>, node: NodeId) -> Result<(), Memory>
     requires ascending { AscendByNode tables.old.items }
     requires each { AllTables (IsTable []) tables.old.items }
+    requires owes { AllTables (Owes []) tables.old.items }
     ensures ascending { OnOk result (AscendByNode tables.new.items) }
     ensures each { OnOk result (AllTables (IsTable []) tables.new.items) }
+    ensures owes { OnOk result (AllTables (Owes []) tables.new.items) }
     ensures has { OnOk result (HasNode tables.new.items node) }
     ensures still { OnOk result ((j : ℕ) → HasNode tables.old.items j → HasNode tables.new.items j) }
 {
@@ -62,6 +68,7 @@ pub fn empty_tables(alloc: Global, directory: &Directory) -> Result<Vec<Table>, 
     ensures ascending { IfOk result (λ tables. AscendByNode tables.items) }
     ensures listed { IfOk result (λ tables. (j : ℕ) → is_listed directory.now j ≡ true → HasNode tables.items j) }
     ensures each { IfOk result (λ tables. AllTables (IsTable []) tables.items) }
+    ensures owes { IfOk result (λ tables. AllTables (Owes []) tables.items) }
 {
     let mut tables: Vec<Table> = Vec::new(alloc);
     for node in directory.nodes() {

@@ -82,7 +82,7 @@ fn put(receipts: &mut TieredVec<Sending>, sending: Sending)
 fn receipt<P>(kept: &KeptItem<P>, position: u32) -> Option<Sending>
     ensures { result ≡ receipt_in kept.now.item.fields kept.now.findings position }
 {
-    if position == 0 || kept.as_item().is_some() {
+    if position == 0 || kept.form().is_some() {
         return None;
     }
     match kept.subject() {
@@ -119,10 +119,10 @@ pub(crate) fn put_receipt<P>(items: &[KeptItem<P>], table: &mut Table, row: Row)
 fn sent<P>(challenge: &KeptItem<P>) -> Option<Sending>
     ensures { result ≡ sent challenge.now.item.fields }
 {
-    let Some(item) = challenge.as_item() else {
+    let Some(form) = challenge.form() else {
         return None;
     };
-    match item.form() {
+    match form {
         Form::Auth(_) | Form::Segment(_) | Form::Audit(_) | Form::Ack(_) => None,
         Form::Send(message) => Some(Sending {
             from: message.from,

@@ -1,16 +1,15 @@
 //! Putting a segment into the table of its node.
 
-ghost use Rattle.std.specs.Prelude.{◌≡◌, ◌↔◌, ◌⊎◌, ◌<◌, ◌≤◌, ◌+◌, IfNone, IfSome, None, Some, false, length, option_copied, slice_get, slice_index_or, true, vec_capacity, vec_len};
+ghost use Rattle.std.specs.Prelude.{◌≡◌, ◌<◌, ◌≤◌, ◌+◌, IfNone, IfSome, None, Some, false, length, option_copied, slice_get, slice_index_or, true};
 ghost use Rattle.std.specs.List.{AllWithin, Contains};
 ghost use Rattle.std.specs.List.Sorted.{IsPartitionPoint, IsPartitionedBy};
 ghost use Rattle.authenticators.specs.declared.authenticator.Authenticator.{Authenticator as Statement};
 ghost use Rattle.kept_evidence.specs.Telling.{IsSegmentOf, deviates};
 ghost use Rattle.kept_items.specs.Keeping.{reach as reach_of};
 ghost use Rattle.node_tables.specs.declared.row.Row.{Row as TheRow};
-ghost use Rattle.node_tables.specs.declared.span.Span.{Span as TheSpan};
 ghost use Rattle.node_tables.specs.Places.{span_room};
 ghost use Rattle.node_tables.specs.Rows.{stated_at};
-ghost use Rattle.node_tables.specs.Tables.{DoNotFall, IsSegmentAt, IsTold, denies_at};
+ghost use Rattle.node_tables.specs.Tables.{IsSegmentAt, IsTold, denies_at};
 ghost use Rattle.node_tables.specs.within.Bringing.{AreAlike, AreBetween, IsBroughtBySegment, IsNextBySegment, SegmentBringsNothing, SegmentStep, below_by, denied_by_row, number_by, side, up_to_by};
 
 use crate::edge::{edge_at, side};
@@ -18,7 +17,7 @@ use crate::exposure::ExposingPlaces;
 use crate::row::{Row, said_at};
 use crate::span::Span;
 use crate::table::Table;
-use kept_items::laws::denials_are_within_reach;
+use kept_items::laws::{answers_are_within_reach, denials_are_within_reach};
 use kept_items::{KeptItem, Reach};
 use replay_verifier::Verdict;
 use std::cmp::Ordering;
@@ -205,14 +204,14 @@ fn brought_by_segment<P>(
     requires told { IsTold items.now table.now }
     requires quiet { table.now.exposure ≡ None }
     requires here { slice_get items.now span.now.item ≡ Some kept.now }
-    requires reach { (a : Statement) → denies_at items.now a span.now.item ≡ true → (span.now.low ≤ a.seq) × (a.seq ≤ span.now.last) }
+    requires reach { (a : Statement) → denies_at items.now a span.now.item ≡ true → (span.now.low ≤ a.seq + 2) × (a.seq ≤ span.now.last) }
     ensures none { IfNone result (SegmentBringsNothing items.now table.now.rows.items span.now.item) }
     ensures some { IfSome result (IsBroughtBySegment items.now table.now.rows.items span.now.item) }
 {
     if deviates(kept.verdict()) {
         return Some(ExposingPlaces::Deviates(span.item));
     }
-    let near = rows_between(items, table, span.low, span.last);
+    let near = rows_between(items, table, span.low.saturating_sub(2), span.last);
     match denier(items, table, &near, kept) {
         None => None,
         Some(row) => Some(ExposingPlaces::Denied(row, span.item)),
@@ -228,7 +227,7 @@ fn exposure_with<P>(
 ) -> Option<ExposingPlaces>
     requires told { IsTold items.now table.now }
     requires here { slice_get items.now span.now.item ≡ Some kept.now }
-    requires reach { (a : Statement) → denies_at items.now a span.now.item ≡ true → (span.now.low ≤ a.seq) × (a.seq ≤ span.now.last) }
+    requires reach { (a : Statement) → denies_at items.now a span.now.item ≡ true → (span.now.low ≤ a.seq + 2) × (a.seq ≤ span.now.last) }
     ensures { IsNextBySegment items.now table.now.rows.items span.now.item table.now.exposure result }
 {
     match table.exposure {
@@ -237,32 +236,20 @@ fn exposure_with<P>(
     }
 }
 
-/// Puts a span where its least number has it, behind those of the same one. There is room for it.
-fn put_span(spans: &mut Vec<Span>, span: Span)
-    requires by_low { DoNotFall spans.old.items }
-    requires room { vec_len spans.old < vec_capacity spans.old }
-    ensures by_low { DoNotFall spans.new.items }
-    ensures members { (q : TheSpan) → Contains spans.new.items q ↔ (Contains spans.old.items q ⊎ (q ≡ span)) }
-    ensures len { vec_len spans.new ≡ vec_len spans.old + 1 }
-    ensures capacity { vec_capacity spans.new ≡ vec_capacity spans.old }
-{
-    let place = spans.partition_point(|other| other.low <= span.low);
-    let _ = spans.insert(place, span);
-}
-
 /// Puts the segment into the table of its node, for which there is room.
 fn put<P>(items: &[KeptItem<P>], table: &mut Table, place: u32, kept: &KeptItem<P>, reach: Reach)
     requires told { IsTold items.now table.old }
     requires here { slice_get items.now place ≡ Some kept.now }
     requires reach { reach_of kept.now.item.fields ≡ Some reach }
     requires own { IsSegmentOf table.old.node kept.now.item.fields }
-    requires room { vec_len table.old.spans < vec_capacity table.old.spans }
+    requires room { 1 ≤ table.old.spans.room }
     ensures told { IsTold items.now table.new }
     ensures step { SegmentStep items.now place table.old table.new }
     ensures room { span_room table.old ≤ span_room table.new + 1 }
     ensures counts { (table.new.promised ≡ table.old.promised) × (table.new.bodies ≡ table.old.bodies) }
 {
     denials_are_within_reach();
+    answers_are_within_reach();
     let span = Span {
         item: place,
         low: reach.low,
@@ -270,14 +257,14 @@ fn put<P>(items: &[KeptItem<P>], table: &mut Table, place: u32, kept: &KeptItem<
     };
     let exposure = exposure_with(items, table, &span, kept);
     table.exposure = exposure;
-    put_span(&mut table.spans, span);
+    table.spans.put(span);
 }
 
 /// Puts the segment at a place into the table of its node, for which there is room.
 pub(crate) fn put_segment<P>(items: &[KeptItem<P>], table: &mut Table, place: u32)
     requires told { IsTold items.now table.old }
     requires segment { IsSegmentAt items.now table.old.node place }
-    requires room { vec_len table.old.spans < vec_capacity table.old.spans }
+    requires room { 1 ≤ table.old.spans.room }
     ensures told { IsTold items.now table.new }
     ensures step { SegmentStep items.now place table.old table.new }
     ensures room { span_room table.old ≤ span_room table.new + 1 }

@@ -38,10 +38,10 @@ fn compare_message(message: &Message, sending: &Sending) -> Ordering
 fn compare_sending<P>(kept: &KeptItem<P>, sending: &Sending) -> Ordering
     ensures { result ≡ sending_cmp sending.now kept.now.item.fields }
 {
-    let Some(item) = kept.as_item() else {
+    let Some(form) = kept.form() else {
         return Ordering::Less;
     };
-    match item.form() {
+    match form {
         Form::Auth(_) | Form::Segment(_) | Form::Audit(_) => Ordering::Less,
         Form::Send(message) => compare_message(message, sending),
         Form::Ack(_) => Ordering::Greater,
@@ -101,7 +101,7 @@ fn places_of<P>(items: &[KeptItem<P>], places: &[u32], sending: &Sending) -> Ran
 }
 
 /// Takes away what stands there.
-fn take_away(places: &mut Vec<u32>, near: Range<usize>)
+pub(crate) fn take_away(places: &mut Vec<u32>, near: Range<usize>)
     requires order { near.start ≤ near.end }
     requires inside { near.end ≤ vec_len places.old }
     ensures items { places.new.items ≡ remove_range places.old.items near.start near.end }

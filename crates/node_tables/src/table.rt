@@ -3,7 +3,8 @@
 use crate::exposure::ExposingPlaces;
 use crate::row::Row;
 use crate::sending::Sending;
-use crate::span::Span;
+use crate::span_list::SpanList;
+use crate::unanswered::Unanswered;
 use authenticators::NodeId;
 use tiered_vec::TieredVec;
 
@@ -17,9 +18,9 @@ pub struct Table {
     /// The messages of it of which segments have receipts, each once, ascending by receiver and number.
     pub receipts: TieredVec<Sending>,
     /// Its segments, by their least numbers.
-    pub spans: Vec<Span>,
-    /// The challenges against it that nothing answers, ascending by their spellings.
-    pub unanswered: Vec<u32>,
+    pub spans: SpanList,
+    /// The challenges against it that nothing answers.
+    pub unanswered: Unanswered,
     /// What exposes it, if something does.
     pub exposure: Option<ExposingPlaces>,
     /// How many statements were promised room and did not come yet.

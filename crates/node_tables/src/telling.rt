@@ -6,7 +6,7 @@ ghost use Rattle.authenticators.specs.declared.authenticator.Authenticator.{Auth
 ghost use Rattle.kept_items.specs.Positions.{shown};
 ghost use Rattle.node_tables.specs.Rows.{stated_at};
 ghost use Rattle.node_tables.specs.Steps.{room};
-ghost use Rattle.node_tables.specs.Tables.{AreSpans, DoNotFall, IsTold};
+ghost use Rattle.node_tables.specs.Tables.{AreSpans, IsTold};
 ghost use Rattle.node_tables.specs.within.Bringing.{AreUndenied, IsNext, RowStep, StatementStep, order_at};
 
 use crate::exposure::ExposingPlaces;
@@ -54,7 +54,6 @@ fn exposure_with<P>(
     said: &Said<'_>,
 ) -> Option<ExposingPlaces>
     requires spans { AreSpans items.now said.now.node table.now.spans.items }
-    requires by_low { DoNotFall table.now.spans.items }
     requires place { place ≤ length table.now.rows.items }
     requires quiet { table.now.exposure ≡ None → AreUndenied items.now table.now.rows.items table.now.spans.items }
     ensures { IsNext items.now table.now.rows.items table.now.spans.items place row (shown said.now) table.now.exposure result }

@@ -8,6 +8,7 @@
 pub use plain_store::PlainStore;
 
 mod convicting;
+mod digested;
 mod exposure;
 mod grouping;
 mod including;

@@ -7,6 +7,7 @@ ghost use Rattle.authenticators.specs.StatementSet.{IsUnion};
 ghost use Rattle.kept_evidence.specs.Kept.{IsStore, IsWhole};
 ghost use Rattle.kept_evidence.specs.Telling.{told_statements};
 
+use crate::digested::Digested;
 use crate::placing::{place_of, put};
 use authenticators::{AuthenticatorStore, Directory};
 use evidence::TakeRefused;
@@ -21,7 +22,7 @@ use std::alloc::Global;
 fn prepare<P: Program>(
     alloc: Global,
     directory: &Directory,
-    kept: &mut Vec<Checked<P>>,
+    kept: &mut Vec<Digested<P>>,
     held: &mut AuthenticatorStore,
     checked: &mut Checked<P>,
 ) -> Result<(), Memory>
@@ -45,7 +46,7 @@ fn prepare<P: Program>(
 pub(crate) fn take<P: Program>(
     alloc: Global,
     directory: &Directory,
-    kept: &mut Vec<Checked<P>>,
+    kept: &mut Vec<Digested<P>>,
     held: &mut AuthenticatorStore,
     mut checked: Checked<P>,
 ) -> Result<bool, TakeRefused<P>>

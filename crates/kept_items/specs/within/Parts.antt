@@ -10,8 +10,7 @@ use Rattle.proofs.specs.Contradictions.{is_rising}
 use Rattle.evidence_item.specs.declared.findings.Findings.{Findings}
 use Rattle.evidence_item.specs.declared.findings.Findings.TheVariants as found
 use Rattle.evidence_item.specs.Checking.{Checked}
-use Rattle.kept_entries.specs.declared.shared.SharedEntry.{SharedEntry}
-use Rattle.kept_entries.specs.Shared.{entries_of, hashes_of}
+use Rattle.kept_entries.specs.Shared.{SharedEntry, entries_of, hashes_of}
 use Rattle.kept_items.specs.within.Shared.{quotes_of}
 
 abbrev pub segment_of : ℕ → List ℕ → List SharedEntry → List ℕ → Segment

@@ -2,7 +2,7 @@
 use Rattle.std.specs.Prelude.{ℕ, List, [], ◌∷◌, ◌&&◌, nat_lt, Bool, true, Option, map}
 use Rattle.log_chain.specs.declared.entry.Entry.{Entry}
 use Rattle.item_forms.specs.Spelling.{FitsEntry, entry_spelling}
-use Rattle.kept_entries.specs.declared.shared.SharedEntry.{SharedEntry}
+use Rattle.kept_entries.specs.Shared.{SharedEntry}
 
 -- The hashes of what they quote.
 abbrev pub quotes_of : List SharedEntry → List (Option (List ℕ))

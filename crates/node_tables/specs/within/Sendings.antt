@@ -70,15 +70,3 @@ abbrev pub audited_by : Option Checked → Option Checked → Bool
 audited_by None d = false
 audited_by (Some c) None = false
 audited_by (Some c) (Some d) = told_audit c.item.fields d.item.fields
-
--- The item is of a form that stands behind all audit challenges.
-abbrev pub is_late : Fields → Bool
-is_late (form.Auth a) = false
-is_late (form.Segment s) = false
-is_late (form.Audit c) = false
-is_late (form.Send m) = true
-is_late (form.Ack a) = true
-
-abbrev pub is_late_by : Option Checked → Bool
-is_late_by None = false
-is_late_by (Some c) = is_late c.item.fields

@@ -22,7 +22,7 @@ challenges_at-requires g c = λ i has.
     let found = c.in-Some.ensures.some in
     let t = found.0 in
     let read : get_or c.args.tables.now c.in-Some.i c.index-tables-i.result ≡ t = get_or_from_slice_get c.args.tables.now c.in-Some.i t c.index-tables-i.result found.1 in
-    let here : Contains t.unanswered.items i = subst (λ (u : Table). Contains u.unanswered.items i) read (subst (λ (l : List ℕ). Contains l i) c.deref.ensures.value has) in
+    let here : Contains t.unanswered.places.items i = subst (λ (u : Table). Contains u.unanswered.places.items i) read (subst (λ (l : List ℕ). Contains l i) c.deref.ensures.value has) in
     subst (λ j. IsAgainstAt c.args.items.now j i) found.2 (open_against c.args.items.now t.node i (((c.requires.store.each c.in-Some.i t found.1).unanswered i).0 here))
 
 pub returns-clause-members : goal.returns-clause-members
@@ -32,8 +32,8 @@ returns-clause-members g c =
     let store = c.requires.store in
     let table = store.each c.in-Some.i t found.1 in
     let read : get_or c.args.tables.now c.in-Some.i c.index-tables-i.result ≡ t = get_or_from_slice_get c.args.tables.now c.in-Some.i t c.index-tables-i.result found.1 in
-    let places : c.deref.result.now ≡ t.unanswered.items = c.deref.ensures.value ∙ ap (λ (u : Table). u.unanswered.items) read in
-    let listed : map (λ i. i.now) c.in_ok-found.found.items ≡ pieces table.asked.named = rw places at c.in_ok-found.ensures ∙ lent_named c.args.items.now t.unanswered.items table.asked.named table.asked.names in
+    let places : c.deref.result.now ≡ t.unanswered.places.items = c.deref.ensures.value ∙ ap (λ (u : Table). u.unanswered.places.items) read in
+    let listed : map (λ i. i.now) c.in_ok-found.found.items ≡ pieces table.asked.spelled.named = rw places at c.in_ok-found.ensures ∙ lent_named c.args.items.now t.unanswered.places.items table.asked.spelled.named table.asked.spelled.names in
     subst (λ j. (x : Piece) → Contains (map (λ i. i.now) c.in_ok-found.found.items) x ↔ (Has (set_of c.args.items.now) x × IsUnanswered c.args.directory.now (set_of c.args.items.now) j x.fields)) found.2
     (open_members c.args.directory.now g.P.Program.means c.deviating_lists_do_not_conform.ensures c.args.items.now c.args.order.now.items store.ordered store.whole t table (map (λ i. i.now) c.in_ok-found.found.items) listed)
 
@@ -44,6 +44,6 @@ returns-clause-ascending g c =
     let store = c.requires.store in
     let table = store.each c.in-Some.i t found.1 in
     let read : get_or c.args.tables.now c.in-Some.i c.index-tables-i.result ≡ t = get_or_from_slice_get c.args.tables.now c.in-Some.i t c.index-tables-i.result found.1 in
-    let places : c.deref.result.now ≡ t.unanswered.items = c.deref.ensures.value ∙ ap (λ (u : Table). u.unanswered.items) read in
-    let listed : map (λ i. i.now) c.in_ok-found.found.items ≡ pieces table.asked.named = rw places at c.in_ok-found.ensures ∙ lent_named c.args.items.now t.unanswered.items table.asked.named table.asked.names in
+    let places : c.deref.result.now ≡ t.unanswered.places.items = c.deref.ensures.value ∙ ap (λ (u : Table). u.unanswered.places.items) read in
+    let listed : map (λ i. i.now) c.in_ok-found.found.items ≡ pieces table.asked.spelled.named = rw places at c.in_ok-found.ensures ∙ lent_named c.args.items.now t.unanswered.places.items table.asked.spelled.named table.asked.spelled.names in
     open_ascend c.args.directory.now g.P.Program.means c.deviating_lists_do_not_conform.ensures c.args.items.now c.args.order.now.items store.ordered store.whole t table (map (λ i. i.now) c.in_ok-found.found.items) listed

@@ -1,12 +1,12 @@
 use Rattle.std.proofs.Common.{◌≡◌, ◌+◌, ◌++◌, ◌∷◌, [], List, take, sym, ap, subst, ◌∙◌}
 use Rattle.std.proofs.lemmas.List.{take_all, take_more}
 use Rattle.evidence_item.specs.Checking.{Checked}
-use Rattle.node_tables.specs.Rooms.{AreReady, IsReady, IsRoomier}
+use Rattle.node_tables.specs.Rooms.{AreAllReleased, AreReady, IsReady, IsRoomier}
 use Rattle.node_tables.specs.Steps.{EachBecomes}
 use Rattle.node_tables.proofs.Reserved.{each_so, each_then, many_none, many_push, roomier_then}
-use Rattle.node_tables.proofs.Many.{all_ready}
 use Rattle.node_tables.proofs.Stepping.{ascend_still}
 use Rattle.indexed_store.proofs.Gathered.{on_ok}
+use Rattle.indexed_store.proofs.Owed.{all_back, on_err}
 use Rattle.indexed_store.proofs.merging.promise_all.Goals as goal
 
 pub loop-n-init : goal.loop-n-init
@@ -17,9 +17,14 @@ release_each-requires g c = ascend_still IsRoomier c.loop-n.tables c.promise_ite
 
 pub returns-then-is_err-clause-same : goal.returns-then-is_err-clause-same
 returns-then-is_err-clause-same g c =
-    each_then IsRoomier IsRoomier IsRoomier roomier_then c.args.tables.now c.promise_item.new.tables c.release_each.new.tables
+    each_then IsRoomier (AreAllReleased (take c.loop-n.n c.args.more.now)) IsRoomier (λ t u v a b. roomier_then t u v a b.roomier) c.args.tables.now c.promise_item.new.tables c.release_each.new.tables
     (each_then (AreReady (take c.loop-n.n c.args.more.now)) IsRoomier IsRoomier (λ t u v a b. roomier_then t u v a.roomier b) c.args.tables.now c.loop-n.tables c.promise_item.new.tables c.loop-n.invariant.1 c.promise_item.ensures.same)
     c.release_each.ensures
+
+pub returns-then-is_err-clause-refused : goal.returns-then-is_err-clause-refused
+returns-then-is_err-clause-refused g c =
+    all_back (take c.loop-n.n c.args.more.now) c.args.tables.now c.loop-n.tables c.promise_item.new.tables c.release_each.new.tables c.loop-n.invariant.1 c.promise_item.ensures.same
+    (on_err c.promise_item.result c.is_err.result _ c.promise_item.ensures.refused c.is_err.ensures.value c.if-is_err.true) c.release_each.ensures
 
 pub loop-n-preserved : goal.loop-n-preserved
 loop-n-preserved g c = (
@@ -38,4 +43,4 @@ returns-clause-same g c = each_so (AreReady (take c.loop-n.n c.args.more.now)) I
 pub returns-clause-ok : goal.returns-clause-ok
 returns-clause-ok g c =
     let whole : take c.loop-n.n c.args.more.now ≡ c.args.more.now = take_all c.loop-n.n c.args.more.now c.loop-n-test.false in
-    all_ready c.args.more.now c.args.tables.now c.loop-n.tables (subst (λ (l : List Checked). EachBecomes (AreReady l) c.args.tables.now c.loop-n.tables) whole c.loop-n.invariant.1)
+    subst (λ (l : List Checked). EachBecomes (AreReady l) c.args.tables.now c.loop-n.tables) whole c.loop-n.invariant.1

@@ -46,6 +46,7 @@ returns-clause-some g c =
     let xs = c.in_ok-handles.handles.items in
     let is : xs ≡ shared_of s.prev s.entries f.hashes f.quotes = rw (sym c.as_slice.ensures, sym c.as_slice-2.ensures, sym c.as_slice-3.ensures) c.in_ok-handles.ensures in
     let same : fields_of s.node s.prev xs c.in_ok-sig.sig ≡ x.item.fields = ap (fields_of s.node s.prev xs) c.in_ok-sig.ensures ∙ fields_are s f can xs is ∙ sym fields in
-    one_checked c.from_parts-kept.result x (c.from_parts-kept.ensures.fields ∙ same)
+    c.in_ok-kept.ensures.ok
+    ∙ one_checked c.from_parts-kept.result x (c.from_parts-kept.ensures.fields ∙ same)
     (c.from_parts-kept.ensures.verdict ∙ c.copied.ensures ∙ c.verdict.ensures)
     (c.from_parts-kept.ensures.findings ∙ findings_are s f can xs is ∙ sym findings)

@@ -3,8 +3,7 @@ use Rattle.std.specs.Prelude.{IfSome, is_some}
 use Rattle.std.proofs.lemmas.List.Sorted.{answers_always}
 use Rattle.log_chain.specs.History.{StandsAt, has_seq}
 use Rattle.log_chain.proofs.Finds.{searched}
-use Rattle.kept_entries.specs.declared.shared.SharedEntry.{SharedEntry}
-use Rattle.kept_entries.specs.Shared.{entries_of}
+use Rattle.kept_entries.specs.Shared.{SharedEntry, entries_of}
 use Rattle.kept_items.proofs.Entries.{in_range, searched_entries}
 use Rattle.kept_items.proofs.numbers.place_of.Goals as goal
 

@@ -1,6 +1,6 @@
 use Rattle.std.proofs.Common.{◌≡◌, ◌∙◌, length, get_or, ap, arith}
 use Rattle.std.proofs.lemmas.List.Folds.{length-flat_map-take}
-use Rattle.kept_entries.specs.declared.shared.SharedEntry.{SharedEntry}
+use Rattle.kept_entries.specs.Shared.{SharedEntry}
 use Rattle.kept_items.specs.within.Shared.{shared_spelling}
 use Rattle.kept_items.proofs.writing.entries_len.Goals as goal
 

@@ -1,7 +1,7 @@
 use Rattle.std.proofs.Common.{◌≡◌, ◌++◌, ◌∷◌, [], ◌+◌, ◌∙◌, ap, sym, take}
 use Rattle.std.proofs.lemmas.List.{take_more}
 use Rattle.item_forms.proofs.Written.{one_part_more}
-use Rattle.kept_entries.specs.declared.shared.SharedEntry.{SharedEntry}
+use Rattle.kept_entries.specs.Shared.{SharedEntry}
 use Rattle.kept_items.specs.within.Shared.{shared_spelling}
 use Rattle.kept_items.proofs.writing.write_each.Goals as goal
 

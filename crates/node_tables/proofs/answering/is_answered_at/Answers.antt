@@ -9,6 +9,11 @@ is_answered_in-requires-clause-others g c =
     let t = c.index-tables-i.result in
     c.requires.others c.args.i t (slice_get_read c.args.tables.now (length c.args.tables.now) c.args.i t refl c.requires.inside c.index-tables-i.is)
 
+pub is_answered_in-requires-clause-told : goal.is_answered_in-requires-clause-told
+is_answered_in-requires-clause-told g c =
+    let t = c.index-tables-i.result in
+    c.requires.standing.told c.args.i t (slice_get_read c.args.tables.now (length c.args.tables.now) c.args.i t refl c.requires.inside c.index-tables-i.is)
+
 pub returns : goal.returns
 returns g c = λ t at against.
     c.is_answered_in.ensures (subst (λ (u : Table). is_against u.node c.args.kept.now.item.fields ≡ true) (sym (c.index-tables-i.is ∙ get_or_from_slice_get c.args.tables.now c.args.i t c.index-tables-i.result at)) against)

@@ -5,7 +5,7 @@ use Rattle.evidence_item.specs.Checking.{Checked}
 use Rattle.evidence_set.specs.Challenges.{is_against}
 use Rattle.node_tables.specs.declared.table.Table.{Table}
 use Rattle.kept_items.specs.Keeping.{subject}
-use Rattle.node_tables.specs.Places.{AscendBySpelling, HasBodyRoom}
+use Rattle.node_tables.specs.Places.{AreAsked, HasBodyRoom}
 use Rattle.node_tables.specs.Tables.{IsTold}
 use Rattle.node_tables.specs.within.Placing.{BodyRooms, BodyStep, IsNewAmong, subject_by}
 use Rattle.node_tables.proofs.Bodied.{bodies_still, body_at}
@@ -45,6 +45,9 @@ put_in-requires-clause-subject g c =
     let found = c.in-Some-place_of.ensures.some in
     sym c.subject.ensures ∙ c.in-Some.is ∙ ap (λ n. Some n) (sym found.2) ∙ ap (λ (t : Table). Some t.node) (read c.args.tables.now c.in-Some-place_of.i found.0 c.index-tables-i.result found.1)
 
+pub is_answered_at-answered-requires-clause-standing : goal.is_answered_at-answered-requires-clause-standing
+is_answered_at-answered-requires-clause-standing g c = record { ordered = c.requires.order; ascending = c.requires.ascending; told = c.requires.told; receipts = c.requires.receipts }
+
 pub is_answered_at-answered-requires-clause-here : goal.is_answered_at-answered-requires-clause-here
 is_answered_at-answered-requires-clause-here g c = at c.args.items.now c.args.place c.index-items-place.result c.requires.there c.index-items-place.is
 
@@ -57,15 +60,15 @@ put_in-requires-clause-answered g c = λ against.
 pub put_in-requires-clause-asked : goal.put_in-requires-clause-asked
 put_in-requires-clause-asked g c =
     let found = c.in-Some-place_of.ensures.some in
-    subst (λ (t : Table). AscendBySpelling c.args.items.now t.unanswered.items) (read c.args.tables.now c.in-Some-place_of.i found.0 c.index-tables-i.result found.1) (c.requires.asked c.in-Some-place_of.i found.0 found.1)
+    subst (λ (t : Table). AreAsked c.args.items.now t.unanswered) (read c.args.tables.now c.in-Some-place_of.i found.0 c.index-tables-i.result found.1) (c.requires.asked c.in-Some-place_of.i found.0 found.1)
 
 pub put_in-requires-clause-new : goal.put_in-requires-clause-new
 put_in-requires-clause-new g c =
     let found = c.in-Some-place_of.ensures.some in
-    subst (λ (t : Table). IsNewAmong c.args.items.now c.args.place t.unanswered.items) (read c.args.tables.now c.in-Some-place_of.i found.0 c.index-tables-i.result found.1) (c.requires.new c.in-Some-place_of.i found.0 found.1)
+    subst (λ (t : Table). IsNewAmong c.args.items.now c.args.place t.unanswered.places.items) (read c.args.tables.now c.in-Some-place_of.i found.0 c.index-tables-i.result found.1) (c.requires.new c.in-Some-place_of.i found.0 found.1)
 
 pub returns-in-Some-place_of-clause-asked : goal.returns-in-Some-place_of-clause-asked
-returns-in-Some-place_of-clause-asked g c = all_set (λ (t : Table). AscendBySpelling c.args.items.now t.unanswered.items) c.args.tables.now c.in-Some-place_of.i c.put_in.new.table c.requires.asked c.put_in.ensures.asked
+returns-in-Some-place_of-clause-asked g c = all_set (λ (t : Table). AreAsked c.args.items.now t.unanswered) c.args.tables.now c.in-Some-place_of.i c.put_in.new.table c.requires.asked c.put_in.ensures.asked
 
 room : (items : List Checked) (n : ℕ) (x : Checked) (tables : List Table) (i : ℕ) (t d : Table) (node : ℕ) → slice_get items n ≡ Some x → slice_get tables i ≡ Some t → t.node ≡ node → subject x.item.fields ≡ Some node
     → ((i : ℕ) (t : Table) → slice_get tables i ≡ Some t → subject_by (slice_get items n) ≡ Some t.node → HasBodyRoom t) → HasBodyRoom (get_or tables i d)

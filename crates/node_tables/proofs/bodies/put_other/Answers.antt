@@ -6,4 +6,4 @@ use Rattle.node_tables.proofs.bodies.put_other.Goals as goal
 pub put_acknowledgement-requires-clause-here : goal.put_acknowledgement-requires-clause-here
 put_acknowledgement-requires-clause-here g c =
     ack_here c.args.items.now c.args.place c.args.kept.now c.in-Ack.field-0.now c.requires.here
-    (sym (ap (λ x. x.fields) c.requires.item) ∙ sym c.form.ensures ∙ ap shown c.in-Ack.is)
+    (sym c.requires.form ∙ ap shown c.in-Ack.is)

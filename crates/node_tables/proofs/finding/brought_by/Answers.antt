@@ -7,5 +7,5 @@ returns-then-is_again_beside-clause-none g c =
     let again = c.is_again_beside.ensures c.if-is_again_beside.true in
     record {
       beside = c.in_default.ensures.none;
-      undenied = again_undenied c.args.items.now c.args.rows.now.items c.args.spans.now (shown c.args.said.now) c.requires.quiet again.0 again.1 again.2;
+      undenied = again_undenied c.args.items.now c.args.rows.now.items c.args.spans.now.items (shown c.args.said.now) c.requires.quiet again.0 again.1 again.2;
     }

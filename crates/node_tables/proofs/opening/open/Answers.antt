@@ -5,6 +5,7 @@ use Rattle.std.specs.List.Sorted.{IsBinarySearchResult}
 use Rattle.std.specs.Ordering.{nat_cmp}
 use Rattle.node_tables.specs.declared.table.Table.{Table}
 use Rattle.node_tables.specs.Indexed.{HasNode, IsTable}
+use Rattle.node_tables.specs.Rooms.{Owes}
 use Rattle.node_tables.specs.Steps.{AllTables, AscendByNode}
 use Rattle.node_tables.proofs.Lookup.{found}
 use Rattle.node_tables.proofs.Places.{contains_at}
@@ -40,6 +41,12 @@ returns-in_ok-insert-in-Err-clause-each c =
     let tables = c.args.tables.now.items in
     let at = gap tables c.deref.result.now c.empty-table.result c.args.node c.in-Err.place c.deref.ensures.value c.empty-table.ensures.node c.in-Err.ensures.bound c.in-Err.ensures.position in
     subst (AllTables (IsTable [])) (sym c.in_ok-insert-in-Err.ensures.items) (all_more tables c.requires.ascending c.empty-table.result c.in-Err.place at.0 at.1 (IsTable []) c.requires.each c.empty-table.ensures.table)
+
+pub returns-in_ok-insert-in-Err-clause-owes : goal.returns-in_ok-insert-in-Err-clause-owes
+returns-in_ok-insert-in-Err-clause-owes c =
+    let tables = c.args.tables.now.items in
+    let at = gap tables c.deref.result.now c.empty-table.result c.args.node c.in-Err.place c.deref.ensures.value c.empty-table.ensures.node c.in-Err.ensures.bound c.in-Err.ensures.position in
+    subst (AllTables (Owes [])) (sym c.in_ok-insert-in-Err.ensures.items) (all_more tables c.requires.ascending c.empty-table.result c.in-Err.place at.0 at.1 (Owes []) c.requires.owes c.empty-table.ensures.owes)
 
 pub returns-in_ok-insert-in-Err-clause-has : goal.returns-in_ok-insert-in-Err-clause-has
 returns-in_ok-insert-in-Err-clause-has c =

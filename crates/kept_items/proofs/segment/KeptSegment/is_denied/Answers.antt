@@ -1,8 +1,7 @@
 use Rattle.std.proofs.Common.{List, sym, ap, ◌∙◌}
 use Rattle.proofs.specs.Contradictions.{is_rising}
 use Rattle.proofs.proofs.Contradicting.{rising-decides}
-use Rattle.kept_entries.specs.declared.shared.SharedEntry.{SharedEntry}
-use Rattle.kept_entries.specs.Shared.{entries_of}
+use Rattle.kept_entries.specs.Shared.{SharedEntry, entries_of}
 use Rattle.kept_items.proofs.segment.KeptSegment.is_denied.Goals as goal
 
 pub finds_pair-requires-clause-rising : goal.finds_pair-requires-clause-rising

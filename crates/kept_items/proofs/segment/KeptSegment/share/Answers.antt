@@ -1,6 +1,6 @@
 use Rattle.std.proofs.Common.{◌≡◌, List, ap, ◌∙◌}
 use Rattle.evidence_item.specs.Checking.{Checked}
-use Rattle.kept_entries.specs.declared.shared.SharedEntry.{SharedEntry}
+use Rattle.kept_entries.specs.Shared.{SharedEntry}
 use Rattle.kept_items.specs.within.Parts.{fields_of, findings_in}
 use Rattle.kept_items.proofs.Made.{one_checked}
 use Rattle.kept_items.proofs.segment.KeptSegment.share.Goals as goal
