@@ -26,12 +26,19 @@ def bad_inputs(directory, store, proof, items):
     swapped = raw[: first - 4] + raw[second - 4 :] + raw[first - 4 : second - 4]
     return [
         # The lines as they were sent.
-        ("store", b"", "refused 104 LineCount: the input is empty, and 2 lines are wanted: a directory and a store"),
+        ("store", b"", "refused 104 LineCount: the input is empty, and 2 lines or more are wanted: a directory and stores"),
         ("proof", b"", "refused 104 LineCount: the input is empty, and 2 lines are wanted: a directory and a proof"),
-        ("store", directory + b"\n", "refused 104 LineCount: the input has 1 line, and 2 lines are wanted: a directory and a store"),
-        ("store", two(directory, store) + store + b"\n" + store, "refused 104 LineCount: the input has 4 lines, and 2 lines are wanted: a directory and a store"),
-        ("store", two(directory, store) + b"\n", "refused 104 LineCount: behind line 2 stand lines with nothing in them, and 2 lines are wanted: a directory and a store"),
-        ("store", b"\x89PNG\r\n\x1a\n\0\0\0\rIHDR", "refused 104 LineCount: the input is no text: byte 1 of it is 89, and 2 lines are wanted: a directory and a store"),
+        ("directory", b"", "refused 104 LineCount: the input is empty, and a line is wanted: a directory"),
+        ("store", directory + b"\n", "refused 104 LineCount: the input has 1 line, and 2 lines or more are wanted: a directory and stores"),
+        ("proof", two(directory, proof) + proof + b"\n" + proof, "refused 104 LineCount: the input has 4 lines, and 2 lines are wanted: a directory and a proof"),
+        ("proof", two(directory, proof) + b"\n", "refused 104 LineCount: behind line 2 stand blank lines, and 2 lines are wanted: a directory and a proof"),
+        ("proof", b"\x89PNG\r\n\x1a\n\0\0\0\rIHDR", "refused 104 LineCount: the input is no text: byte 1 of it is 89, and 2 lines are wanted: a directory and a proof"),
+        ("store", b"\x89PNG\r\n\x1a\n\0\0\0\rIHDR", "refused 103 BadHex: line 1: character 1 is the byte 89, no hexadecimal digit"),
+        # The lines of `merge`: a line for each store.
+        ("store", two(directory, store) + b"\n", "refused 40 Truncated: line 3: the line is empty, and a store is wanted"),
+        ("store", two(directory, store) + store + b"\r\n", "refused 103 BadHex: line 3: it ends with a carriage return"),
+        ("store", two(directory, store) + proof + b"\n", "refused 60 BadMagic: line 3: this is a proof: ask for the proof"),
+        ("store", two(directory, store) + changed(last, broken).split(b"\n")[1], "refused 49 BadSignature: line 3, item 2, a statement of node 2, entry 3: a signature of it is not one by the node's key of the number that it names"),
         ("store", directory + b"\r\n" + store + b"\r\n", "refused 103 BadHex: line 1: it ends with a carriage return"),
         ("store", two(directory, store + b"\r"), "refused 103 BadHex: line 2: it ends with a carriage return"),
         ("store", two(directory + b" ", store), "refused 103 BadHex: line 1: it ends with a blank"),
@@ -56,10 +63,10 @@ def bad_inputs(directory, store, proof, items):
         # The store, and its items.
         ("store", changed(0, b"X"), "refused 60 BadMagic: line 2: the store does not begin as one"),
         ("store", whole(raw + b"\0"), "refused 43 Trailing: line 2, behind 2 items: bytes are left over"),
-        ("store", whole(raw[: second + 13]), "refused 40 Truncated: line 2, item 2, a statement of node 2, entry 3: it is cut off"),
+        ("store", whole(raw[: second + 13]), "refused 40 Truncated: line 2, item 2: it is cut off"),
         ("store", whole(swapped), "refused 61 NotAscending: line 2, item 2, a statement of node 2, entry 3: its bytes are not above those of the item before"),
         ("store", changed(last, broken), "refused 49 BadSignature: line 2, item 2, a statement of node 2, entry 3: a signature of it is not one by the node's key of the number that it names"),
         ("store", changed(second + 1, b"\0\0\0\x63"), "refused 44 UnknownNode: line 2, item 2, a statement of node 99, entry 3: the directory does not list a node that it names"),
         ("store", changed(second, b"\x09"), "refused 41 BadTag: line 2, item 2: a byte that tells forms apart is none of those that there are"),
-        ("store", changed(first - 4, b"\0\0\0\x06"), "refused 40 Truncated: line 2, item 1, a statement of node 2: it is cut off"),
+        ("store", changed(first - 4, b"\0\0\0\x06"), "refused 40 Truncated: line 2, item 1: it is cut off"),
     ]

@@ -1,32 +1,38 @@
 #!/usr/bin/env python3
-"""Holds what `explain` writes of each file of examples/ to what is stored in examples/explained/, text and page, by both builds.
+"""Holds what `bulwynef explain` writes of each text of examples/ to what is stored in examples/explained/, text and page, by both builds.
 
-A scenario is refused. A file of one store is explained as it is; one of several is refused so, and explained once `node_sim merge` has made one store of
-them. Of each node that the store exposes, what `node_sim prove` writes is explained as well. Then inputs that are
-refused: `bad_inputs.py` has each, made of an example, with the line that tells it.
+Each line stands in a file of its own. Several stores are explained as they are, and as the one store that `node_sim merge` makes of them: but for the
+line that names it both say the same. Of each node that the store exposes, what `node_sim prove` writes is explained as well. Then each reason of a
+deviation, each form of proof and each kind of challenge: `cases.py` makes the inputs, and `cases.txt` has by hand what is told. Then lines that
+`mailbox_sim explain` refuses: `bad_inputs.py` has each, made of an example, with the line that tells it.
 
-Wants crates/explain/out/explain and crates/node_sim/out/node_sim, which `rt ci` and `rt run` leave. `checks/explained/run.py --write` stores
+Wants bulwynef, mailbox_sim and node_sim in crates/NAME/out, which `rt ci` and `rt run` leave. `checks/explained/run.py --write` stores
 what the build by LLVM writes.
 """
 
+import hashlib
+import html
 import os
+import re
 import subprocess
 import sys
+import tempfile
 
 sys.dont_write_bytecode = True
 
 from bad_inputs import bad_inputs
+from cases import cases, mails
 
 TOP = os.path.dirname(os.path.dirname(os.path.dirname(os.path.abspath(__file__))))
 EXAMPLES, STORED = f"{TOP}/examples", f"{TOP}/examples/explained"
-EXPLAIN = [f"{TOP}/crates/explain/out/explain{ending}" for ending in ("", ".by-rattle")]
+BULWYNEF = [f"{TOP}/crates/bulwynef/out/bulwynef{ending}" for ending in ("", ".by-rattle")]
 NODE_SIM = f"{TOP}/crates/node_sim/out/node_sim"
 
 failed = []
 passed = 0
 
 
-def run(words, text):
+def run(words, text=b""):
     done = subprocess.run(words, input=text, capture_output=True, timeout=120)
     return done.returncode, done.stdout, done.stderr
 
@@ -46,6 +52,25 @@ def made(words, text):
     return out
 
 
+def explained(build, subject, text, page=False, more=()):
+    """What `bulwynef explain` ends with, and what it writes of the lines of a text, each in a file of its own; of a page what stands in its file."""
+    with tempfile.TemporaryDirectory() as folder:
+        names = []
+        for number, line in enumerate(text.split()):
+            names.append(f"{folder}/{number}")
+            with open(names[-1], "wb") as it:
+                it.write(bytes.fromhex(line.decode()))
+        words = [build, "explain", *more, "--directory", names[0]]
+        words += {"store": names[1:], "proof": ["--proof", *names[1:]], "directory": []}[subject]
+        status, out, error = run([*words, "--html", f"{folder}/page"] if page else words)
+        if page and status in (0, 3):
+            with open(f"{folder}/page", "rb") as it:
+                out += it.read()
+        left = set(os.listdir(folder)) - {str(number) for number in range(len(names))} - {"page"}
+        hold("no file is left", not left, left)
+    return status, out, error
+
+
 def inputs():
     """Each name with its subject and its input: what examples/ has, merged where it has several stores, and the proofs of it."""
     for file in sorted(os.listdir(EXAMPLES)):
@@ -56,12 +81,12 @@ def inputs():
             text = it.read()
         lines = text.splitlines(keepends=True)
         if name == "scenario":
-            yield name, "store", text
             continue
         if len(lines) > 2:
             yield f"{name}.stores", "store", text
             text = lines[0] + made(["merge"], text)
         yield name, "store", text
+        yield f"{name}.directory", "directory", lines[0]
         for line in made(["status"], text).split(b"\n"):
             if line.endswith(b" exposed"):
                 node = line.split()[0].decode()
@@ -69,20 +94,20 @@ def inputs():
 
 
 def compare(name, subject, text, build):
-    """Both forms of one input; a refusal has one alone."""
-    status, out, error = run([build, subject], text)
-    told = out if status == 0 else error
-    kinds = [(".txt", told)]
-    if status == 0:
-        kinds.append((".html", run([build, subject, "--html"], text)[1]))
-    for ending, found in kinds:
+    """Both forms of one input, by one worker and by eight."""
+    told = explained(build, subject, text)
+    page = explained(build, subject, text, page=True)
+    for ending, (status, found, error) in (".txt", told), (".html", page):
         file = f"{STORED}/{name}{ending}"
-        if "--write" in sys.argv and build == EXPLAIN[0]:
+        if "--write" in sys.argv and build == BULWYNEF[0]:
             with open(file, "wb") as it:
                 it.write(found)
         stored = open(file, "rb").read() if os.path.isfile(file) else None
         hold(f"{name}{ending} by {os.path.basename(build)}", stored == found)
-    hold(f"{name} ends", status == (0 if not error else 1) and (not out or not error), error)
+        wanted = 3 if re.search(rb"^\d+ exposed$", told[1], re.M) else 0
+        hold(f"{name}{ending} ends", status == wanted and not error, (status, error))
+    for workers in ("1", "8"):
+        hold(f"{name} by {workers} workers", explained(build, subject, text, more=["--workers", workers]) == told)
 
 
 def items_of(store):
@@ -104,10 +129,43 @@ def refusals():
     return bad_inputs(directory, store, proof, items_of(bytes.fromhex(store.decode())))
 
 
+def expected():
+    """What is told of each case, as it stands in cases.txt."""
+    with open(f"{TOP}/checks/explained/cases.txt", encoding="utf-8") as it:
+        parts = it.read().split("\n== ")
+    return dict(part.split("\n", 1) for part in parts[1:])
+
+
+def grouped(data):
+    return " ".join(re.findall("....", hashlib.sha256(bytes.fromhex(data)).hexdigest()))
+
+
+def command_of(subject, text):
+    """The command of node_sim that refuses the same."""
+    if subject == "proof":
+        return "check"
+    return "merge" if len(text.splitlines()) > 2 or text.endswith(b"\n\n") else "status"
+
+
+def told_of_cases(tell, program, made_of, wanted):
+    """Each case is told as it stands in cases.txt, behind its program and the digests of its two lines; and its page has each sentence."""
+    told = set()
+    for name, subject, text, hashes in made_of():
+        told.add(name)
+        directory, evidence = text.decode().split()[:2]
+        lines = f"Program: {program}\nSHA-256 of the directory: {grouped(directory)}\nSHA-256 of the {subject}: {grouped(evidence)}\n"
+        lines += wanted.get(name, "").strip("\n").format(**hashes) + "\n"
+        status, out, error = tell(subject, text, False)
+        hold(f"{name} of {program}", status in (0, 3) and not error and out.decode() == lines, out.decode())
+        page = html.unescape(tell(subject, text, True)[1].decode())
+        hold(f"{name}, the page", all(line.strip() in page for line in lines.split("\n")[4:] if line.startswith(" ")))
+    return told
+
+
 def main():
-    builds = [build for build in EXPLAIN if os.path.isfile(build)]
+    builds = [build for build in BULWYNEF if os.path.isfile(build)]
     if not builds:
-        sys.exit("crates/explain/out/explain is missing: rt ci and rt run leave it")
+        sys.exit("crates/bulwynef/out/bulwynef is missing: rt ci and rt run leave it")
     os.makedirs(STORED, exist_ok=True)
     for build in builds:
         names = set()
@@ -116,13 +174,24 @@ def main():
             compare(name, subject, text, build)
         stored = {os.path.splitext(file)[0] for file in os.listdir(STORED) if file.endswith((".txt", ".html"))}
         hold("each stored output is of an example", stored <= names, stored - names)
+        mailbox_sim = [build.replace("bulwynef", "mailbox_sim"), "explain"]
+        wanted = expected()
+        told = told_of_cases(lambda subject, text, page: explained(build, subject, text, page), "Tally", cases, wanted)
+        told |= told_of_cases(lambda subject, text, page: explained(build, subject, text, page, ["--program", "mailbox"]), "Mailbox", mails, wanted)
+        told_of_cases(lambda subject, text, page: run([*mailbox_sim, subject, *(["--html"] if page else [])], text), "Mailbox", mails, wanted)
+        hold("each case is made", told == set(wanted), set(wanted) - told)
         for subject, text, wanted in refusals():
-            status, out, error = run([build, subject], text)
+            status, out, error = run([*mailbox_sim, subject], text)
             hold(wanted, status == 1 and not out and error.decode() == wanted + "\n", error)
-            plain = run([NODE_SIM, {"store": "status", "proof": "check"}[subject]], text)
-            hold(f"node_sim tells {wanted}", error.split(b":")[0] == plain[2].strip(), plain[2])
-        for words in ([], ["status"], ["store", "--text"], ["store", "proof"]):
-            hold(f"words {words}", run([build, *words], b"")[0] == 2)
+            if subject != "directory":
+                plain = run([NODE_SIM, command_of(subject, text)], text)
+                hold(f"node_sim tells {wanted}", error.split(b":")[0] == plain[2].strip(), plain[2])
+        for name in ("two_witnesses", "spreading"):
+            one, other = [open(f"{STORED}/{name}{ending}.txt").read().split("\n") for ending in ("", ".stores")]
+            hold(f"{name}: the union is told as the merged store", one[:2] + one[3:] == other[:2] + other[3:])
+            hold(f"{name}: it has the merged store's digest", one[2].split(": ")[1] == other[2].split(": ")[1])
+        for words in ([], ["status"], ["store", "--text"], ["store", "proof"], ["directory", "--relay"]):
+            hold(f"words {words}", run([*mailbox_sim, *words])[0] == 2)
     print(f"explained: {passed} held, {len(failed)} not")
     sys.exit(1 if failed else 0)
 

@@ -1,11 +1,12 @@
 //! The page's head: what was judged and under what, and links to the nodes.
 
-use crate::style::STYLE;
+use crate::folding::{count_of, fold_name, fold_words, open_of};
+use drawn_logs::markup::{begin, begin_section, count, element, end, part};
 use evidence_set::Indication;
-use explanations::{Basis, Grouped, Input, NodeExplanation};
 use log_chain::Hash;
-use page_text::Page;
-use page_text::Piece::{Digits, Markup, Number, Text};
+use page_text::Piece::{Close, Digits, End, Inside, Line, Link, Number, Open, Set, Text};
+use page_text::{Attribute, Page, Piece, Sign, Tag};
+use sentences::{Basis, Grouped, Input, NodeExplanation};
 use std::alloc::{AllocError, Global};
 
 /// The word for what is said of a node.
@@ -18,73 +19,110 @@ pub(crate) fn word(indication: Indication) -> &'static str {
 }
 
 /// The sign beside the word.
-pub(crate) fn sign(indication: Indication) -> &'static str {
+fn sign(indication: Indication) -> Piece<'static> {
     match indication {
-        Indication::Trusted => "\u{2713}",
-        Indication::Suspected => "?",
-        Indication::Exposed => "!",
+        Indication::Trusted => Piece::Sign(Sign::Check),
+        Indication::Suspected => Text(b"?"),
+        Indication::Exposed => Text(b"!"),
     }
+}
+
+/// Writes the sign beside the word, which only eyes need.
+pub(crate) fn write_sign(page: &mut Page, indication: Indication) -> Result<(), AllocError> {
+    page.write(&[
+        Open(Tag::Span),
+        Set(Attribute::Class),
+        Text(b"sign"),
+        End,
+        Set(Attribute::AriaHidden),
+        Text(b"true"),
+        End,
+        Inside,
+        sign(indication),
+        Close(Tag::Span),
+        Text(b" "),
+    ])
 }
 
 /// The page's heading, by what was judged.
 fn heading(input: Input) -> &'static str {
     match input {
-        Input::Store => "What the evidence says",
+        Input::Store | Input::Union => "What the evidence says",
         Input::Proof => "What the proof shows",
     }
 }
 
-/// Writes the head: the page runs and loads nothing.
-pub(crate) fn write_head(page: &mut Page, basis: &Basis, summary: &[u8]) -> Result<(), AllocError> {
+/// The page's title.
+pub(crate) fn title_of(alloc: Global, basis: &Basis, summary: &str) -> Result<String, AllocError> {
+    let heading = heading(basis.input);
+    format!(in alloc; "{heading}: {summary}")
+}
+
+/// Writes the page's heading, and the line about the whole.
+pub(crate) fn write_heading(
+    page: &mut Page,
+    heading: &str,
+    summary: &str,
+) -> Result<(), AllocError> {
     page.write(&[
-        Markup(
-            "<!DOCTYPE html>\n<html lang=\"en\">\n<head>\n<meta charset=\"utf-8\">\n<meta http-equiv=\"Content-Security-Policy\" content=\"default-src 'none'; style-src 'unsafe-inline'; base-uri 'none'; form-action 'none'\">\n<meta name=\"viewport\" content=\"width=device-width, initial-scale=1\">\n<title>",
-        ),
-        Markup(heading(basis.input)),
-        Markup(": "),
-        Text(summary),
-        Markup("</title>\n<style>\n"),
-        Markup(STYLE),
-        Markup("</style>\n</head>\n<body>\n<header>\n<h1>"),
-        Markup(heading(basis.input)),
-        Markup("</h1>\n<p class=\"summary\">"),
-        Text(summary),
-        Markup("</p>\n"),
-    ])
+        Open(Tag::Body),
+        Inside,
+        Line,
+        Open(Tag::Header),
+        Inside,
+        Line,
+    ])?;
+    element(page, Tag::H1, &[Text(heading.as_bytes())])?;
+    page.write(&[Line])?;
+    part(page, Tag::P, "summary", &[Text(summary.as_bytes())])?;
+    page.write(&[Line])
+}
+
+/// Writes a name, and what it is the name of.
+fn write_term(page: &mut Page, name: &str, value: &str) -> Result<(), AllocError> {
+    element(page, Tag::Dt, &[Text(name.as_bytes())])?;
+    element(page, Tag::Dd, &[Text(value.as_bytes())])?;
+    page.write(&[Line])
 }
 
 /// Writes a digest in groups of four digits, behind its name.
-fn write_digest(
+pub(crate) fn write_digest(
     alloc: Global,
     page: &mut Page,
-    name: &'static str,
+    name: &str,
     hash: &Hash,
 ) -> Result<(), AllocError> {
     let grouped = Grouped(hash);
     let digits = format!(in alloc; "{grouped}")?;
-    page.write(&[
-        Markup("<dt>SHA-256 of the "),
-        Markup(name),
-        Markup("</dt><dd><code>"),
-        Text(digits.as_bytes()),
-        Markup("</code></dd>\n"),
-    ])
+    element(
+        page,
+        Tag::Dt,
+        &[Text(b"SHA-256 of "), Text(name.as_bytes())],
+    )?;
+    page.write(&[Open(Tag::Dd), Inside])?;
+    element(page, Tag::Code, &[Text(digits.as_bytes())])?;
+    end(page, Tag::Dd)
 }
 
-/// Writes under what the verdict is given.
-pub(crate) fn write_basis(alloc: Global, page: &mut Page, basis: &Basis) -> Result<(), AllocError> {
-    page.write(&[
-        Markup("<dl class=\"basis\">\n<dt>Program</dt><dd>"),
-        Text(basis.program.as_bytes()),
-        Markup("</dd>\n"),
-    ])?;
-    write_digest(alloc, page, "directory", &basis.directory)?;
+/// Writes what was judged, under what, and what says so.
+pub(crate) fn write_basis(
+    alloc: Global,
+    page: &mut Page,
+    basis: &Basis,
+    summary: &str,
+) -> Result<(), AllocError> {
+    write_heading(page, heading(basis.input), summary)?;
+    begin(page, Tag::Dl, "basis")?;
+    page.write(&[Line])?;
+    write_term(page, "Program", basis.program.as_str())?;
+    write_digest(alloc, page, "the directory", &basis.directory)?;
     let name = match basis.input {
-        Input::Store => "store",
-        Input::Proof => "proof",
+        Input::Store => "the store",
+        Input::Union => "the union of the stores",
+        Input::Proof => "the proof",
     };
     write_digest(alloc, page, name, &basis.evidence)?;
-    page.markup("</dl>\n")
+    end(page, Tag::Dl)
 }
 
 /// Writes the lines that can be checked as they are, folded away.
@@ -92,76 +130,108 @@ pub(crate) fn write_lines(page: &mut Page, lines: &[&[u8]]) -> Result<(), AllocE
     if lines.is_empty() {
         return Ok(());
     }
-    page.markup(
-        "<section aria-labelledby=\"lines-heading\">\n<h2 id=\"lines-heading\">To check it</h2>\n<details><summary>The lines of the directory and of the proof</summary>\n<pre class=\"lines\">",
+    begin_section(page, "lines-heading", "To check it")?;
+    page.write(&[Open(Tag::Details), Inside])?;
+    element(
+        page,
+        Tag::Summary,
+        &[Text(b"The lines of the directory and of the proof")],
     )?;
+    page.write(&[Line])?;
+    begin(page, Tag::Pre, "lines")?;
     for line in lines {
-        page.write(&[Digits(*line), Markup("\n")])?;
+        page.write(&[Digits(*line), Line])?;
     }
-    page.markup("</pre></details>\n</section>\n")
+    page.write(&[Close(Tag::Pre), Close(Tag::Details), Line])?;
+    end(page, Tag::Section)
 }
 
 /// Writes a node's link at the top.
 fn write_chip(page: &mut Page, told: &NodeExplanation) -> Result<(), AllocError> {
+    begin(page, Tag::Li, word(told.indication))?;
     page.write(&[
-        Markup("<li class=\""),
-        Markup(word(told.indication)),
-        Markup("\"><a href=\"#node-"),
+        Open(Tag::A),
+        Link,
+        Text(b"node-"),
         Number(told.node.0 as u64),
-        Markup("\"><span class=\"sign\" aria-hidden=\"true\">"),
-        Markup(sign(told.indication)),
-        Markup("</span> node "),
-        Number(told.node.0 as u64),
-        Markup(" <strong>"),
-        Markup(word(told.indication)),
-        Markup("</strong></a></li>\n"),
-    ])
+        End,
+        Inside,
+    ])?;
+    write_sign(page, told.indication)?;
+    page.write(&[Text(b"node "), Number(told.node.0 as u64), Text(b" ")])?;
+    let word = word(told.indication);
+    element(page, Tag::Strong, &[Text(word.as_bytes())])?;
+    page.write(&[Close(Tag::A), Close(Tag::Li), Line])
 }
 
-/// How many nodes are of the indication.
-pub(crate) fn count_of(nodes: &[NodeExplanation], indication: Indication) -> u64 {
-    let mut count: u64 = 0;
-    for told in nodes {
-        if told.indication == indication {
-            count = count.saturating_add(1);
-        }
-    }
-    count
-}
-
-/// Writes the links to the nodes of the indication.
+/// Writes the links to the nodes of the indication that stand open.
 fn write_chips_of(
     page: &mut Page,
     nodes: &[NodeExplanation],
     indication: Indication,
 ) -> Result<(), AllocError> {
+    let mut left = open_of(nodes, indication);
     for told in nodes {
-        if told.indication == indication {
+        if told.indication == indication && left > 0 {
             write_chip(page, told)?;
+            left = left.saturating_sub(1);
         }
     }
-    Ok(())
+    write_fold_chip(page, nodes, indication)
 }
 
-/// Writes the link to the trusted nodes, where there are some.
-fn write_trusted_chip(page: &mut Page, count: u64) -> Result<(), AllocError> {
-    if count == 0 {
+/// Writes the link to the nodes of the indication that are folded, where there are some.
+fn write_fold_chip(
+    page: &mut Page,
+    nodes: &[NodeExplanation],
+    indication: Indication,
+) -> Result<(), AllocError> {
+    let folded = count_of(nodes, indication).saturating_sub(open_of(nodes, indication));
+    if folded == 0 {
         return Ok(());
     }
-    page.write(&[
-        Markup(
-            "<li class=\"trusted\"><a href=\"#trusted\"><span class=\"sign\" aria-hidden=\"true\">\u{2713}</span> ",
-        ),
-        Number(count),
-        Markup(" <strong>trusted</strong></a></li>\n"),
-    ])
+    begin(page, Tag::Li, word(indication))?;
+    let name = Text(fold_name(indication).as_bytes());
+    page.write(&[Open(Tag::A), Link, name, End, Inside])?;
+    write_sign(page, indication)?;
+    count(page, folded, " node ", " nodes ")?;
+    let words = Text(fold_words(indication).as_bytes());
+    element(page, Tag::Strong, &[words])?;
+    page.write(&[Close(Tag::A), Close(Tag::Li), Line])
 }
 
-/// Writes the links to the nodes: exposed ones first, then suspected ones, and one to all that are trusted.
+/// Writes the links to the nodes, exposed ones first, then suspected ones, and one to all that are folded of each; and begins the main part.
 pub(crate) fn write_chips(page: &mut Page, nodes: &[NodeExplanation]) -> Result<(), AllocError> {
-    page.markup("<nav aria-label=\"Nodes\"><ul class=\"nodes\">\n")?;
+    page.write(&[
+        Open(Tag::Nav),
+        Set(Attribute::AriaLabel),
+        Text(b"Nodes"),
+        End,
+        Inside,
+    ])?;
+    begin(page, Tag::Ul, "nodes")?;
+    page.write(&[Line])?;
     write_chips_of(page, nodes, Indication::Exposed)?;
     write_chips_of(page, nodes, Indication::Suspected)?;
-    write_trusted_chip(page, count_of(nodes, Indication::Trusted))?;
-    page.markup("</ul></nav>\n</header>\n<main>\n")
+    write_chips_of(page, nodes, Indication::Trusted)?;
+    page.write(&[Close(Tag::Ul), Close(Tag::Nav), Line])?;
+    begin_main(page)
+}
+
+/// Ends the head, and begins the main part.
+pub(crate) fn begin_main(page: &mut Page) -> Result<(), AllocError> {
+    page.write(&[Close(Tag::Header), Line, Open(Tag::Main), Inside, Line])
+}
+
+/// Ends the main part and the page.
+pub(crate) fn end_page(page: &mut Page) -> Result<(), AllocError> {
+    end(page, Tag::Main)?;
+    end(page, Tag::Body)?;
+    end(page, Tag::Html)
+}
+
+/// Writes a text as a paragraph of what is left out.
+pub(crate) fn write_note(page: &mut Page, note: &[Piece<'_>]) -> Result<(), AllocError> {
+    part(page, Tag::P, "cut", note)?;
+    page.write(&[Line])
 }

@@ -2,18 +2,22 @@
 //! of which they speak.
 //!
 //! - [`Rows`] has what is known of each node's log, of a store ([`rows_of`]) or of a proof ([`rows_of_proof`]).
-//! - [`page_of`] writes the page, with the program and the directory under which it holds: HTML with its style and its picture in it, that
-//!   runs nothing and loads nothing. Whatever comes from
-//!   evidence is text of a `page_text::Page`, and so escaped.
+//! - [`page_of`] writes the page, with the program and the directory under which it holds: HTML with its style and its picture in it. Its
+//!   contract says that it is a page of `page_text`: it runs nothing and loads nothing, and whatever comes from evidence is escaped.
+//! - [`page_of_listing`] writes the page of what a directory lists.
 #![tactic(auto)]
 
 pub use document::page_of;
-pub use explanations::{Basis, Explanation};
 pub use known_logs::{Rows, rows_of, rows_of_proof};
+pub use listings::page_of_listing;
+pub use sentences::{Basis, Explanation};
 
-mod describing;
 mod document;
+mod folding;
 mod head;
+mod legend;
+mod listings;
 mod picture;
+mod sections;
 mod style;
 mod tables;

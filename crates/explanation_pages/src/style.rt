@@ -1,4 +1,4 @@
-//! The page's style, and the legend of its picture.
+//! The page's style.
 
 /// The style, for light and dark, for the screen and for paper.
 pub(crate) const STYLE: &str = ":root{color-scheme:light dark;
@@ -35,7 +35,14 @@ section{background:var(--card);border:1px solid var(--rule);border-radius:8px;pa
 .legend li{display:flex;align-items:center;gap:.4rem}
 .legend svg{flex:none}
 .scroll{overflow-x:auto}
-.scroll>svg{display:block;min-width:100%}
+.strip{display:flex;position:relative;width:max-content;min-width:100%}
+.strip>svg{display:block;flex:none}
+.strip>.logs{min-width:100%;margin-left:-96px}
+.names{position:sticky;left:0;z-index:1}
+.start{position:absolute;top:0;left:0;display:flex;visibility:hidden}
+.start svg{flex:none}
+.here{scroll-initial-target:nearest;width:184px;height:1px;flex:none}
+.more{position:sticky;right:0;flex:none;width:1.5rem;margin-left:-1.5rem;background:linear-gradient(to right,transparent,var(--ground));pointer-events:none}
 .sentences{margin:0 0 .6rem;padding-left:1.2rem}
 .sentences li{margin:.15rem 0;overflow-wrap:anywhere;white-space:pre-wrap}
 li:target,tr:target{background:var(--warn-ground)}
@@ -50,6 +57,8 @@ td.content{overflow-wrap:anywhere;min-width:10rem;white-space:pre-wrap}
 td.hash code{font-size:.78rem;color:var(--muted);overflow-wrap:anywhere}
 tr.marked td,tr.marked th{background:var(--alarm-ground)}
 td.sign{white-space:nowrap}
+.rest{display:none}
+.whole[open]+.scroll .rest{display:inline}
 tr.marked a{color:var(--alarm);font-weight:700}
 svg text{font-family:inherit;fill:var(--ink)}
 .name{font-size:15px;font-weight:700;dominant-baseline:middle}
@@ -70,7 +79,7 @@ svg .sign{fill:var(--card);font-size:13px;font-weight:700}
 .entry:target .box{stroke:var(--link);stroke-width:4}
 a:hover .box{stroke:var(--link)}
 .chain{fill:none;stroke:var(--line);stroke-width:2}
-.arrow{fill:none;stroke:var(--arrow);stroke-width:1.6}
+.arrow{fill:none;stroke:var(--arrow);stroke-width:1.6;stroke-linejoin:round}
 .head{fill:var(--arrow)}
 @media screen{td.hash code{white-space:nowrap}}
 @page{size:A4 landscape;margin:12mm}
@@ -82,20 +91,10 @@ body{font-size:11pt}
 header,main{max-width:none;padding:0}
 section{border:0;border-top:1px solid var(--rule);border-radius:0;padding:.6rem 0;margin:0}
 .scroll{overflow:visible}
-.scroll>svg{min-width:0;max-width:100%;height:auto}
+.names,.more,.start,.whole{display:none}
+.strip{display:block;width:auto}
+.strip>.logs{min-width:0;max-width:100%;max-height:175mm;height:auto;margin:0}
+.rest{display:inline}
 *{-webkit-print-color-adjust:exact;print-color-adjust:exact}
 h2,summary{break-after:avoid}tr,li,svg{break-inside:avoid}}
-";
-
-/// The legend. The shapes say what the colours say.
-pub(crate) const LEGEND: &str = "<ul class=\"legend\" aria-label=\"Legend\">
-<li><svg width=\"26\" height=\"16\" aria-hidden=\"true\"><g class=\"init\"><rect class=\"box\" x=\"1\" y=\"1\" width=\"24\" height=\"14\" rx=\"2\"/></g></svg>INIT</li>
-<li><svg width=\"26\" height=\"16\" aria-hidden=\"true\"><g class=\"send\"><rect class=\"box\" x=\"1\" y=\"1\" width=\"24\" height=\"14\" rx=\"2\"/></g></svg>SEND</li>
-<li><svg width=\"26\" height=\"16\" aria-hidden=\"true\"><g class=\"recv\"><rect class=\"box\" x=\"1\" y=\"1\" width=\"24\" height=\"14\" rx=\"2\"/></g></svg>RECV</li>
-<li><svg width=\"26\" height=\"16\" aria-hidden=\"true\"><g class=\"timer\"><rect class=\"box\" x=\"1\" y=\"1\" width=\"24\" height=\"14\" rx=\"2\"/></g></svg>TIMER</li>
-<li><svg width=\"26\" height=\"16\" aria-hidden=\"true\"><g class=\"checkpoint\"><rect class=\"box\" x=\"1\" y=\"1\" width=\"24\" height=\"14\" rx=\"2\"/></g></svg>CHECKPOINT</li>
-<li><svg width=\"26\" height=\"16\" aria-hidden=\"true\"><g class=\"bare signed\"><rect class=\"box\" x=\"1\" y=\"1\" width=\"24\" height=\"14\" rx=\"7\"/></g></svg>rounded: signed, in no segment</li>
-<li><svg width=\"26\" height=\"16\" aria-hidden=\"true\"><path class=\"flag\" d=\"M13 0l9 16h-18z\"/><text class=\"sign\" x=\"13\" y=\"14\">!</text></svg>contradicts</li>
-<li><svg width=\"26\" height=\"16\" aria-hidden=\"true\"><path class=\"arrow\" d=\"M1 8h16\"/><path class=\"head\" d=\"M25 8l-9 -5v10z\"/></svg>from a SEND to the entry that quotes it</li>
-</ul>
 ";

@@ -3,9 +3,9 @@
 use authenticators::{Directory, NodeId};
 use evidence_set::Indication;
 use explanation_pages::{page_of, rows_of_proof};
-use explanations::{Basis, Explanation, Input, Mark, NodeExplanation, Sentence};
 use log_chain::{ByteString, Entry, Hash, kind};
 use proofs::{Item, Proof};
+use sentences::{Basis, Explanation, Input, Mark, NodeExplanation, PlainVoice, Sentence};
 use std::alloc::Global;
 use std::test::Fail;
 
@@ -58,7 +58,7 @@ fn page(alloc: Global, count: u64) -> Result<Vec<u8>, Fail> {
     let rows = Box::new(alloc, rows_of_proof(alloc, &directory, &proof)?)?;
     let explanation = explanation(alloc)?;
     let basis = Basis::of(alloc, "Tally", b"", Input::Store, b"")?;
-    Ok(page_of(alloc, &basis, &explanation, &rows, &[])?)
+    Ok(page_of(alloc, &PlainVoice, &basis, &explanation, &rows, &[])?)
 }
 
 /// An explanation of this node, of which no sentence speaks.
@@ -87,7 +87,7 @@ fn page_of_many(alloc: Global) -> Result<Vec<u8>, Fail> {
         },
     )?;
     let basis = Basis::of(alloc, "Tally", b"", Input::Store, b"")?;
-    Ok(page_of(alloc, &basis, &explanation, &rows, &[])?)
+    Ok(page_of(alloc, &PlainVoice, &basis, &explanation, &rows, &[])?)
 }
 
 /// Whether the text stands in the page.
@@ -108,7 +108,7 @@ fn a_long_row_is_cut(rt: HostRuntime) -> Result<(), Fail> {
         "<g id=\"entry-1-150\" class=\"entry send logged marked\"",
         "<g id=\"entry-1-400\" class=\"entry bare absent marked\"",
         "<title>Node 1, entry 400: nothing of it is here</title>",
-        "to node 2, &#34;&#60;hi&#62;&#34; (4 bytes)",
+        "<td class=\"content\">to node 2 of &#34;&#60;hi&#62;&#34;</td>",
     ] {
         assert!(rt; has(&page, text));
     }
@@ -131,11 +131,11 @@ fn of_many_nodes_those_at_fault_have_a_row(rt: HostRuntime) -> Result<(), Fail> 
     assert!(rt;
         has(
             &page,
-            "The logs of 25 nodes are not drawn: nothing stands against them"
+            "Not drawn, since nothing stands against them and no entry of them quotes a marked one: the logs of 25 nodes."
         )
     );
     assert!(rt; !has(&page, "<g id=\"entry-1-3\""));
-    assert!(rt; has(&page, "<summary>\u{2713} 25 trusted nodes</summary>"));
+    assert!(rt; has(&page, "&#10003;</span> 25 trusted nodes</summary>"));
     assert!(rt; has(&page, "<section class=\"node\" id=\"node-24\""));
     Ok(())
 }

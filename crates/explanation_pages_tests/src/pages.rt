@@ -3,9 +3,9 @@
 use authenticators::{Authenticator, Directory, NodeId};
 use evidence_set::Indication;
 use explanation_pages::{page_of, rows_of_proof};
-use explanations::{Basis, Explanation, Input, Mark, NodeExplanation, Sentence};
 use log_chain::{ByteString, Hash};
 use proofs::{Item, Proof};
+use sentences::{Basis, Explanation, Input, Mark, NodeExplanation, PlainVoice, Sentence};
 use std::alloc::Global;
 use std::test::Fail;
 
@@ -63,7 +63,14 @@ fn page(alloc: Global) -> Result<Vec<u8>, Fail> {
     let rows = Box::new(alloc, rows_of_proof(alloc, &directory, &proof)?)?;
     let explanation = explanation(alloc)?;
     let basis = Basis::of(alloc, "Tally", b"one", Input::Proof, b"two")?;
-    Ok(page_of(alloc, &basis, &explanation, &rows, &[b"one", b"two"])?)
+    Ok(page_of(
+        alloc,
+        &PlainVoice,
+        &basis,
+        &explanation,
+        &rows,
+        &[b"one", b"two"],
+    )?)
 }
 
 /// The page's beginning.
@@ -71,27 +78,38 @@ fn beginning() -> &'static str {
     "<!DOCTYPE html>\n<html lang=\"en\">\n<head>\n<meta charset=\"utf-8\">\n<meta http-equiv=\"Content-Security-Policy\" content=\"default-src 'none'; style-src 'unsafe-inline'; base-uri 'none'; form-action 'none'\">\n<meta name=\"viewport\" content=\"width=device-width, initial-scale=1\">\n<title>What the proof shows: 1 node</title>\n<style>\n"
 }
 
-/// The page from the picture on, written by hand.
+/// The page from the picture's legend on, written by hand.
 fn wanted() -> &'static str {
-    "<svg role=\"img\" aria-labelledby=\"picture-title picture-desc\" width=\"512\" height=\"136\" viewBox=\"0 0 512 136\" preserveAspectRatio=\"xMinYMin meet\">
+    "<ul class=\"legend\" aria-label=\"Legend\">
+<li><svg width=\"26\" height=\"16\" aria-hidden=\"true\"><g class=\"bare signed\"><rect class=\"box\" x=\"1\" y=\"1\" width=\"24\" height=\"14\" rx=\"7\"/></g></svg>rounded: signed, in no segment</li>
+<li><svg width=\"26\" height=\"16\" aria-hidden=\"true\"><path class=\"flag\" d=\"M13 0l9 16h-18z\"/><text class=\"sign\" x=\"13\" y=\"14\">!</text></svg>contradicts</li>
+</ul>
+<div class=\"scroll\" role=\"region\" aria-label=\"Picture\" tabindex=\"0\">
+<div class=\"strip\">
+<div class=\"start\"><svg width=\"0\" height=\"1\" viewBox=\"0 0 0 1\" preserveAspectRatio=\"xMinYMin meet\" aria-hidden=\"true\"></svg><span class=\"here\"></span></div>
+<svg width=\"96\" height=\"136\" viewBox=\"0 0 96 136\" preserveAspectRatio=\"xMinYMin meet\" class=\"names\" aria-hidden=\"true\">
+<rect class=\"band\" y=\"0\" width=\"96\" height=\"136\"/><text class=\"name\" x=\"14\" y=\"39\">node 1</text>
+</svg><svg width=\"512\" height=\"136\" viewBox=\"0 0 512 136\" preserveAspectRatio=\"xMinYMin meet\" class=\"logs\" role=\"img\" aria-labelledby=\"picture-title picture-desc\">
 <title id=\"picture-title\">The logs of the nodes</title>
 <desc id=\"picture-desc\">A row for each node with what is known of its log, by number, and arrows from what was sent to the entry that quotes it. The tables below say the same.</desc>
 <rect class=\"band\" y=\"0\" width=\"4512\" height=\"136\"/><text class=\"name\" x=\"14\" y=\"39\">node 1</text>
-<a tabindex=\"-1\" href=\"#node-1-sentence-1\"><g id=\"entry-1-3\" class=\"entry bare signed marked\" data-node=\"1\" data-seq=\"3\" transform=\"translate(104 18)\"><title>Node 1, entry 3: only its hash is known; known from a statement; hash 0000000000000000000000000000000000000000000000000000000000000000</title><rect class=\"box\" width=\"80\" height=\"42\" rx=\"21\"/><text class=\"number\" x=\"40\" y=\"19\">3</text><text class=\"kind\" x=\"40\" y=\"33\">SIGNED</text><path class=\"flag\" d=\"M80 -14l12 21h-24z\"/><text class=\"sign\" x=\"80\" y=\"5\">!</text></g></a>
-<a tabindex=\"-1\" href=\"#node-1-sentence-1\"><g id=\"entry-1-3-1\" class=\"entry bare signed marked\" data-node=\"1\" data-seq=\"3\" transform=\"translate(104 76)\"><title>Node 1, entry 3: only its hash is known; known from a statement; hash abababababababababababababababababababababababababababababababab</title><rect class=\"box\" width=\"80\" height=\"42\" rx=\"21\"/><text class=\"number\" x=\"40\" y=\"19\">3</text><text class=\"kind\" x=\"40\" y=\"33\">SIGNED</text><path class=\"flag\" d=\"M80 -14l12 21h-24z\"/><text class=\"sign\" x=\"80\" y=\"5\">!</text></g></a>
-</svg>
+<a tabindex=\"-1\" href=\"#node-1-sentence-1\"><g id=\"entry-1-3\" class=\"entry bare signed marked\" data-node=\"1\" data-seq=\"3\" transform=\"translate(104 18)\"><title>Node 1, entry 3: what it says is not here; known from a statement; hash 0000000000000000000000000000000000000000000000000000000000000000</title><rect class=\"box\" width=\"80\" height=\"42\" rx=\"21\"/><text class=\"number\" x=\"40\" y=\"19\">3</text><text class=\"kind\" x=\"40\" y=\"33\">SIGNED</text><path class=\"flag\" d=\"M80 -14l12 21h-24z\"/><text class=\"sign\" x=\"80\" y=\"5\">!</text></g></a>
+<a tabindex=\"-1\" href=\"#node-1-sentence-1\"><g id=\"entry-1-3-1\" class=\"entry bare signed marked\" data-node=\"1\" data-seq=\"3\" transform=\"translate(104 76)\"><title>Node 1, entry 3: what it says is not here; known from a statement; hash abababababababababababababababababababababababababababababababab</title><rect class=\"box\" width=\"80\" height=\"42\" rx=\"21\"/><text class=\"number\" x=\"40\" y=\"19\">3</text><text class=\"kind\" x=\"40\" y=\"33\">SIGNED</text><path class=\"flag\" d=\"M80 -14l12 21h-24z\"/><text class=\"sign\" x=\"80\" y=\"5\">!</text></g></a>
+</svg><span class=\"more\"></span>
+</div>
 </div>
 </section>
 <section class=\"node\" id=\"node-1\" aria-labelledby=\"node-1-heading\">
-<h2 id=\"node-1-heading\">Node 1 <span class=\"badge exposed\"><span aria-hidden=\"true\">!</span> exposed</span></h2>
+<h2 id=\"node-1-heading\">Node 1 <span class=\"badge exposed\"><span class=\"sign\" aria-hidden=\"true\">!</span> exposed</span></h2>
 <ul class=\"sentences\">
 <li id=\"node-1-sentence-1\">Signed &#60;two&#62; &#38; &#34;more&#34;. <a class=\"mark\" href=\"#entry-1-3\">entry 3 of node 1</a></li>
 </ul>
-<details open><summary>What is known of the log of node 1: 2 entries</summary>
+<details open=\"\"><summary>What is known of the log of node 1: 2 entries</summary>
+<details class=\"whole\"><summary>Whole hashes</summary></details>
 <div class=\"scroll\" role=\"region\" aria-label=\"Entries of node 1\" tabindex=\"0\"><table><thead><tr><th scope=\"col\">Number</th><th scope=\"col\">Kind</th><th scope=\"col\">Known from</th><th scope=\"col\">Content</th><th scope=\"col\">Hash</th><th scope=\"col\">Marked</th></tr></thead>
 <tbody>
-<tr class=\"marked\"><th scope=\"row\"><a tabindex=\"-1\" href=\"#entry-1-3\">3</a></th><td>not known</td><td>statement</td><td class=\"content\">only its hash is known</td><td class=\"hash\"><code>0000000000000000000000000000000000000000000000000000000000000000</code></td><td class=\"sign\"><a href=\"#node-1-sentence-1\">! contradicts</a></td></tr>
-<tr class=\"marked\"><th scope=\"row\"><a tabindex=\"-1\" href=\"#entry-1-3-1\">3</a></th><td>not known</td><td>statement</td><td class=\"content\">only its hash is known</td><td class=\"hash\"><code>abababababababababababababababababababababababababababababababab</code></td><td class=\"sign\"><a href=\"#node-1-sentence-1\">! contradicts</a></td></tr>
+<tr class=\"marked\"><th scope=\"row\"><a tabindex=\"-1\" href=\"#entry-1-3\">3</a></th><td>not known</td><td>statement</td><td class=\"content\">what it says is not here</td><td class=\"hash\"><code>0000000000000000<span class=\"rest\">000000000000000000000000000000000000000000000000</span></code></td><td class=\"sign\"><a tabindex=\"-1\" href=\"#node-1-sentence-1\">! contradicts</a></td></tr>
+<tr class=\"marked\"><th scope=\"row\"><a tabindex=\"-1\" href=\"#entry-1-3-1\">3</a></th><td>not known</td><td>statement</td><td class=\"content\">what it says is not here</td><td class=\"hash\"><code>abababababababab<span class=\"rest\">abababababababababababababababababababababababab</span></code></td><td class=\"sign\"><a tabindex=\"-1\" href=\"#node-1-sentence-1\">! contradicts</a></td></tr>
 </tbody></table></div></details>
 </section>
 <section aria-labelledby=\"lines-heading\">

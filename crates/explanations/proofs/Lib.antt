@@ -1,2 +1,3 @@
 mod Listings
 mod Rows
+pub mod Explained

@@ -1,6 +1,6 @@
 -- Why the items of a set say of a node what they say.
-use Rattle.std.specs.Prelude.{◌↔◌, ℕ, List, map, IsTrue, Result, Ok, Err}
-use Rattle.std.specs.List.{All, Contains}
+use Rattle.std.specs.Prelude.{◌≡◌, ◌↔◌, ◌++◌, ℕ, List, map, IsTrue, Result, Ok, Err}
+use Rattle.std.specs.List.{All, Contains, flat_map}
 use Rattle.std.specs.List.Sorted.{IsStrictlyIncreasing, IsStrictlySortedBy}
 use Rattle.authenticators.specs.Directory.{Listing, is_listed}
 use Rattle.item_forms.specs.Pieces.{Piece, by_bytes}
@@ -13,6 +13,7 @@ use Rattle.evidence_set.specs.ItemSets.{Has, Items}
 use Rattle.evidence.specs.Contents.{Contents}
 use Rattle.proofs.specs.declared.fault.ProofFault.{ProofFault}
 use Rattle.sentences.specs.declared.explanation.NodeExplanation.{NodeExplanation}
+use Rattle.sentences.specs.Texts.{margin, row_line}
 use Rattle.explanations.specs.declared.convicting.Conviction.{Conviction}
 use Rattle.explanations.specs.declared.why.Why.{Why}
 use Rattle.explanations.specs.declared.why.Why.TheVariants as why
@@ -58,6 +59,16 @@ pub record AreIndications {S : Type 0} (program : Meaning S) (s : Contents) (nod
   pub ascending : IsStrictlyIncreasing (map (λ n. n.node) nodes)
   pub complete : (node : ℕ) → Contains (map (λ n. n.node) nodes) node ↔ IsTrue (is_listed s.directory node)
   pub right : All (λ n. IsIndication s.directory program s.items n.node n.indication) nodes
+
+-- The text tells the set: behind a beginning, the lines that do not begin with a blank are those that a report has of the listed nodes,
+-- and no other.
+pub record IsExplained {S : Type 0} (program : Meaning S) (s : Contents) (text : List ℕ) : Type 0 where
+  pub front : List ℕ
+  pub body : List ℕ
+  pub nodes : List NodeExplanation
+  pub told : AreIndications program s nodes
+  pub spelled : text ≡ front ++ body
+  pub report : margin body ≡ flat_map row_line nodes
 
 -- Whom a proof convicts, or why it is refused.
 abbrev pub convicted_of : Result Conviction ProofFault → Result ℕ ProofFault

@@ -2,7 +2,7 @@
 
 use item_forms::{AuditChallenge, Form, Item, Message, Statement};
 use outcome::Memory;
-use sentences::{Bytes, Lines};
+use sentences::{Lines, Payload, Shown, Voice};
 
 /// Says what an audit challenge asks for, and what would answer it.
 fn say_audit(lines: &mut Lines, place: u64, challenge: &AuditChallenge) -> Result<(), Memory> {
@@ -52,12 +52,20 @@ fn say_front(lines: &mut Lines, place: u64, challenge: &AuditChallenge) -> Resul
 }
 
 /// Says what a send challenge asks for, and what would answer it.
-fn say_send(lines: &mut Lines, place: u64, message: &Message) -> Result<(), Memory> {
+fn say_send<V: Voice>(
+    lines: &mut Lines,
+    voice: &V,
+    place: u64,
+    message: &Message,
+) -> Result<(), Memory> {
     let alloc = lines.alloc();
     let from = message.from;
     let to = message.to;
     let seq = message.seq;
-    let payload = Bytes(message.payload.as_slice());
+    let payload = Payload {
+        voice,
+        shown: Shown::of(message.payload.as_slice()),
+    };
     let asked = format!(in alloc;
         "Item {place}, a send challenge of node {from}, asks node {to} to acknowledge entry {seq} of node {from}: {payload}."
     )?;
@@ -69,22 +77,28 @@ fn say_send(lines: &mut Lines, place: u64, message: &Message) -> Result<(), Memo
 }
 
 /// Says what an open challenge asks for, and what would answer it.
-fn say_challenge(lines: &mut Lines, place: u64, item: &Item) -> Result<(), Memory> {
+fn say_challenge<V: Voice>(
+    lines: &mut Lines,
+    voice: &V,
+    place: u64,
+    item: &Item,
+) -> Result<(), Memory> {
     match item.form() {
         Form::Audit(challenge) => say_audit(lines, place, challenge),
-        Form::Send(message) => say_send(lines, place, message),
+        Form::Send(message) => say_send(lines, voice, place, message),
         _ => Ok(()),
     }
 }
 
 /// Says of each open challenge what it asks for, and what would answer it. Beside them stand the places of their items.
-pub(crate) fn say_challenges(
+pub(crate) fn say_challenges<V: Voice>(
     lines: &mut Lines,
+    voice: &V,
     open: &[&Item],
     places: &[u64],
 ) -> Result<(), Memory> {
     for (item, place) in open.iter().zip(places) {
-        say_challenge(lines, *place, item)?;
+        say_challenge(lines, voice, *place, item)?;
     }
     Ok(())
 }

@@ -1,12 +1,12 @@
 //! Statements that are not of one log, in sentences.
 
-use crate::deviating::say_segment;
+use crate::deviating::{hash_behind, say_segment};
 use crate::grounds::{Found, Grounds};
 use authenticators::{Authenticator, NodeId};
-use item_forms::{Entry, Segment};
+use item_forms::Segment;
 use log_chain::base_hash;
 use outcome::Memory;
-use sentences::{Lines, Logged, Sites};
+use sentences::{Lines, Logged, Sites, Voice};
 
 /// Says a hash of the node, and where it is signed.
 fn say_hash(lines: &mut Lines, node: NodeId, found: &Found) -> Result<(), Memory> {
@@ -99,25 +99,20 @@ fn say_denial(lines: &mut Lines, node: NodeId, seq: u64, denial: Denial) -> Resu
     lines.say_of(node, seq, text)
 }
 
-/// The entry of the segment with the number, if there is one.
-fn entry_at(segment: &Segment, seq: u64) -> Option<&Entry> {
-    segment
-        .entries
-        .as_slice()
-        .iter()
-        .find(|entry| entry.seq == seq)
-}
-
 /// Says what stands in the segment at the number.
-fn say_entry(
+fn say_entry<V: Voice>(
     lines: &mut Lines,
+    voice: &V,
     segment: &Segment,
     seq: u64,
-    grounds: &Grounds,
 ) -> Result<(), Memory> {
     let alloc = lines.alloc();
-    if let (Some(entry), Some(hash)) = (entry_at(segment, seq), grounds.segment.hash) {
-        let logged = Logged(entry);
+    let entries = segment.entries.as_slice();
+    if let Some(at) = entries.iter().position(|entry| entry.seq == seq)
+        && let Some(entry) = entries.get(at)
+        && let Some(hash) = hash_behind(segment, at)
+    {
+        let logged = Logged { voice, entry };
         let text = format!(in alloc; "There entry {seq} is {logged}, with the hash {hash}.")?;
         return lines.say_hash(segment.node, seq, hash, text);
     }
@@ -126,15 +121,15 @@ fn say_entry(
 }
 
 /// Says what the segment says of the number.
-fn say_other_side(
+fn say_other_side<V: Voice>(
     lines: &mut Lines,
+    voice: &V,
     segment: &Segment,
     seq: u64,
-    grounds: &Grounds,
     denial: Denial,
 ) -> Result<(), Memory> {
     match denial {
-        Denial::LeftOut => say_entry(lines, segment, seq, grounds),
+        Denial::LeftOut => say_entry(lines, voice, segment, seq),
         Denial::OffStart { first } => {
             let prev = segment.prev;
             let text = format!(in lines.alloc(); "There the hash before entry {first} is {prev}.")?;
@@ -145,8 +140,9 @@ fn say_other_side(
 }
 
 /// Says how a statement and a segment of its node contradict each other.
-pub(crate) fn say_contradiction(
+pub(crate) fn say_contradiction<V: Voice>(
     lines: &mut Lines,
+    voice: &V,
     auth: &Authenticator,
     segment: &Segment,
     grounds: &Grounds,
@@ -158,5 +154,5 @@ pub(crate) fn say_contradiction(
     say_denial(lines, auth.node, auth.seq, denial)?;
     say_hash(lines, auth.node, found)?;
     say_segment(lines, segment, &grounds.segment)?;
-    say_other_side(lines, segment, auth.seq, grounds, denial)
+    say_other_side(lines, voice, segment, auth.seq, denial)
 }

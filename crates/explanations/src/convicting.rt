@@ -10,14 +10,13 @@ ghost use Rattle.explanations.specs.Whys.{convicted_of, told_of};
 
 use crate::grounds::{Found, Grounds};
 use crate::telling::say_proof;
+use crate::under::Under;
 use authenticators::{Directory, NodeId};
 use evidence_set::Indication;
-use item_forms::{Entry, Hash, Segment};
-use log_chain::chain_end;
 use outcome::Memory;
 use proofs::{Parts, Proof, ProofFault, check_proof};
 use replay_verifier::{Program, replay};
-use sentences::{Explanation, Lines, NodeExplanation, Role, Site};
+use sentences::{Explanation, Lines, NodeExplanation, Role, Site, Voice};
 use std::alloc::{AllocError, Global};
 
 /// Whom a proof convicts, and what is told of it.
@@ -27,18 +26,6 @@ pub struct Conviction {
     pub node: NodeId,
     /// What is told: of that node alone, which is exposed.
     pub explanation: Explanation,
-}
-
-/// The entries up to the one with the number, where there is one.
-fn front(entries: &[Entry], seq: u64) -> Option<&[Entry]> {
-    let place = entries.iter().position(|entry| entry.seq == seq)?;
-    entries.get(..=place)
-}
-
-/// The hash that a segment has at the number, where it has an entry there.
-fn hash_at(segment: &Segment, seq: u64) -> Option<Hash> {
-    let front = front(segment.entries.as_slice(), seq)?;
-    Some(chain_end(segment.prev, front))
 }
 
 /// Places a statement in this part of the proof.
@@ -62,10 +49,9 @@ fn grounds_of<P: Program>(
             place_statement(&mut grounds.first, 1)?;
             place_statement(&mut grounds.second, 2)?;
         }
-        Parts::AuthSegment(auth, segment) => {
+        Parts::AuthSegment(..) => {
             place_statement(&mut grounds.first, 1)?;
             grounds.segment.sites.push(Site::part(2, Role::Segment))?;
-            grounds.segment.hash = hash_at(segment, auth.seq);
         }
         Parts::Nonconforming(segment) => {
             grounds.segment.sites.push(Site::part(1, Role::Segment))?;
@@ -95,9 +81,10 @@ fn heading_of(alloc: Global, node: NodeId, proof: &Proof) -> Result<String, Allo
 }
 
 /// What is told of a proof that convicts the node.
-fn explanation_of<P: Program>(
+fn explanation_of<P: Program, V: Voice>(
     alloc: Global,
     program: &P,
+    voice: &V,
     directory: &Directory,
     proof: &Proof,
     node: NodeId,
@@ -107,7 +94,12 @@ fn explanation_of<P: Program>(
     let heading = heading_of(alloc, node, proof)?;
     let grounds = grounds_of(alloc, program, directory, proof)?;
     let mut lines = Lines::new(alloc);
-    say_proof(&mut lines, program, directory, proof, &grounds)?;
+    let under = Under {
+        program,
+        voice,
+        directory,
+    };
+    say_proof(&mut lines, &under, proof, &grounds)?;
     let mut nodes = Vec::with_capacity(alloc, 1)?;
     nodes.push(NodeExplanation {
         node,
@@ -117,10 +109,12 @@ fn explanation_of<P: Program>(
     Ok(Explanation { heading, nodes })
 }
 
-/// Whom a proof convicts, as [`check_proof`] tells, and what is told of it; or why it is refused, as there.
-pub fn explain_proof<P: Program>(
+/// Whom a proof convicts, as [`check_proof`] tells, and what is told of it, with payloads said by the voice; or why it is refused, as
+/// there.
+pub fn explain_proof<P: Program, V: Voice>(
     alloc: Global,
     program: &P,
+    voice: &V,
     directory: &Directory,
     proof: &Proof,
 ) -> Result<Conviction, ProofFault>
@@ -134,6 +128,6 @@ pub fn explain_proof<P: Program>(
     ensures explanation { IfOk result (λ c. map told_of c.explanation.nodes.items ≡ (c.node, Exposed) ∷ []) }
 {
     let node = check_proof(alloc, program, directory, proof)?;
-    let explanation = explanation_of(alloc, program, directory, proof, node)?;
+    let explanation = explanation_of(alloc, program, voice, directory, proof, node)?;
     Ok(Conviction { node, explanation })
 }

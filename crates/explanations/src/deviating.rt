@@ -5,11 +5,13 @@ ghost use Rattle.replay_verifier.specs.Conforming.{setting_of};
 ghost use Rattle.replay_verifier.specs.Stands.{IsStanding};
 
 use crate::grounds::FoundSegment;
-use authenticators::{Directory, NodeId};
-use item_forms::{Entry, Segment};
+use crate::under::Under;
+use authenticators::Directory;
+use item_forms::{Entry, Hash, Segment};
+use log_chain::chain_end;
 use outcome::Memory;
 use replay_verifier::{Program, Reason, Receipt, Stand, Verdict, stand_behind};
-use sentences::{Bytes, Kind, Lines, Logged, Sending, Sites};
+use sentences::{Kind, Lines, Logged, Sending, Shown, Sites, Voice};
 use std::alloc::Global;
 
 /// A reason in words.
@@ -31,10 +33,31 @@ fn words_of(reason: Reason) -> &'static str {
     }
 }
 
+/// The hash of the entry behind so many others of the segment.
+pub(crate) fn hash_behind(segment: &Segment, at: usize) -> Option<Hash> {
+    let front = segment.entries.as_slice().get(..=at)?;
+    Some(chain_end(segment.prev, front))
+}
+
+/// Says a sentence of the entry behind so many others of the segment.
+fn say_of_entry(
+    lines: &mut Lines,
+    segment: &Segment,
+    at: usize,
+    seq: u64,
+    text: String,
+) -> Result<(), Memory> {
+    match hash_behind(segment, at) {
+        Some(hash) => lines.say_entry(segment.node, seq, hash, text),
+        None => lines.say(text),
+    }
+}
+
 /// Says where the segment deviates, and why.
 fn say_place(
     lines: &mut Lines,
     segment: &Segment,
+    at: usize,
     entry: &Entry,
     reason: Reason,
 ) -> Result<(), Memory> {
@@ -46,7 +69,7 @@ fn say_place(
     let text = format!(in lines.alloc();
         "Node {node} deviates from its program at entry {seq} of its log, {kind}: {words} ({name})."
     )?;
-    lines.say_of(node, seq, text)
+    say_of_entry(lines, segment, at, seq, text)
 }
 
 /// Says where the segment stands.
@@ -65,10 +88,15 @@ pub(crate) fn say_segment(
 }
 
 /// Says which message the program sends there, where it sends one.
-fn say_awaited<S>(lines: &mut Lines, stand: &Stand<S>, reason: Reason) -> Result<(), Memory> {
+fn say_awaited<V: Voice, S>(
+    lines: &mut Lines,
+    voice: &V,
+    stand: &Stand<S>,
+    reason: Reason,
+) -> Result<(), Memory> {
     match stand.awaited().first() {
         Some(output) => {
-            let sending = Sending(output);
+            let sending = Sending { voice, output };
             let text = format!(in lines.alloc(); "The program awaited {sending}.")?;
             lines.say(text)
         }
@@ -91,7 +119,7 @@ fn say_state<P: Program>(
         return Ok(());
     }
     let state = program.encode(lines.alloc(), stand.state())?;
-    let shown = Bytes(&state);
+    let shown = Shown::of(&state);
     let text = format!(in lines.alloc(); "The program's state was {shown}.")?;
     lines.say(text)
 }
@@ -104,46 +132,50 @@ fn quoted_number(entry: &Entry) -> Option<(u32, u64)> {
     }
 }
 
-/// The entry among these that quotes the same message.
-fn same_quote<'a>(entries: &'a [Entry], entry: &Entry) -> Option<&'a Entry> {
+/// Where among these the entry stands that quotes a message of the same sender and number.
+fn same_quote(entries: &[Entry], entry: &Entry) -> Option<usize> {
     let number = quoted_number(entry)?;
-    for earlier in entries {
+    for (at, earlier) in entries.iter().enumerate() {
         if earlier.kind == entry.kind && quoted_number(earlier) == Some(number) {
-            return Some(earlier);
+            return Some(at);
         }
     }
     None
 }
 
-/// The entry before this one that it does not agree with, where the reason speaks of one.
-fn rival<'a>(entries: &'a [Entry], entry: &Entry, reason: Reason) -> Option<&'a Entry> {
+/// Where the entry before this one stands that it does not agree with, where the reason speaks of one.
+fn rival(earlier: &[Entry], entry: &Entry, reason: Reason) -> Option<usize> {
     match reason {
-        Reason::SeqOrder => entries.last(),
-        Reason::DuplicateReceipt => same_quote(entries, entry),
+        Reason::SeqOrder => earlier.len().checked_sub(1),
+        Reason::DuplicateReceipt => same_quote(earlier, entry),
         _ => None,
     }
 }
 
 /// Says which entry before this one it does not agree with, where there is one.
-fn say_rival(
+fn say_rival<V: Voice>(
     lines: &mut Lines,
-    node: NodeId,
-    entries: &[Entry],
+    voice: &V,
+    segment: &Segment,
+    earlier: &[Entry],
     entry: &Entry,
     reason: Reason,
 ) -> Result<(), Memory> {
-    let Some(rival) = rival(entries, entry, reason) else {
+    let Some(at) = rival(earlier, entry, reason) else {
         return Ok(());
     };
-    let seq = rival.seq;
-    let logged = Logged(rival);
+    let Some(entry) = earlier.get(at) else {
+        return Ok(());
+    };
+    let seq = entry.seq;
+    let logged = Logged { voice, entry };
     let text = format!(in lines.alloc(); "Before it stands entry {seq}, {logged}.")?;
-    lines.say_of(node, seq, text)
+    say_of_entry(lines, segment, at, seq, text)
 }
 
 /// Says what is logged.
-fn say_logged(lines: &mut Lines, entry: &Entry) -> Result<(), Memory> {
-    let logged = Logged(entry);
+fn say_logged<V: Voice>(lines: &mut Lines, voice: &V, entry: &Entry) -> Result<(), Memory> {
+    let logged = Logged { voice, entry };
     let text = format!(in lines.alloc(); "Logged is {logged}.")?;
     lines.say(text)
 }
@@ -163,26 +195,26 @@ fn stand_there<P: Program>(
 }
 
 /// Says what the program does behind the entries before the one at which the segment deviates.
-fn say_before<P: Program>(
+fn say_before<P: Program, V: Voice>(
     lines: &mut Lines,
-    program: &P,
-    directory: &Directory,
+    under: &Under<'_, P, V>,
     segment: &Segment,
     earlier: &[Entry],
     reason: Reason,
 ) -> Result<(), Memory> {
-    let Some(stand) = stand_there(lines.alloc(), program, directory, segment, earlier)? else {
+    let alloc = lines.alloc();
+    let stand = stand_there(alloc, under.program, under.directory, segment, earlier)?;
+    let Some(stand) = stand else {
         return Ok(());
     };
-    say_awaited(lines, &stand, reason)?;
-    say_state(lines, program, &stand, reason)
+    say_awaited(lines, under.voice, &stand, reason)?;
+    say_state(lines, under.program, &stand, reason)
 }
 
 /// Says of a segment that deviates where and why, what the program awaits there, and what is logged.
-pub(crate) fn say_deviation<P: Program>(
+pub(crate) fn say_deviation<P: Program, V: Voice>(
     lines: &mut Lines,
-    program: &P,
-    directory: &Directory,
+    under: &Under<'_, P, V>,
     segment: &Segment,
     found: &FoundSegment,
 ) -> Result<(), Memory> {
@@ -193,9 +225,9 @@ pub(crate) fn say_deviation<P: Program>(
     let (Some(earlier), Some(entry)) = (entries.get(..at), entries.get(at)) else {
         return Ok(());
     };
-    say_place(lines, segment, entry, reason)?;
+    say_place(lines, segment, at, entry, reason)?;
     say_segment(lines, segment, found)?;
-    say_rival(lines, segment.node, earlier, entry, reason)?;
-    say_before(lines, program, directory, segment, earlier, reason)?;
-    say_logged(lines, entry)
+    say_rival(lines, under.voice, segment, earlier, entry, reason)?;
+    say_before(lines, under, segment, earlier, reason)?;
+    say_logged(lines, under.voice, entry)
 }

@@ -35,13 +35,11 @@ impl Found {
     }
 }
 
-/// A convicting segment: where it stands, its verdict, and, where a statement convicts with it, the hash that it has at the statement's
-/// number.
+/// A convicting segment: where it stands, and its verdict.
 #[derive(Debug, Drop)]
 pub(crate) struct FoundSegment {
     pub(crate) sites: Vec<Site>,
     pub(crate) verdict: Option<Verdict>,
-    pub(crate) hash: Option<Hash>,
 }
 
 /// What is found of a proof's parts.
@@ -70,7 +68,6 @@ impl Grounds {
             segment: FoundSegment {
                 sites: Vec::new(alloc),
                 verdict: None,
-                hash: None,
             },
         }
     }

@@ -4,6 +4,7 @@
 //!   [`whys_of`] the same of each node. `specs/Whys.antt` says what that is.
 //! - [`explain_store`] tells of each node what the store says of it, with where the items stand that say so. One pass over the items
 //!   finds that; the entries before a deviation are replayed, for what the program awaits there.
+//! - [`explained_text`] is the text of the same.
 //! - [`explain_proof`] tells whom a proof convicts, and the same of its parts.
 #![tactic(auto)]
 
@@ -16,10 +17,10 @@ pub use outcome::Memory;
 pub use proofs::{Proof, ProofFault};
 pub use replay_verifier::Program;
 pub use sentences::{
-    Basis, Explanation, Grouped, Input, Mark, NamedHash, NodeExplanation, Sentence, text_of,
-    verdict_text,
+    Basis, Explanation, Grouped, Input, Mark, NamedHash, NodeExplanation, PlainVoice, Sentence,
+    Voice, text_of, verdict_text,
 };
-pub use telling::explain_store;
+pub use telling::{explain_store, explained_text};
 pub use why::{NodeWhy, Why, why_of, whys_of};
 
 mod challenging;
@@ -33,4 +34,5 @@ mod noting;
 mod places;
 mod telling;
 mod trusting;
+mod under;
 mod why;

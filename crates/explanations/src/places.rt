@@ -1,12 +1,13 @@
 //! What is found of a store's items, node by node.
 
 use crate::grounds::Grounds;
-use crate::why::Why;
-use item_forms::{Hash, Item, Segment};
+use crate::why::{NodeWhy, Why};
+use authenticators::NodeId;
+use item_forms::{Form, Hash, Item, Segment};
 use outcome::Memory;
 use proofs::Parts;
 use replay_verifier::Verdict;
-use sentences::{Role, Site};
+use sentences::{FormCounts, Role, Site};
 use std::alloc::Global;
 
 /// A segment of a node: its item, and its first and last number.
@@ -20,6 +21,8 @@ pub(crate) struct Span {
 /// What the items have of a node.
 #[derive(Debug, Drop)]
 pub(crate) struct NodePlaces {
+    /// The node.
+    pub(crate) node: NodeId,
     /// At how many places statements of the node stand, beside the ends of its segments.
     pub(crate) statements: u64,
     /// How many challenges against the node there are.
@@ -32,31 +35,36 @@ pub(crate) struct NodePlaces {
     pub(crate) unanswered: Vec<u64>,
 }
 
-/// How many items there are, by form.
-#[derive(Clone, Copy, Debug)]
-pub(crate) struct FormCounts {
-    pub(crate) statements: u64,
-    pub(crate) segments: u64,
-    pub(crate) audits: u64,
-    pub(crate) sends: u64,
-    pub(crate) acks: u64,
-}
-
 /// What is found of a store's items. The nodes stand in the order of the reasons.
 #[derive(Debug, Drop)]
 pub(crate) struct Places {
+    /// The item that is walked over, from 1.
+    pub(crate) item: u64,
     pub(crate) counts: FormCounts,
     pub(crate) nodes: Vec<NodePlaces>,
 }
 
+/// Counts an item.
+pub(crate) fn count_form(counts: &mut FormCounts, form: Form<'_>) {
+    let count = match form {
+        Form::Auth(_) => &mut counts.statements,
+        Form::Segment(_) => &mut counts.segments,
+        Form::Audit(_) => &mut counts.audits,
+        Form::Send(_) => &mut counts.sends,
+        Form::Ack(_) => &mut counts.acks,
+    };
+    *count = count.saturating_add(1);
+}
+
 impl NodePlaces {
     /// Nothing is found yet.
-    pub(crate) fn new(alloc: Global, why: &Why<'_>) -> NodePlaces {
-        let grounds = match why {
+    pub(crate) fn new(alloc: Global, row: &NodeWhy<'_>) -> NodePlaces {
+        let grounds = match &row.why {
             Why::Exposed(proof) => Grounds::of_proof(alloc, proof),
             _ => Grounds::none(alloc),
         };
         NodePlaces {
+            node: row.node,
             statements: 0,
             challenges: 0,
             segments: Vec::new(alloc),
@@ -102,7 +110,7 @@ impl NodePlaces {
         why: &Why<'_>,
         place: u64,
         segment: &Segment,
-        found: &SegmentVerdict<'_>,
+        verdict: Option<Verdict>,
     ) -> Result<(), Memory> {
         if let ([first, ..], Some(last)) = (segment.entries.as_slice(), segment.last_seq()) {
             self.segments.push(Span {
@@ -114,34 +122,12 @@ impl NodePlaces {
         if let Some(convicting) = convicting_segment(why)
             && *convicting == *segment
         {
-            let seq = self.grounds.first.as_ref().map(|found| found.seq);
-            self.grounds
-                .segment
-                .sites
-                .push(Site::item(place, Role::Segment))?;
-            self.grounds.segment.verdict = found.verdict;
-            self.grounds.segment.hash = hash_at(segment, found.hashes, seq);
+            let found = &mut self.grounds.segment;
+            found.sites.push(Site::item(place, Role::Segment))?;
+            found.verdict = verdict;
         }
         Ok(())
     }
-}
-
-/// What was found of a segment when it was checked.
-#[derive(Clone, Copy)]
-pub(crate) struct SegmentVerdict<'a> {
-    pub(crate) verdict: Option<Verdict>,
-    pub(crate) hashes: &'a [Hash],
-}
-
-/// The hash of the entry with the number, if there is one.
-fn hash_at(segment: &Segment, hashes: &[Hash], seq: Option<u64>) -> Option<Hash> {
-    let seq = seq?;
-    for (entry, hash) in segment.entries.as_slice().iter().zip(hashes) {
-        if entry.seq == seq {
-            return Some(*hash);
-        }
-    }
-    None
 }
 
 /// The segment of the proof that convicts the node, where it has one.

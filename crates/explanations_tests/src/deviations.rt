@@ -83,7 +83,7 @@ fn other_text() -> &'static str {
   Node 1 deviates from its program at entry 3 of its log, a SEND: the program sends another message there (WrongOutput).
   Its log from entry 1 to entry 3: part 1, a segment.
   The program awaited a SEND to node 2 of the bytes 410000000000000005.
-  Logged is a SEND to node 2 of \"say \\\"no\\\"\".
+  Logged is a SEND to node 2 of the bytes 73617920226e6f22.
 "
 }
 

@@ -3,7 +3,7 @@
 use authenticators::{Directory, NodeId};
 use evidence_item::Item;
 use evidence_store::{Evidence, IndexedStore};
-use explanations::{explain_proof, explain_store, text_of};
+use explanations::{PlainVoice, explain_proof, explain_store, text_of};
 use ref_programs::Tally;
 use std::alloc::Global;
 use std::test::Fail;
@@ -29,7 +29,12 @@ pub(crate) fn told_of_items(
     items: Vec<Item>,
 ) -> Result<Vec<u8>, Fail> {
     let store = store_of(alloc, directory, items)?;
-    let explanation = explain_store::<Tally, IndexedStore<Tally>>(alloc, &Tally, &store)?;
+    let explanation = explain_store::<Tally, IndexedStore<Tally>, PlainVoice>(
+        alloc,
+        &Tally,
+        &PlainVoice,
+        &store,
+    )?;
     Ok(text_of(alloc, &explanation)?)
 }
 
@@ -44,6 +49,6 @@ pub(crate) fn told_of_proof(
     let Some(proof) = store.proof(node)? else {
         return Ok(Vec::new(alloc));
     };
-    let told = explain_proof(alloc, &Tally, directory, &proof)?;
+    let told = explain_proof(alloc, &Tally, &PlainVoice, directory, &proof)?;
     Ok(text_of(alloc, &told.explanation)?)
 }

@@ -1,2 +1,3 @@
 pub mod Inert
 pub mod Legible
+pub mod Whole

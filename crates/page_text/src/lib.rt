@@ -1,12 +1,15 @@
 //! Pages of HTML, and how text stands in them.
 //!
 //! - [`escaped`] is how a text stands in a page: `specs/Escaping.antt` says it. It ends no attribute and no element, and begins none.
-//! - A [`Page`] is put together of [`Piece`]s: markup that the program itself has, and text, which is escaped. So nothing that comes
-//!   from outside is ever markup.
+//! - A [`Page`] is a head, with a charset and a policy by which it runs and loads nothing, and [`Piece`]s: elements and attributes of a
+//!   closed set ([`Tag`], [`Attribute`]), none of which runs or loads anything, and text, which is escaped. `specs/Pages.antt` says it. So
+//!   nothing that comes from outside is ever markup.
 #![tactic(auto)]
 
 pub use escaping::escaped;
+pub use names::{Attribute, Sign, Tag};
 pub use page::{Page, Piece};
 
 mod escaping;
+mod names;
 mod page;

@@ -1,18 +1,36 @@
 //! The page as it grows.
 
-ghost use Rattle.std.specs.Prelude.{◌≡◌, ◌++◌, [], OnOk};
-ghost use Rattle.std.specs.List.{flat_map};
-ghost use Rattle.page_text.specs.Pages.{written};
+ghost use Rattle.std.specs.Prelude.{◌≡◌, ◌++◌, codes, decimal, map, IfOk, OnOk};
+ghost use Rattle.hex.specs.Hex.{encode_lower};
+ghost use Rattle.page_text.specs.Names.{sign_number};
+ghost use Rattle.page_text.specs.Pages.{IsPage, all_written, before_style, behind_style, front, head_of, in_style, written};
 
 use crate::escaping::escape;
+use crate::names::{Attribute, Sign, Tag};
 use std::alloc::{AllocError, Global};
 use std::marker::Model;
 
-/// A piece of a page.
+/// A piece of a page. Those of markup are of a closed set: what comes from outside is [`Text`](Piece::Text), which is escaped.
 #[derive(Clone, Copy, Debug)]
 pub enum Piece<'a> {
-    /// Markup, as it is: of a text that the program has in itself.
-    Markup(&'static str),
+    /// The beginning of an element, up to its attributes.
+    Open(Tag),
+    /// The beginning of an attribute, up to its value.
+    Set(Attribute),
+    /// The beginning of a link to a place in the page, up to the place's name.
+    Link,
+    /// The end of an attribute's value, or of a link's.
+    End,
+    /// The end of an element's attributes. Behind it stands what is in the element.
+    Inside,
+    /// The end of an element in which nothing is.
+    Alone,
+    /// The end of an element.
+    Close(Tag),
+    /// A line feed.
+    Line,
+    /// A sign.
+    Sign(Sign),
     /// Text, which is escaped.
     Text(&'a [u8]),
     /// A number in decimal digits.
@@ -25,37 +43,84 @@ pub enum Piece<'a> {
 #[derive(Debug, Drop)]
 pub struct Page {
     bytes: Vec<u8>,
+    /// Whether each call has written all of its pieces.
+    is_whole: bool,
 }
 
 impl Model for Page {
-    ghost use Rattle.std.specs.Prelude.{ℕ, List};
+    ghost use Rattle.std.specs.Prelude.{◌≡◌, ℕ, List, true};
+    ghost use Rattle.page_text.specs.Pages.{IsPage};
 
     ghost Value = { List ℕ };
 
     ghost view = { λ p. p.bytes.items };
+
+    ghost invariant = { λ p. p.is_whole ≡ true → IsPage p.bytes.items };
+}
+
+/// Writes the names and signs around a name.
+fn put_name(
+    page: &mut Vec<u8>,
+    before: &'static str,
+    name: &'static str,
+    behind: &'static str,
+) -> Result<(), AllocError>
+    ensures { OnOk result (page.new.items ≡ page.old.items ++ before.now ++ name.now ++ behind.now) }
+{
+    page.extend_from_slice(before.as_bytes())?;
+    page.extend_from_slice(name.as_bytes())?;
+    page.extend_from_slice(behind.as_bytes())
+}
+
+/// Writes a number.
+fn put_number(alloc: Global, page: &mut Vec<u8>, number: u64) -> Result<(), AllocError>
+    ensures { OnOk result (page.new.items ≡ page.old.items ++ decimal number) }
+{
+    let digits = format!(in alloc; "{number}")?;
+    page.extend_from_slice(digits.as_bytes())
+}
+
+/// Writes a sign as a reference.
+fn put_sign(alloc: Global, page: &mut Vec<u8>, sign: Sign) -> Result<(), AllocError>
+    ensures { OnOk result (page.new.items ≡ page.old.items ++ codes "&#" ++ decimal (sign_number sign) ++ codes ";") }
+{
+    page.extend_from_slice(b"&#")?;
+    put_number(alloc, page, sign.number())?;
+    page.extend_from_slice(b";")
+}
+
+/// Writes bytes as digits.
+fn put_digits(alloc: Global, page: &mut Vec<u8>, bytes: &[u8]) -> Result<(), AllocError>
+    ensures { OnOk result (page.new.items ≡ page.old.items ++ encode_lower bytes.now) }
+{
+    let digits = hex::encode(alloc, bytes)?;
+    page.extend_from_slice(digits.as_bytes())
 }
 
 /// Writes a piece.
+#[tactic(auto, unfolding(crate::specs::Pages::written))]
 fn put(alloc: Global, page: &mut Vec<u8>, piece: Piece<'_>) -> Result<(), AllocError>
     ensures { OnOk result (page.new.items ≡ page.old.items ++ written piece.entry) }
 {
     match piece {
-        Piece::Markup(markup) => page.extend_from_slice(markup.as_bytes()),
+        Piece::Open(tag) => put_name(page, "<", tag.name(), ""),
+        Piece::Set(attribute) => put_name(page, " ", attribute.name(), "=\""),
+        Piece::Link => page.extend_from_slice(b" href=\"#"),
+        Piece::End => page.extend_from_slice(b"\""),
+        Piece::Inside => page.extend_from_slice(b">"),
+        Piece::Alone => page.extend_from_slice(b"/>"),
+        Piece::Close(tag) => put_name(page, "</", tag.name(), ">"),
+        Piece::Line => page.extend_from_slice(b"\n"),
+        Piece::Sign(sign) => put_sign(alloc, page, sign),
         Piece::Text(text) => escape(page, text),
-        Piece::Number(number) => {
-            let digits = format!(in alloc; "{number}")?;
-            page.extend_from_slice(digits.as_bytes())
-        }
-        Piece::Digits(bytes) => {
-            let digits = hex::encode(alloc, bytes)?;
-            page.extend_from_slice(digits.as_bytes())
-        }
+        Piece::Number(number) => put_number(alloc, page, number),
+        Piece::Digits(bytes) => put_digits(alloc, page, bytes),
     }
 }
 
 /// Writes pieces one behind the other.
 fn put_all(alloc: Global, page: &mut Vec<u8>, pieces: &[Piece<'_>]) -> Result<(), AllocError>
-    ensures { OnOk result (page.new.items ≡ page.old.items ++ flat_map written pieces.now) }
+    ensures { OnOk result (page.new.items ≡ page.old.items ++ all_written pieces.now) }
 {
     for piece in pieces {
         put(alloc, page, *piece)?;
@@ -63,35 +128,94 @@ fn put_all(alloc: Global, page: &mut Vec<u8>, pieces: &[Piece<'_>]) -> Result<()
     Ok(())
 }
 
+/// A byte of a style.
+fn in_style(byte: u8) -> u8
+    ensures { result ≡ in_style byte }
+{
+    if byte == b'<' { b' ' } else { byte }
+}
+
+/// Writes a style.
+fn put_style(page: &mut Vec<u8>, style: &[u8]) -> Result<(), AllocError>
+    ensures { OnOk result (page.new.items ≡ page.old.items ++ map in_style style.now) }
+{
+    for byte in style {
+        page.push(in_style(*byte))?;
+    }
+    Ok(())
+}
+
+/// How each page begins.
+#[tactic(auto, unfolding(crate::specs::Pages::front))]
+fn front() -> &'static str
+    ensures { result.now ≡ front }
+{
+    "<!DOCTYPE html>\n<html lang=\"en\">\n<head>\n<meta charset=\"utf-8\">\n<meta http-equiv=\"Content-Security-Policy\" content=\"default-src 'none'; style-src 'unsafe-inline'; base-uri 'none'; form-action 'none'\">\n<meta name=\"viewport\" content=\"width=device-width, initial-scale=1\">\n<title>"
+}
+
+/// What stands between the title and the style.
+#[tactic(auto, unfolding(crate::specs::Pages::before_style))]
+fn before_style() -> &'static str
+    ensures { result.now ≡ before_style }
+{
+    "</title>\n<style>\n"
+}
+
+/// What stands behind the style.
+#[tactic(auto, unfolding(crate::specs::Pages::behind_style))]
+fn behind_style() -> &'static str
+    ensures { result.now ≡ behind_style }
+{
+    "</style>\n</head>\n"
+}
+
+/// The head of a page.
+fn head(alloc: Global, title: &[u8], style: &[u8]) -> Result<Vec<u8>, AllocError>
+    ensures { IfOk result (λ page. page.items ≡ head_of title.now style.now) }
+{
+    let mut page = Vec::new(alloc);
+    page.extend_from_slice(front().as_bytes())?;
+    escape(&mut page, title)?;
+    page.extend_from_slice(before_style().as_bytes())?;
+    put_style(&mut page, style)?;
+    page.extend_from_slice(behind_style().as_bytes())?;
+    Ok(page)
+}
+
 impl Page {
-    /// A page with nothing on it. It takes no memory.
-    pub fn new(alloc: Global) -> Page
-        ensures { result ≡ [] }
+    /// A page of a title and a style, in which nothing stands yet.
+    pub fn new(alloc: Global, title: &[u8], style: &[u8]) -> Result<Page, AllocError>
+        ensures { IfOk result (λ page. page ≡ head_of title.now style.now) }
     {
-        Page {
-            bytes: Vec::new(alloc),
-        }
+        let bytes = head(alloc, title, style)?;
+        Ok(Page {
+            bytes,
+            is_whole: true,
+        })
     }
 
-    /// Writes the pieces behind what is written. Where memory runs out, some of them may have been written.
+    /// Writes the pieces behind what is written. Where memory runs out, some of them may have been written, and there is no page any more.
     pub fn write(&mut self, pieces: &[Piece<'_>]) -> Result<(), AllocError>
-        ensures { OnOk result (self.new ≡ self.old ++ flat_map written pieces.now) }
+        ensures { OnOk result (self.new ≡ self.old ++ all_written pieces.now) }
     {
         let alloc = *self.bytes.allocator();
-        put_all(alloc, &mut self.bytes, pieces)
+        let was_whole = self.is_whole;
+        self.is_whole = false;
+        put_all(alloc, &mut self.bytes, pieces)?;
+        self.is_whole = was_whole;
+        Ok(())
     }
 
-    /// Writes markup behind what is written.
-    pub fn markup(&mut self, markup: &'static str) -> Result<(), AllocError>
-        ensures { OnOk result (self.new ≡ self.old ++ markup.now) }
+    /// The page's bytes; or that memory ran out in a call that wrote.
+    pub fn finish(self) -> Result<Vec<u8>, AllocError>
+        ensures exact { IfOk result (λ page. page.items ≡ self) }
+        // A head with a charset and a policy, and behind it elements and attributes of the closed set, and texts that are escaped.
+        ensures whole { IfOk result (λ page. IsPage page.items) }
     {
-        self.bytes.extend_from_slice(markup.as_bytes())
-    }
-
-    /// The page's bytes.
-    pub fn into_bytes(self) -> Vec<u8>
-        ensures { result.items ≡ self }
-    {
-        self.bytes
+        if self.is_whole {
+            Ok(self.bytes)
+        } else {
+            Err(AllocError)
+        }
     }
 }

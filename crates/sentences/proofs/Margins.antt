@@ -1,5 +1,5 @@
 -- Of the lines of nodes those that are not indented are the nodes' own.
-use Rattle.std.proofs.Common.{◌≡◌, ◌<◌, ◌+◌, ◌^◌, suc, ◌==◌, ◌≢◌, ◌++◌, ℕ, List, [], ◌∷◌, All, Bool, true, false, not, if◌then◌else◌, refl, ap, sym, ◌∙◌, map, arith, codes, decimal, string_bytes, length}
+use Rattle.std.proofs.Common.{◌≡◌, ◌<◌, ◌+◌, ◌^◌, suc, ◌==◌, ◌≢◌, ◌++◌, ℕ, List, [], ◌∷◌, All, Bool, true, false, not, if◌then◌else◌, refl, ap, sym, ◌∙◌, arith, codes, decimal, string_bytes, length}
 use Rattle.std.specs.List.{AllByRecursion, flat_map}
 use Rattle.std.proofs.lemmas.Bool.Decides.{nat_tests}
 use Rattle.sentences.specs.Texts.{in_line, in_one_line, is_margin, line_of, margin, margin_behind, node_text, sentence_text, ending_of, row_line}

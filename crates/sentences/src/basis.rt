@@ -75,11 +75,12 @@ impl<'a> fmt::Display for Grouped<'a> {
     }
 }
 
-/// `store`, `proof`.
+/// `store`, `union of the stores`, `proof`.
 impl fmt::Display for Input {
     fn fmt<W: fmt::Write>(&self, f: &mut fmt::Formatter<W>) -> fmt::Result {
         f.write_str(match self {
             Input::Store => "store",
+            Input::Union => "union of the stores",
             Input::Proof => "proof",
         })
     }

@@ -4,16 +4,16 @@ use authenticators::NodeId;
 use evidence_set::Indication;
 use log_chain::Hash;
 
-/// An entry of a node's log.
+/// A number in a node's log.
 #[derive(Clone, Copy, Debug, PartialEq, Eq)]
 pub struct Mark {
     /// The node whose log it is of.
     pub node: NodeId,
-    /// The entry's number.
+    /// The number.
     pub seq: u64,
 }
 
-/// A hash that a sentence names.
+/// An entry that contradicts something: entries of its number with other hashes do not.
 #[derive(Clone, Copy, Debug, PartialEq, Eq)]
 pub struct NamedHash {
     /// The node whose log it is of.
@@ -29,9 +29,9 @@ pub struct NamedHash {
 pub struct Sentence {
     /// The sentence, with its full stop and without a line feed.
     pub text: String,
-    /// The entries of which it says that they contradict something.
+    /// The numbers of which it says that what stands there contradicts something.
     pub marks: Vec<Mark>,
-    /// The hashes that it names of entries that contradict something.
+    /// The entries that contradict something, which it names or of which it speaks.
     pub named: Vec<NamedHash>,
 }
 

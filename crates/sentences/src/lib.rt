@@ -1,10 +1,12 @@
-//! Accounts: what is told of a store of evidence or of a proof, in sentences that a person can read.
+//! What is told of a store of evidence or of a proof, in sentences that a person can read.
 //!
 //! - [`Explanation`] has a heading, and of each node its indication and [`Sentence`]s; a [`Mark`] names an entry of which a sentence says
 //!   that it contradicts something. [`text_of`] writes an explanation down.
 //! - [`Basis`] says under which program and directory a verdict is given, and of which bytes.
+//! - [`Listing`] has what a directory lists, with the SHA-256 of each key.
 //! - [`Lines`] takes sentences one after the other.
-//! - [`Count`], [`Kind`], [`Bytes`], [`Sending`], [`Logged`] and [`Sites`] are the words for what evidence has: each writes itself.
+//! - [`Count`], [`Indications`], [`FormCounts`], [`Kind`], [`Shown`], [`Sending`], [`Logged`] and [`Sites`] are the words for what evidence has: each writes itself.
+//! - [`Said`] reads what an entry's content says. A [`Voice`] says what a program's payload says; [`PlainVoice`] shows its bytes.
 //!
 //! `specs/Texts.antt` says how an explanation is written: of each node the line that a report has of it, and its sentences behind blanks. No
 //! contract speaks of a sentence's words: stored outputs hold them.
@@ -12,19 +14,27 @@
 
 pub use authenticators::NodeId;
 pub use basis::{Basis, Grouped};
+pub use content::{Content, Logged, Said, Sending};
+pub use counts::{FormCounts, Indications};
 pub use evidence_set::Indication;
 pub use explanation::{Explanation, Mark, NamedHash, NodeExplanation, Sentence};
 pub use lines::Lines;
+pub use listing::{ListedNode, Listing};
 pub use log_chain::Entry;
 pub use outcome::Memory;
+pub use payload::{MOST_SHOWN, Payload, PlainVoice, Shown, Voice};
 pub use replay_verifier::Output;
 pub use site::{Input, Role, Site, Sites};
-pub use words::{Bytes, Count, Kind, Logged, Sending};
+pub use words::{Count, Kind};
 pub use writing::{text_of, verdict_text};
 
 mod basis;
+mod content;
+mod counts;
 mod explanation;
 mod lines;
+mod listing;
+mod payload;
 mod site;
 mod words;
 mod writing;

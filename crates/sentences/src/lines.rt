@@ -35,11 +35,27 @@ impl Lines {
         Ok(())
     }
 
-    /// Says a sentence that speaks of this entry as contradicting something.
+    /// Says a sentence that speaks of what stands under this number as contradicting something.
     pub fn say_of(&mut self, node: NodeId, seq: u64, text: String) -> Result<(), Memory> {
         let mut marks = Vec::new(self.alloc);
         marks.push(Mark { node, seq })?;
         let named = Vec::new(self.alloc);
+        self.sentences.push(Sentence { text, marks, named })?;
+        Ok(())
+    }
+
+    /// Says a sentence that speaks of the entry with this number and hash, and of no other under the number, as contradicting something.
+    pub fn say_entry(
+        &mut self,
+        node: NodeId,
+        seq: u64,
+        hash: Hash,
+        text: String,
+    ) -> Result<(), Memory> {
+        let mut marks = Vec::new(self.alloc);
+        marks.push(Mark { node, seq })?;
+        let mut named = Vec::new(self.alloc);
+        named.push(NamedHash { node, seq, hash })?;
         self.sentences.push(Sentence { text, marks, named })?;
         Ok(())
     }

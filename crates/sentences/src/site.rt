@@ -8,6 +8,8 @@ use std::fmt;
 pub enum Input {
     /// A store, by its items.
     Store,
+    /// Several stores, by the items of their union.
+    Union,
     /// A proof, by its parts.
     Proof,
 }
@@ -93,7 +95,7 @@ impl fmt::Display for Site {
         let place = self.place;
         let role = self.role;
         match self.input {
-            Input::Store => write!(f, "item {place}, {role}"),
+            Input::Store | Input::Union => write!(f, "item {place}, {role}"),
             Input::Proof => write!(f, "part {place}, {role}"),
         }
     }

@@ -6,4 +6,8 @@ mod cutting;
 #[cfg(test)]
 mod escaping;
 #[cfg(test)]
+mod folding;
+#[cfg(test)]
 mod pages;
+
+fn main() {}

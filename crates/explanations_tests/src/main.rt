@@ -9,3 +9,5 @@ mod contradictions;
 mod deviations;
 #[cfg(test)]
 mod told;
+
+fn main() {}

@@ -1,0 +1,147 @@
+//! What is written of what was read.
+
+ghost use Rattle.std.specs.Prelude.{◌≡◌, ◌∷◌, [], ℕ, Err, IfOk, MatchResult, false, map, true};
+ghost use Rattle.page_text.specs.Pages.{IsPage};
+ghost use Rattle.proofs.specs.Convicting.{Convicts, Tells};
+ghost use Rattle.evidence_set.specs.declared.indication.Indication.TheVariants.{Exposed};
+ghost use Rattle.explanations.specs.Whys.{IsExplained, told_of};
+ghost use Rattle.explaining.specs.Explained.{ExplainsProof, TellsOf};
+
+use crate::engine::Followed;
+use authenticators::Directory;
+use evidence::Evidence;
+use explanation_pages::{page_of, page_of_listing, rows_of, rows_of_proof};
+use explanations::{
+    Basis, Conviction, Voice, explain_proof, explain_store, explained_text, verdict_text,
+};
+use outcome::Memory;
+use proofs::{Proof, ProofFault};
+use replay_verifier::Program;
+use sentences::Listing;
+use std::alloc::{AllocError, Global};
+
+/// What a store says, as a page.
+fn store_page<P: Program, S: Evidence<P>, V: Voice>(
+    alloc: Global,
+    followed: &Followed<'_, P, V>,
+    basis: &Basis,
+    store: &S,
+) -> Result<Vec<u8>, Memory>
+    ensures { IfOk result (λ text. IsPage text.items) }
+{
+    let Followed {
+        program,
+        name: _,
+        voice,
+    } = *followed;
+    let explanation = explain_store::<P, S, V>(alloc, program, voice, store)?;
+    let rows = rows_of::<P, S>(alloc, store)?;
+    let page = page_of(alloc, voice, basis, &explanation, &rows, &[])?;
+    Ok(page)
+}
+
+/// What a store says under a basis: a text, or a page. It is refused memory alone.
+pub fn store_text<P: Program, S: Evidence<P>, V: Voice>(
+    alloc: Global,
+    followed: &Followed<'_, P, V>,
+    is_page: bool,
+    basis: &Basis,
+    store: &S,
+) -> Result<Vec<u8>, Memory>
+    ensures says { IfOk result (λ text. is_page ≡ false → IsExplained P.means (S.contents store.now) text.items) }
+    ensures page { IfOk result (λ text. is_page ≡ true → IsPage text.items) }
+{
+    if is_page {
+        let page = store_page::<P, S, V>(alloc, followed, basis, store)?;
+        return Ok(page);
+    }
+    let text = explained_text::<P, S, V>(alloc, followed.program, followed.voice, store, basis)?;
+    Ok(text)
+}
+
+/// A proof that was read, under a directory.
+#[derive(Clone, Copy)]
+pub struct ReadProof<'a> {
+    /// Under what it is judged.
+    pub basis: &'a Basis,
+    /// The directory.
+    pub directory: &'a Directory,
+    /// The directory's text.
+    pub directory_text: &'a [u8],
+    /// The proof.
+    pub proof: &'a Proof,
+    /// The proof's text.
+    pub proof_text: &'a [u8],
+}
+
+/// What is told of a proof, as a page, which has the texts of the directory and of the proof.
+fn proof_page<V: Voice>(
+    alloc: Global,
+    voice: &V,
+    read: &ReadProof<'_>,
+    conviction: &Conviction,
+) -> Result<Vec<u8>, Memory>
+    ensures { IfOk result (λ text. IsPage text.items) }
+{
+    let rows = rows_of_proof(alloc, read.directory, read.proof)?;
+    let lines: [&[u8]; 2] = [read.directory_text, read.proof_text];
+    let page = page_of(
+        alloc,
+        voice,
+        read.basis,
+        &conviction.explanation,
+        &rows,
+        &lines,
+    )?;
+    Ok(page)
+}
+
+/// What is told of a conviction: a text, or a page.
+fn conviction_text<V: Voice>(
+    alloc: Global,
+    voice: &V,
+    is_page: bool,
+    read: &ReadProof<'_>,
+    conviction: &Conviction,
+) -> Result<Vec<u8>, Memory>
+    requires { map told_of conviction.now.explanation.nodes.items ≡ (conviction.now.node, Exposed) ∷ [] }
+    ensures says { IfOk result (λ text. is_page ≡ false → TellsOf conviction.now.node text.items) }
+    ensures page { IfOk result (λ text. is_page ≡ true → IsPage text.items) }
+{
+    if is_page {
+        let page = proof_page(alloc, voice, read, conviction)?;
+        return Ok(page);
+    }
+    let text = verdict_text(alloc, read.basis, &conviction.explanation)?;
+    Ok(text)
+}
+
+/// Whom a proof convicts, and why: a text, or a page. It is refused as checking the proof is.
+pub fn proof_text<P: Program, V: Voice>(
+    alloc: Global,
+    followed: &Followed<'_, P, V>,
+    is_page: bool,
+    read: &ReadProof<'_>,
+) -> Result<Vec<u8>, ProofFault>
+    ensures { MatchResult result (λ text. (node : ℕ) × Convicts read.now.directory.now P.means node read.now.proof.now.parts × ExplainsProof is_page node text.items) (λ e. Tells read.now.directory.now P.means read.now.proof.now.parts (Err e)) }
+{
+    let Followed {
+        program,
+        name: _,
+        voice,
+    } = *followed;
+    let conviction = explain_proof(alloc, program, voice, read.directory, read.proof)?;
+    let text = conviction_text(alloc, voice, is_page, read, &conviction)?;
+    Ok(text)
+}
+
+/// What a directory lists: a text, or a page. No contract speaks of the text.
+pub fn listing_text(alloc: Global, is_page: bool, listing: &Listing) -> Result<Vec<u8>, AllocError>
+    ensures { IfOk result (λ text. is_page ≡ true → IsPage text.items) }
+{
+    if is_page {
+        return page_of_listing(alloc, listing);
+    }
+    let text: Result<String, AllocError> = format!(in alloc; "{listing}");
+    Ok(text?.into_bytes())
+}

@@ -1,0 +1,118 @@
+//! How many nodes and items there are, in words.
+
+use crate::words::Count;
+use evidence_set::Indication;
+use std::fmt;
+
+/// How many nodes there are, by indication.
+#[derive(Clone, Copy, Debug)]
+pub struct Indications {
+    trusted: u64,
+    suspected: u64,
+    exposed: u64,
+}
+
+impl Indications {
+    /// No node.
+    pub fn none() -> Indications {
+        Indications {
+            trusted: 0,
+            suspected: 0,
+            exposed: 0,
+        }
+    }
+
+    /// The counts with a node more.
+    pub fn with(self, indication: Indication) -> Indications {
+        let Indications {
+            mut trusted,
+            mut suspected,
+            mut exposed,
+        } = self;
+        match indication {
+            Indication::Trusted => trusted = trusted.saturating_add(1),
+            Indication::Suspected => suspected = suspected.saturating_add(1),
+            Indication::Exposed => exposed = exposed.saturating_add(1),
+        }
+        Indications {
+            trusted,
+            suspected,
+            exposed,
+        }
+    }
+}
+
+/// `2 trusted, 0 suspected, 1 exposed`.
+impl fmt::Display for Indications {
+    fn fmt<W: fmt::Write>(&self, f: &mut fmt::Formatter<W>) -> fmt::Result {
+        let Indications {
+            trusted,
+            suspected,
+            exposed,
+        } = *self;
+        write!(
+            f,
+            "{trusted} trusted, {suspected} suspected, {exposed} exposed"
+        )
+    }
+}
+
+/// How many items there are, by form.
+#[derive(Clone, Copy, Debug)]
+pub struct FormCounts {
+    /// Statements alone.
+    pub statements: u64,
+    /// Segments.
+    pub segments: u64,
+    /// Audit challenges.
+    pub audits: u64,
+    /// Send challenges.
+    pub sends: u64,
+    /// Acknowledgements.
+    pub acks: u64,
+}
+
+impl FormCounts {
+    /// No item.
+    pub fn none() -> FormCounts {
+        FormCounts {
+            statements: 0,
+            segments: 0,
+            audits: 0,
+            sends: 0,
+            acks: 0,
+        }
+    }
+}
+
+/// Writes a count behind others, unless it is zero, and answers whether something was written so far.
+fn write_count<W: fmt::Write>(
+    written: bool,
+    count: Count,
+    f: &mut fmt::Formatter<W>,
+) -> Result<bool, fmt::Error> {
+    if count.0 == 0 {
+        return Ok(written);
+    }
+    let before = if written { ", " } else { ": " };
+    write!(f, "{before}{count}")?;
+    Ok(true)
+}
+
+/// `: 2 statements, 1 segment`; nothing where there is no item.
+impl fmt::Display for FormCounts {
+    fn fmt<W: fmt::Write>(&self, f: &mut fmt::Formatter<W>) -> fmt::Result {
+        let counts = [
+            Count(self.statements, "statement", "statements"),
+            Count(self.segments, "segment", "segments"),
+            Count(self.audits, "audit challenge", "audit challenges"),
+            Count(self.sends, "send challenge", "send challenges"),
+            Count(self.acks, "acknowledgement", "acknowledgements"),
+        ];
+        let mut written = false;
+        for count in counts.as_slice() {
+            written = write_count(written, *count, f)?;
+        }
+        Ok(())
+    }
+}

@@ -1,0 +1,87 @@
+//! What a directory lists, in lines that can be read out.
+
+use crate::basis::Grouped;
+use crate::words::Count;
+use authenticators::{Directory, NodeId, PublicKey};
+use log_chain::Hash;
+use sha2::{Digest, Sha256};
+use std::alloc::{AllocError, Global};
+use std::fmt;
+
+/// A node that a directory lists.
+#[derive(Debug, Drop)]
+pub struct ListedNode {
+    /// The node.
+    pub node: NodeId,
+    /// The SHA-256 of each of its keys, as the directory has them, by number from 0.
+    pub keys: Vec<Hash>,
+}
+
+/// What a directory lists.
+#[derive(Debug, Drop)]
+pub struct Listing {
+    /// The SHA-256 of the directory's text.
+    pub directory: Hash,
+    /// Its nodes, ascending by number.
+    pub nodes: Vec<ListedNode>,
+}
+
+/// The SHA-256 of each key.
+fn digests_of(alloc: Global, keys: &[PublicKey]) -> Result<Vec<Hash>, AllocError> {
+    let mut digests = Vec::new(alloc);
+    for key in keys {
+        digests.push(Hash(Sha256::digest(&key.to_bytes())))?;
+    }
+    Ok(digests)
+}
+
+impl Listing {
+    /// What a directory lists, which has this text.
+    pub fn of(alloc: Global, directory: &Directory, text: &[u8]) -> Result<Listing, AllocError> {
+        let mut numbers = Vec::from_slice(alloc, directory.nodes())?;
+        numbers.sort()?;
+        let mut nodes = Vec::new(alloc);
+        for node in numbers.as_slice() {
+            let keys = digests_of(alloc, directory.keys_of(*node).unwrap_or(&[]))?;
+            nodes.push(ListedNode { node: *node, keys })?;
+        }
+        Ok(Listing {
+            directory: Hash(Sha256::digest(text)),
+            nodes,
+        })
+    }
+
+    /// How many nodes and keys there are: `2 nodes, 3 keys`.
+    pub fn summary(&self, alloc: Global) -> Result<String, AllocError> {
+        let nodes = Count(self.nodes.len() as u64, "node", "nodes");
+        let mut keys: u64 = 0;
+        for node in &self.nodes {
+            keys = keys.saturating_add(node.keys.len() as u64);
+        }
+        let keys = Count(keys, "key", "keys");
+        format!(in alloc; "{nodes}, {keys}")
+    }
+}
+
+/// Writes a node, and below it its keys by number.
+fn write_node<W: fmt::Write>(listed: &ListedNode, f: &mut fmt::Formatter<W>) -> fmt::Result {
+    let node = listed.node;
+    write!(f, "node {node}\n")?;
+    for (number, key) in listed.keys.iter().enumerate() {
+        let digest = Grouped(key);
+        write!(f, "  key {number}: {digest}\n")?;
+    }
+    Ok(())
+}
+
+/// The directory's SHA-256, and below it each node with the SHA-256 of each of its keys.
+impl fmt::Display for Listing {
+    fn fmt<W: fmt::Write>(&self, f: &mut fmt::Formatter<W>) -> fmt::Result {
+        let directory = Grouped(&self.directory);
+        write!(f, "SHA-256 of the directory: {directory}\n")?;
+        for node in &self.nodes {
+            write_node(node, f)?;
+        }
+        Ok(())
+    }
+}
