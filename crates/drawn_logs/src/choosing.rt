@@ -1,24 +1,24 @@
 //! What of the rows is drawn.
 
 use crate::marks::{Marks, SentenceId};
+use crate::ranking::chosen_of;
 use authenticators::NodeId;
-use evidence_set::Indication;
-use explanations::Explanation;
 use known_logs::{Cell, Detail, Place, Rows};
+use sentences::Explanation;
 use std::alloc::{AllocError, Global};
-use std::collections::{BTreeMap, BTreeSet};
+use std::collections::BTreeMap;
 
 /// A row with more entries is cut.
 const MOST_CELLS: usize = 40;
+
+/// So many entries a row has at most.
+const MOST_DRAWN: usize = 48;
 
 /// How many entries stand on each side of what is spoken of, and at either end, in a row that is cut.
 const NEIGHBOURS: usize = 2;
 
 /// How many entries are drawn under one number.
 const MOST_ALIKE: u64 = 8;
-
-/// With more nodes, those have no row against which nothing stands, and of which no entry quotes a marked one.
-const MOST_ROWS: usize = 12;
 
 /// An entry that is drawn.
 #[derive(Clone, Copy, Debug)]
@@ -51,8 +51,8 @@ impl Drawn {
     }
 
     /// The entry that it quotes, where it does.
-    pub fn quoted(&self, rows: &Rows) -> Option<Place> {
-        rows.quoted(&self.cell(rows)?)
+    pub fn quoted_place(&self, rows: &Rows) -> Option<Place> {
+        rows.quoted_place(&self.cell(rows)?)
     }
 
     /// Whether it is known.
@@ -86,8 +86,10 @@ impl PictureRow {
 /// What is drawn: the entries row by row, by number.
 #[derive(Debug, Drop)]
 pub struct Choice {
-    /// How many nodes are known of that have no row.
-    pub left_out: u64,
+    /// Of how many nodes nothing is drawn, since nothing stands against them and no entry of them quotes a marked one.
+    pub quiet: u64,
+    /// Of how many further nodes nothing is drawn, since a picture has no more rows.
+    pub further: u64,
     /// The rows, ascending by node.
     pub rows: Vec<PictureRow>,
     /// Their entries.
@@ -95,11 +97,11 @@ pub struct Choice {
 }
 
 /// Whether a sentence speaks of the entry, or of what it quotes.
-fn is_spoken_of(rows: &Rows, cell: &Cell, marks: &Marks) -> bool {
+pub(crate) fn is_spoken_of(rows: &Rows, cell: &Cell, marks: &Marks) -> bool {
     if marks.sentence(cell.place.node, cell.place.seq).is_some() {
         return true;
     }
-    match rows.quoted(cell) {
+    match rows.quoted_place(cell) {
         Some(quoted) => marks.sentence(quoted.node, quoted.seq).is_some(),
         None => false,
     }
@@ -131,12 +133,10 @@ fn spoken_of(
 
 /// Entry `at` of a node as it is drawn, but for its place among those of its number.
 fn as_drawn(row: usize, at: usize, cell: &Cell, marks: &Marks, is_behind_gap: bool) -> Drawn {
-    let node = cell.place.node;
-    let seq = cell.place.seq;
     Drawn {
         row,
-        node,
-        seq,
+        node: cell.place.node,
+        seq: cell.place.seq,
         alike: 0,
         sentence: marks.sentence_of(cell.place),
         is_behind_gap,
@@ -176,10 +176,8 @@ fn add_absent(
 ) -> Result<(), AllocError> {
     for (seq, sentence) in marked.iter() {
         let seq = *seq;
-        if cells
-            .binary_search_by_key(&seq, |cell| cell.place.seq)
-            .is_err()
-        {
+        let known = cells.binary_search_by_key(&seq, |cell| cell.place.seq);
+        if known.is_err() {
             kept.push(Drawn {
                 row,
                 node,
@@ -234,6 +232,45 @@ fn numbered(alloc: Global, kept: &[Drawn]) -> Result<Vec<Drawn>, AllocError> {
     Ok(numbered)
 }
 
+/// How many entries are marked.
+fn marked_among(kept: &[Drawn]) -> usize {
+    kept.iter().filter(|one| one.sentence.is_some()).count()
+}
+
+/// The entries of a row, where it has no more than it may: of more the first that are marked, and then the first of the others.
+fn within(alloc: Global, kept: Vec<Drawn>) -> Result<Vec<Drawn>, AllocError> {
+    if kept.len() <= MOST_DRAWN {
+        return Ok(kept);
+    }
+    let mut marked = marked_among(&kept).min(MOST_DRAWN);
+    let mut others = MOST_DRAWN.saturating_sub(marked);
+    let mut is_behind_gap = false;
+    let mut within = Vec::new(alloc);
+    for one in &kept {
+        let is_marked = one.sentence.is_some();
+        let left = if is_marked { marked } else { others };
+        if left == 0 {
+            is_behind_gap = true;
+            continue;
+        }
+        within.push(behind(one, is_behind_gap))?;
+        is_behind_gap = false;
+        if is_marked {
+            marked = left.saturating_sub(1);
+        } else {
+            others = left.saturating_sub(1);
+        }
+    }
+    Ok(within)
+}
+
+/// The entry, behind a gap where there is one.
+fn behind(one: &Drawn, is_behind_gap: bool) -> Drawn {
+    let mut one = *one;
+    one.is_behind_gap = one.is_behind_gap || is_behind_gap;
+    one
+}
+
 /// The entries of a row.
 fn row_cells(
     alloc: Global,
@@ -248,7 +285,8 @@ fn row_cells(
         add_absent(&mut kept, row, node, cells, marked)?;
     }
     let ordered = in_order(alloc, &kept)?;
-    numbered(alloc, &ordered)
+    let numbered = numbered(alloc, &ordered)?;
+    within(alloc, numbered)
 }
 
 impl Choice {
@@ -278,6 +316,14 @@ impl Choice {
         behind.get(..row.count).unwrap_or(behind)
     }
 
+    /// Whether an entry of the node with this number is drawn.
+    pub fn draws(&self, node: NodeId, seq: u64) -> bool {
+        match self.row_of(node) {
+            Some(row) => self.cells_of(row).iter().any(|one| one.seq == seq),
+            None => false,
+        }
+    }
+
     /// The row of a node.
     pub fn row_of(&self, node: NodeId) -> Option<&PictureRow> {
         let at = self.rows.binary_search_by_key(&node, |row| row.node).ok()?;
@@ -285,70 +331,24 @@ impl Choice {
     }
 }
 
-/// The nodes that are told of, or of whose logs something is known, in ascending order.
-fn nodes_of(
-    alloc: Global,
-    explanation: &Explanation,
-    rows: &Rows,
-) -> Result<BTreeSet<u32>, AllocError> {
-    let mut nodes = BTreeSet::new(alloc);
-    for told in &explanation.nodes {
-        nodes.insert(told.node.0)?;
-    }
-    for node in rows.nodes(alloc)? {
-        nodes.insert(node.0)?;
-    }
-    Ok(nodes)
-}
-
-/// Whether something stands against the node.
-fn is_at_fault(explanation: &Explanation, node: NodeId) -> bool {
-    let nodes = explanation.nodes.as_slice();
-    match nodes.binary_search_by_key(&node, |told| told.node) {
-        Ok(at) => match nodes.get(at) {
-            Some(told) => told.indication != Indication::Trusted,
-            None => false,
-        },
-        Err(_) => false,
-    }
-}
-
-/// Whether a node has a row, of so many nodes.
-fn has_row(
-    explanation: &Explanation,
-    rows: &Rows,
-    node: NodeId,
-    marks: &Marks,
-    nodes: usize,
-) -> bool {
-    if nodes <= MOST_ROWS || marks.of(node).is_some() || is_at_fault(explanation, node) {
-        return true;
-    }
-    let cells = rows.of(node);
-    cells.iter().any(|cell| is_spoken_of(rows, cell, marks))
-}
-
 /// What is drawn of the rows. A row of more than 40 entries is cut to what the sentences speak of, with its neighbours and the row's
-/// ends; of more than 12 nodes those have rows against which something stands, and those that quote a marked entry.
+/// ends, 48 at most; of more than 12 nodes those have rows against which something stands, and those that quote a marked entry, 12 at
+/// most.
 pub fn choice_of(
     alloc: Global,
     explanation: &Explanation,
     rows: &Rows,
     marks: &Marks,
 ) -> Result<Choice, AllocError> {
+    let chosen = chosen_of(alloc, explanation, rows, marks)?;
     let mut choice = Choice {
-        left_out: 0,
+        quiet: chosen.quiet,
+        further: chosen.further,
         rows: Vec::new(alloc),
         cells: Vec::new(alloc),
     };
-    let nodes = nodes_of(alloc, explanation, rows)?;
-    for node in nodes.iter() {
-        let node = NodeId(*node);
-        if has_row(explanation, rows, node, marks, nodes.len()) {
-            choice.add_row(alloc, node, rows, marks)?;
-        } else {
-            choice.left_out = choice.left_out.saturating_add(1);
-        }
+    for node in chosen.nodes.iter() {
+        choice.add_row(alloc, NodeId(*node), rows, marks)?;
     }
     Ok(choice)
 }

@@ -23,7 +23,7 @@ pub struct Grid {
     columns: Vec<u64>,
     lanes: Vec<u64>,
     before: Vec<Option<usize>>,
-    quoted: Vec<Option<usize>>,
+    quoted_entries: Vec<Option<usize>>,
 }
 
 /// The value at a place, or 0.
@@ -47,7 +47,7 @@ fn places_of(
 }
 
 /// For each entry the one that it quotes, where that is drawn.
-fn quoted_of(
+fn quoted_entries_of(
     alloc: Global,
     rows: &Rows,
     cells: &[Drawn],
@@ -55,7 +55,7 @@ fn quoted_of(
     let places = places_of(alloc, rows, cells)?;
     let mut quoted = Vec::new(alloc);
     for one in cells {
-        let source = match one.quoted(rows) {
+        let source = match one.quoted_place(rows) {
             Some(place) => places.get(&place).copied(),
             None => None,
         };
@@ -64,12 +64,20 @@ fn quoted_of(
     Ok(quoted)
 }
 
+/// The hash before an entry in its log, where it is known.
+fn prev_of(rows: &Rows, one: &Drawn) -> Option<Hash> {
+    match one.detail(rows) {
+        Some(detail) => Some(detail.prev),
+        None => None,
+    }
+}
+
 /// The entry that an entry stands behind, among those whose hashes these are.
 fn behind_which(rows: &Rows, one: &Drawn, ends: &BTreeMap<LogEnd, usize>) -> Option<usize> {
-    let detail = one.detail(rows)?;
+    let hash = prev_of(rows, one)?;
     let end = LogEnd {
         node: one.node,
-        hash: detail.prev,
+        hash,
     };
     ends.get(&end).copied()
 }
@@ -204,14 +212,14 @@ impl Grid {
     pub fn new(alloc: Global, rows: &Rows, choice: &Choice) -> Result<Grid, AllocError> {
         let cells = choice.cells.as_slice();
         let before = before_of(alloc, rows, cells)?;
-        let quoted = quoted_of(alloc, rows, cells)?;
-        let columns = columns_of(alloc, cells, &quoted)?;
+        let quoted_entries = quoted_entries_of(alloc, rows, cells)?;
+        let columns = columns_of(alloc, cells, &quoted_entries)?;
         let lanes = lanes_of(alloc, cells, &before)?;
         Ok(Grid {
             columns,
             lanes,
             before,
-            quoted,
+            quoted_entries,
         })
     }
 
@@ -231,8 +239,8 @@ impl Grid {
     }
 
     /// The entry that entry `i` quotes.
-    pub fn quoted(&self, i: usize) -> Option<usize> {
-        self.quoted.get(i).copied().unwrap_or(None)
+    pub fn quoted_entry(&self, i: usize) -> Option<usize> {
+        self.quoted_entries.get(i).copied().unwrap_or(None)
     }
 
     /// How many columns there are.

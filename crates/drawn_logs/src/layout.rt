@@ -8,7 +8,7 @@ use std::alloc::{AllocError, Global};
 pub const LEFT: u64 = 104;
 
 /// How far the columns stand from each other.
-pub const COLUMN: u64 = 102;
+pub(crate) const COLUMN: u64 = 102;
 
 /// How far the lanes of a row stand from each other.
 const LANE: u64 = 58;
@@ -20,7 +20,7 @@ pub const PAD: u64 = 18;
 const BETWEEN: u64 = 12;
 
 /// An entry's width.
-pub const WIDTH: u64 = 80;
+pub(crate) const WIDTH: u64 = 80;
 
 /// An entry's height.
 pub const HEIGHT: u64 = 42;

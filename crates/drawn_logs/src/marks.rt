@@ -1,8 +1,8 @@
 //! Which entries the sentences speak of.
 
 use authenticators::NodeId;
-use explanations::{Explanation, NamedHash, NodeExplanation, Sentence};
 use known_logs::Place;
+use sentences::{Explanation, NamedHash, NodeExplanation, Sentence};
 use std::alloc::{AllocError, Global};
 use std::collections::{BTreeMap, BTreeSet};
 

@@ -1,19 +1,10 @@
 //! What an entry says.
 
+use crate::rows::Place;
 use authenticators::NodeId;
 use log_chain::kind::{RECV, SEND};
-use log_chain::{Entry, FieldReader, Hash};
-use replay_verifier::Receipt;
-
-/// How many bytes of a payload are kept.
-const MOST_SHOWN: usize = 64;
-
-/// The beginning of a payload.
-#[derive(Clone, Copy, Debug)]
-pub struct Payload {
-    bytes: [u8; MOST_SHOWN],
-    len: usize,
-}
+use log_chain::{Entry, Hash};
+use sentences::{MOST_SHOWN, Said, Shown};
 
 /// What is known of an entry beside its number and hash.
 #[derive(Clone, Copy, Debug)]
@@ -22,75 +13,54 @@ pub struct Detail {
     pub prev: Hash,
     /// Its kind.
     pub kind: u8,
-    /// What was sent or received, and of other kinds the whole content.
-    pub payload: Payload,
-    peer: Option<u32>,
+    /// What it says beside its payload.
+    pub said: Said,
+    pub(crate) beginning: [u8; MOST_SHOWN],
+    pub(crate) size: usize,
 }
 
-impl Payload {
-    /// The beginning of these bytes.
-    pub(crate) fn new(bytes: &[u8]) -> Payload {
-        let mut shown = [0; MOST_SHOWN];
-        for (to, from) in shown.iter_mut().zip(bytes) {
-            *to = *from;
-        }
-        Payload {
-            bytes: shown,
-            len: bytes.len(),
-        }
+/// The beginning of these bytes.
+fn beginning_of(bytes: &[u8]) -> [u8; MOST_SHOWN] {
+    let mut beginning = [0; MOST_SHOWN];
+    for (to, from) in beginning.iter_mut().zip(bytes) {
+        *to = *from;
     }
-
-    /// The first 64 bytes, or all where there are no more.
-    pub fn shown(&self) -> &[u8] {
-        self.bytes.get(..self.len).unwrap_or(&self.bytes)
-    }
-
-    /// How many bytes there are, with those that are not kept.
-    pub fn size(&self) -> usize {
-        self.len
-    }
-}
-
-/// The number of the node that a content of this kind names, where it reads so, and the payload; else the whole content.
-fn parts_of(kind: u8, content: &[u8]) -> (Option<u32>, &[u8]) {
-    let mut reader = FieldReader::new(content);
-    match kind {
-        SEND => match reader.u32() {
-            Ok(to) => (Some(to), reader.rest()),
-            Err(_) => (None, content),
-        },
-        RECV => match Receipt::read(content) {
-            Some(receipt) => (Some(receipt.from.0), receipt.payload),
-            None => (None, content),
-        },
-        _ => (None, content),
-    }
+    beginning
 }
 
 impl Detail {
-    /// Of an entry that stands behind this hash.
-    pub(crate) fn of_entry(prev: Hash, entry: &Entry) -> Detail {
-        let (peer, payload) = parts_of(entry.kind, entry.content.as_slice());
-        Detail {
-            prev,
-            kind: entry.kind,
-            payload: Payload::new(payload),
-            peer,
-        }
-    }
-
-    /// Of an entry of this kind for a message, which names that node.
-    pub(crate) fn of_message(prev: Hash, kind: u8, peer: NodeId, payload: &[u8]) -> Detail {
+    /// Of an entry of this kind behind this hash.
+    fn new(prev: Hash, kind: u8, said: Said, payload: &[u8]) -> Detail {
         Detail {
             prev,
             kind,
-            payload: Payload::new(payload),
-            peer: Some(peer.0),
+            said,
+            beginning: beginning_of(payload),
+            size: payload.len(),
         }
     }
 
-    /// The receiver of a SEND, and the sender of what a RECV quotes.
-    pub fn peer(&self) -> Option<NodeId> {
-        Some(NodeId(self.peer?))
+    /// Of an entry that stands behind this hash.
+    pub(crate) fn of_entry(prev: Hash, entry: &Entry) -> Detail {
+        let (said, payload) = Said::read(entry.kind, entry.content.as_slice());
+        Detail::new(prev, entry.kind, said, payload)
+    }
+
+    /// Of the SEND entry of a message.
+    pub(crate) fn of_send(prev: Hash, to: NodeId, payload: &[u8]) -> Detail {
+        Detail::new(prev, SEND, Said::To(to), payload)
+    }
+
+    /// Of the RECV entry that quotes another entry.
+    pub(crate) fn of_recv(prev: Hash, quoted: &Place, payload: &[u8]) -> Detail {
+        Detail::new(prev, RECV, Said::From(quoted.node, quoted.seq), payload)
+    }
+
+    /// The payload, or the content where it says nothing: its first 64 bytes, and how many there are.
+    pub fn shown(&self) -> Shown<'_> {
+        Shown {
+            bytes: self.beginning.get(..self.size).unwrap_or(&self.beginning),
+            size: self.size,
+        }
     }
 }

@@ -2,8 +2,10 @@
 
 use crate::detail::Detail;
 use crate::rows::{Cell, Place, Rows};
+use crate::walking::Walker;
 use authenticators::NodeId;
 use outcome::Memory;
+use sentences::{Role, Said};
 use std::alloc::Global;
 use std::collections::BTreeMap;
 use std::collections::btree_map::Entry;
@@ -13,7 +15,7 @@ use std::collections::btree_map::Entry;
 pub(crate) struct Known {
     cells: BTreeMap<Place, Cell>,
     details: Vec<Detail>,
-    quoted: BTreeMap<Place, Place>,
+    quoted_places: BTreeMap<Place, Place>,
 }
 
 impl Known {
@@ -22,7 +24,7 @@ impl Known {
         Known {
             cells: BTreeMap::new(alloc),
             details: Vec::new(alloc),
-            quoted: BTreeMap::new(alloc),
+            quoted_places: BTreeMap::new(alloc),
         }
     }
 
@@ -41,35 +43,22 @@ impl Known {
         Ok(())
     }
 
-    /// Adds a statement of which nothing more is known.
-    pub(crate) fn note_signed(&mut self, place: &Place) -> Result<(), Memory> {
-        self.note(Cell {
-            place: *place,
-            is_logged: false,
-            detail: None,
-        })
-    }
-
     /// Adds an entry with what it says.
-    pub(crate) fn note_entry(
+    fn note_entry(
         &mut self,
         place: &Place,
         is_logged: bool,
-        detail: Detail,
+        detail: &Detail,
     ) -> Result<(), Memory> {
         let at = self.details.len();
-        self.details.push(detail)?;
+        // The type is named here: else rattle does not find it for the proof of `push`.
+        let said: Said = detail.said;
+        self.details.push(Detail { said, ..*detail })?;
         self.note(Cell {
             place: *place,
             is_logged,
             detail: Some(at),
         })
-    }
-
-    /// Adds that an entry quotes another one.
-    pub(crate) fn note_quoted(&mut self, entry: &Place, quoted: &Place) -> Result<(), Memory> {
-        self.quoted.insert(*entry, *quoted)?;
-        Ok(())
     }
 
     /// All of it, by node and by number.
@@ -82,8 +71,35 @@ impl Known {
         Ok(Rows {
             by_node,
             details: self.details,
-            quoted: self.quoted,
+            quoted_places: self.quoted_places,
         })
+    }
+}
+
+impl Walker for Known {
+    fn statement(
+        &mut self,
+        place: &Place,
+        _role: Role,
+        detail: Option<&Detail>,
+    ) -> Result<(), Memory> {
+        match detail {
+            Some(detail) => self.note_entry(place, false, detail),
+            None => self.note(Cell {
+                place: *place,
+                is_logged: false,
+                detail: None,
+            }),
+        }
+    }
+
+    fn entry(&mut self, place: &Place, detail: &Detail) -> Result<(), Memory> {
+        self.note_entry(place, true, detail)
+    }
+
+    fn quote(&mut self, entry: &Place, quoted: &Place) -> Result<(), Memory> {
+        self.quoted_places.insert(*entry, *quoted)?;
+        Ok(())
     }
 }
 

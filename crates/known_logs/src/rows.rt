@@ -33,7 +33,7 @@ pub struct Cell {
 pub struct Rows {
     pub(crate) by_node: BTreeMap<u32, Vec<Cell>>,
     pub(crate) details: Vec<Detail>,
-    pub(crate) quoted: BTreeMap<Place, Place>,
+    pub(crate) quoted_places: BTreeMap<Place, Place>,
 }
 
 impl Cell {
@@ -64,8 +64,8 @@ impl Rows {
     }
 
     /// The SEND entry that an entry quotes genuinely.
-    pub fn quoted(&self, cell: &Cell) -> Option<Place> {
-        self.quoted.get(&cell.place).copied()
+    pub fn quoted_place(&self, cell: &Cell) -> Option<Place> {
+        self.quoted_places.get(&cell.place).copied()
     }
 
     /// What an entry says, where it is known.

@@ -1,2 +1,8 @@
-mod Named
+mod Deals
 mod Listed
+mod QuotedLists
+mod Quotes
+mod Rows
+mod StatementFits
+mod Stepping
+mod Whole

@@ -1,1 +1,3 @@
+pub mod Extracts
+pub mod Parts
 pub mod within

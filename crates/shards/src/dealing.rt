@@ -1,11 +1,11 @@
-//! How nodes are dealt to shards.
+//! How items are dealt to parts.
 
-ghost use Rattle.std.specs.Prelude.{◌≡◌, ◌≤◌, IfSome, IsSome};
-ghost use Rattle.localities.specs.Shards.{in_turn, is_in_shard};
+ghost use Rattle.std.specs.Prelude.{◌≡◌, ◌≤◌, ◌/◌, IfSome, IsSome};
+ghost use Rattle.localities.specs.Ranges.{key_at};
+ghost use Rattle.localities.specs.Shards.{in_turn};
+ghost use Rattle.shards.specs.Parts.{in_rows, parts_of};
 
-use crate::naming::names_node;
 use authenticators::NodeId;
-use item_forms::Item;
 use std::marker::Model;
 
 /// The most shards that there can be.
@@ -45,7 +45,9 @@ impl Shards {
 
     /// How many they are.
     pub fn count(self) -> u32
-        ensures { result ≡ self }
+        ensures same { result ≡ self }
+        ensures some { 1 ≤ result }
+        ensures few { result ≤ MOST_SHARDS }
     {
         self.count
     }
@@ -56,12 +58,95 @@ impl Shards {
     {
         node.0 % self.count
     }
+}
 
-    /// Whether the item names a node of shard `k`: in its fields, or in a RECV entry as the sender, whoever signed it. It takes one pass
-    /// over the entries of a segment.
-    pub fn has(self, k: u32, item: &Item) -> bool
-        ensures { result ≡ is_in_shard (in_turn self) k item.now }
+/// How many numbers a range has, at least one: range r has those from r times the width on.
+#[derive(Clone, Copy)]
+pub struct Width {
+    numbers: u64,
+}
+
+impl Model for Width {
+    ghost use Rattle.std.specs.Prelude.{◌≤◌, ℕ};
+
+    ghost Value = { ℕ };
+
+    ghost view = { λ w. w.numbers };
+
+    ghost inverse = { λ n. record { numbers = n } };
+
+    ghost invariant = { λ w. 1 ≤ w.numbers };
+}
+
+impl Width {
+    /// So many numbers; `None` where that is none.
+    pub fn new(numbers: u64) -> Option<Width>
+        ensures some { IfSome result (λ w. (w ≡ numbers) × (1 ≤ numbers)) }
+        ensures none { 1 ≤ numbers → IsSome result }
     {
-        names_node(self, k, item)
+        if numbers == 0 {
+            return None;
+        }
+        Some(Width { numbers })
+    }
+
+    /// The range of a number.
+    pub fn range_of(self, seq: u64) -> u64
+        ensures { result ≡ seq / self }
+    {
+        seq / self.numbers
+    }
+}
+
+/// Nodes and ranges of the numbers in their logs, dealt to parts in turn: the ranges of a node to one part after the other.
+#[derive(Clone, Copy)]
+pub struct Ranges {
+    /// The parts.
+    pub shards: Shards,
+    /// How wide a range is.
+    pub width: Width,
+}
+
+impl Ranges {
+    /// The part of a node's range.
+    pub fn of_range(&self, node: NodeId, range: u64) -> u32
+        ensures { result ≡ in_rows self.now.shards (node, range) }
+    {
+        let count = self.shards.count();
+        let row = (range % count as u64) as u32;
+        (node.0 % count + row) % count
+    }
+
+    /// The part of the range in which a node's number is.
+    pub fn of(&self, node: NodeId, seq: u64) -> u32
+        ensures { result ≡ in_rows self.now.shards (key_at self.now.width node seq) }
+    {
+        self.of_range(node, self.width.range_of(seq))
+    }
+}
+
+/// How items are dealt to parts.
+#[derive(Clone, Copy)]
+pub enum Dealing {
+    /// By the nodes that they name.
+    ByNode(Shards),
+    /// By nodes and ranges of numbers: so no part needs to have all that concerns a node.
+    ByRange(Ranges),
+    /// By the nodes that their fields name alone: what segments quote of nodes of other shards stands beside them as items
+    /// ([`extracted`](crate::extracted)).
+    Extracts(Shards),
+}
+
+impl Dealing {
+    /// How many parts there are.
+    pub fn parts(&self) -> u32
+        ensures same { result ≡ parts_of self.now }
+        ensures some { 1 ≤ result }
+        ensures few { result ≤ MOST_SHARDS }
+    {
+        match self {
+            Dealing::ByNode(shards) | Dealing::Extracts(shards) => shards.count(),
+            Dealing::ByRange(ranges) => ranges.shards.count(),
+        }
     }
 }

@@ -1,18 +1,24 @@
 //! Shards of evidence: where nodes are dealt to shards, each shard has the items that name a node of it, and says of its nodes what the
-//! whole evidence says. Nothing here verifies a signature, hashes anything or asks a directory.
+//! whole evidence says; and where ranges of the numbers in their logs are dealt to parts, the whole says of a node the worst that a part
+//! says. Nothing here but [`extracted`] verifies a signature, hashes anything or asks a directory.
 //!
-//! - [`Shards`] deals nodes to shards, and tells of an item whether it names a node of one.
-//! - [`gathered`] makes one set of the items of several texts.
-//! - [`shard_text`] writes one shard of a set of items as the text of a store.
+//! - [`Dealing`] deals items to parts, by nodes or by ranges.
+//! - [`add_items`] reads the items of a store's text, and [`gathered`] makes one set of the items of several texts.
+//! - [`extracted`] puts what segments quote beside them, so that a segment need not go to each shard of which it quotes a node.
+//! - [`Parting`] deals a set of items to its parts, and writes each as the text of a store.
 //!
-//! `localities` has the definitions and the laws, `specs/within` the words of private code.
+//! `localities` has the definitions and the laws, `specs/Extracts.antt` what is quoted; `specs/within` has the words of private code.
 #![tactic(auto)]
 
-pub use dealing::{MOST_SHARDS, Shards};
-pub use gathering::gathered;
-pub use writing::shard_text;
+pub use dealing::{Dealing, MOST_SHARDS, Ranges, Shards, Width};
+pub use extracting::extracted;
+pub use gathering::{add_items, gathered};
+pub use parting::{Part, Parting};
 
 mod dealing;
+mod extracting;
 mod gathering;
+mod keying;
+pub mod laws;
 mod naming;
-mod writing;
+mod parting;

@@ -3,12 +3,14 @@
 
 use authenticators::{Authenticator, NodeId};
 use commitment::Message;
-use containers::{decode_all, write_all};
+use containers::write_all;
 use evidence::MAGIC;
-use evidence_samples::{ZEROS, receipt};
+use evidence_samples::{Nodes, ZEROS, make_nodes, receipt, turned};
 use item_forms::Item;
 use log_chain::ByteString;
-use shards::{MOST_SHARDS, Shards, gathered, shard_text};
+use shards::{
+    Dealing, MOST_SHARDS, Part, Parting, Ranges, Shards, Width, add_items, extracted, gathered,
+};
 use std::alloc::Global;
 use std::test::Fail;
 
@@ -67,15 +69,34 @@ fn make_all(alloc: Global, which: &[Which]) -> Result<Vec<Item>, Fail> {
 
 const ALL: [Which; 4] = [Which::One, Which::Two, Which::Received, Which::Sent];
 
+/// Whether the part is the store of the items that are wanted, and counts them.
+fn is_just(alloc: Global, part: &Part, wanted: &[Which]) -> Result<bool, Fail> {
+    let expected = write_all(alloc, MAGIC, &make_all(alloc, wanted)?)?;
+    Ok(part.text.as_slice() == expected.as_slice() && part.items == wanted.len() as u64)
+}
+
+/// Whether part `k` has just the items that are wanted.
+fn part_is_just(alloc: Global, dealing: Dealing, k: u32, wanted: &[Which]) -> Result<bool, Fail> {
+    let items = gathered(make_all(alloc, &ALL)?);
+    let parting = Parting::new(alloc, dealing, &items)?;
+    let part = parting.part(alloc, k)?;
+    is_just(alloc, &part, wanted)
+}
+
 /// Whether shard `k` of so many has just the items that are wanted.
 fn has_just(alloc: Global, count: u32, k: u32, wanted: &[Which]) -> Result<bool, Fail> {
     let Some(shards) = Shards::new(count) else {
         return Ok(false);
     };
-    let items = gathered(make_all(alloc, &ALL)?);
-    let text = shard_text(alloc, shards, k, &items)?;
-    let expected = write_all(alloc, MAGIC, &make_all(alloc, wanted)?)?;
-    Ok(text.as_slice() == expected.as_slice())
+    part_is_just(alloc, Dealing::ByNode(shards), k, wanted)
+}
+
+/// Whether part `k` of three has just the items that are wanted, where a range has two numbers.
+fn range_has_just(alloc: Global, k: u32, wanted: &[Which]) -> Result<bool, Fail> {
+    let (Some(shards), Some(width)) = (Shards::new(3), Width::new(2)) else {
+        return Ok(false);
+    };
+    part_is_just(alloc, Dealing::ByRange(Ranges { shards, width }), k, wanted)
 }
 
 #[test]
@@ -109,21 +130,35 @@ fn a_shard_has_the_items_that_name_its_nodes(rt: HostRuntime) -> Result<(), Fail
     Ok(())
 }
 
-/// Whether items that came in another order, and twice, are gathered as the four.
-fn is_one_set(alloc: Global) -> Result<bool, Fail> {
-    let twice = [
-        Which::Sent,
-        Which::Two,
-        Which::Received,
-        Which::One,
-        Which::Two,
-        Which::Sent,
+#[test]
+fn a_part_by_ranges_has_the_items_that_name_its_numbers(rt: HostRuntime) -> Result<(), Fail> {
+    let told = [
+        range_has_just(rt.alloc(), 0, &[Which::Received])?,
+        range_has_just(rt.alloc(), 1, &[Which::One, Which::Received])?,
+        range_has_just(rt.alloc(), 2, &[Which::Two, Which::Sent])?,
+        range_has_just(rt.alloc(), 3, &[])?,
     ];
-    let items = gathered(make_all(alloc, &twice)?);
-    let text = write_all(alloc, MAGIC, &items)?;
-    let expected = write_all(alloc, MAGIC, &make_all(alloc, &ALL)?)?;
-    let again = decode_all(alloc, MAGIC, &text)?;
-    Ok(text.as_slice() == expected.as_slice() && again.len() == 4)
+    assert_eq!(rt; told, [true; 4]);
+    Ok(())
+}
+
+/// The text of a store of the items.
+fn text_of(alloc: Global, which: &[Which]) -> Result<Vec<u8>, Fail> {
+    Ok(write_all(alloc, MAGIC, &make_all(alloc, which)?)?)
+}
+
+/// Whether two texts, which share items, are gathered as the four; and a text that is cut off adds none.
+fn is_one_set(alloc: Global) -> Result<bool, Fail> {
+    let mut items = Vec::new(alloc);
+    let first = text_of(alloc, &[Which::Two, Which::Received, Which::Sent])?;
+    let second = text_of(alloc, &[Which::One, Which::Two])?;
+    add_items(alloc, &mut items, &first)?;
+    add_items(alloc, &mut items, &second)?;
+    let is_refused = add_items(alloc, &mut items, b"PRSTORE2").is_err();
+    let count = items.len();
+    let text = write_all(alloc, MAGIC, &gathered(items))?;
+    let expected = text_of(alloc, &ALL)?;
+    Ok(is_refused && count == 5 && text.as_slice() == expected.as_slice())
 }
 
 #[test]
@@ -137,5 +172,46 @@ fn there_are_1_to_1024_shards(rt: HostRuntime) -> Result<(), Fail> {
     let counts = [0, 1, 1024, 1025].map(|n| Shards::new(n).is_some());
     assert_eq!(rt; counts, [false, true, true, false]);
     assert_eq!(rt; MOST_SHARDS, 1024);
+    Ok(())
+}
+
+/// A segment of node 2, unsigned, whose entries quote a message of node 1, genuinely or with a signature that is turned.
+fn quoting(alloc: Global, nodes: &mut Nodes, is_genuine: bool) -> Result<Box<Item>, Fail> {
+    let mut sent = nodes.one.message(alloc, 3, b"a", 7)?;
+    if !is_genuine {
+        let sig = sent.sig.try_clone(alloc)?;
+        sent.sig = turned(sig);
+    }
+    let mut entries = Vec::new(alloc);
+    entries.push(receipt(alloc, 4, &sent)?)?;
+    let sig = ByteString::from_vec(Vec::new(alloc));
+    let item = Item::segment(NodeId(2), ZEROS, entries, sig)?;
+    Ok(Box::new(alloc, item)?)
+}
+
+/// How many items stand in parts 0 and 1 of the extracts of such a segment, in so many shards.
+fn counts_of_extracts(alloc: Global, count: u32, is_genuine: bool) -> Result<(u64, u64), Fail> {
+    let mut nodes = make_nodes(alloc)?;
+    let item = quoting(alloc, &mut nodes, is_genuine)?;
+    let mut items = Vec::new(alloc);
+    items.push(Box::into_inner(item))?;
+    let Some(shards) = Shards::new(count) else {
+        return Ok((0, 0));
+    };
+    let items = extracted(alloc, &nodes.directory, shards, items)?;
+    let parting = Parting::new(alloc, Dealing::Extracts(shards), &items)?;
+    let first = parting.part(alloc, 0)?;
+    let second = parting.part(alloc, 1)?;
+    Ok((first.items, second.items))
+}
+
+#[test]
+fn a_genuine_quote_goes_to_its_shard(rt: HostRuntime) -> Result<(), Fail> {
+    let told = [
+        counts_of_extracts(rt.alloc(), 2, true)?,
+        counts_of_extracts(rt.alloc(), 2, false)?,
+        counts_of_extracts(rt.alloc(), 1, true)?,
+    ];
+    assert!(rt; told == [(1, 1), (1, 0), (1, 0)]);
     Ok(())
 }
