@@ -1,14 +1,13 @@
 //! How the program ends.
 
-use crate::telling::told_of;
+use crate::unbundled::{Refused, tell};
 use crate::words::Request;
 use commands::fault::{Fault, RefusalLine};
 use operating::asking::Ending;
-use operating::refusal::Refusal;
 use std::process::ExitCode;
 
 /// Tells a refusal on standard error, and how the program ends. Where it cannot be written, the exit status alone tells it.
-pub fn ended(rt: &HostRuntime, request: &Request, done: Result<Ending, Refusal>) -> ExitCode {
+pub fn ended(rt: &HostRuntime, request: &Request, done: Result<Ending, Refused>) -> ExitCode {
     match done {
         Ok(Ending::Done) => ExitCode::SUCCESS,
         Ok(Ending::Exposed) => ExitCode::from(3),
@@ -16,10 +15,12 @@ pub fn ended(rt: &HostRuntime, request: &Request, done: Result<Ending, Refusal>)
             let _ = eprintln!(rt; "no proof: the evidence does not expose the node");
             ExitCode::from(4)
         }
-        Err(refusal) => {
-            let line = told_of(request, refusal);
-            let _ = eprintln!(rt; "{line}");
-            ExitCode::FAILURE
+        Err(refused) => {
+            tell(rt, request, refused);
+            match refused {
+                Refused::NoDirectory => ExitCode::from(2),
+                _ => ExitCode::FAILURE,
+            }
         }
     }
 }

@@ -1,16 +1,70 @@
 //! The files that are named in the command line.
 
+ghost use Rattle.std.specs.Prelude.{◌≡◌};
+
 use commands::device::CountedReader;
 use operating::files::{OpenFailed, Opener};
 use std::fs;
 use std::fs::File;
+use std::io::{Chain, Read};
+
+/// A file of which the front was read.
+#[derive(Drop)]
+pub struct Begun<'a> {
+    pub front: &'a [u8],
+    pub rest: File,
+}
 
 /// Files by their names. `-` is standard input.
 #[derive(Drop)]
 pub struct NamedFiles<'a> {
     pub rt: &'a HostRuntime,
     pub paths: &'a [&'a str],
+    /// The last file, where its front was read.
+    pub begun: Option<Begun<'a>>,
     pub failures: u64,
+}
+
+impl<'a> NamedFiles<'a> {
+    /// The files of these names; of the last the front may have been read.
+    pub fn new(
+        rt: &'a HostRuntime,
+        paths: &'a [&'a str],
+        begun: Option<Begun<'a>>,
+    ) -> NamedFiles<'a>
+        ensures { result.failures ≡ 0 }
+    {
+        NamedFiles {
+            rt,
+            paths,
+            begun,
+            failures: 0,
+        }
+    }
+
+    /// Whether the file of this number is the last.
+    fn is_last(&self, file: usize) -> bool {
+        match self.paths.len() {
+            0 => false,
+            count => file == count - 1,
+        }
+    }
+
+    /// The file of this number, at its first byte.
+    fn take(&mut self, file: usize) -> Result<Begun<'a>, OpenFailed>
+        ensures { self.new.failures ≡ self.old.failures }
+    {
+        if self.is_last(file) {
+            if let Some(begun) = self.begun.take() {
+                return Ok(begun);
+            }
+        }
+        let Some(name) = self.paths.get(file) else {
+            return Err(OpenFailed);
+        };
+        let rest = open(self.rt, name)?;
+        Ok(Begun { front: &[], rest })
+    }
 }
 
 /// The path of a name.
@@ -21,28 +75,32 @@ fn path_of(name: &str) -> &str {
     }
 }
 
+/// The file of this name.
+pub fn open(rt: &HostRuntime, name: &str) -> Result<File, OpenFailed> {
+    match fs::open(rt, path_of(name)) {
+        Ok(file) => Ok(file),
+        Err(_) => Err(OpenFailed),
+    }
+}
+
 impl<'a> Opener for NamedFiles<'a> {
-    type Reader = CountedReader<File>;
+    type Reader = CountedReader<Chain<&'a [u8], File>>;
 
     ghost use Rattle.std.specs.Prelude.{None};
 
     ghost seen = { λ o. record { files = λ n. None; failures = o.failures } };
 
-    fn open(&mut self, file: usize) -> Result<CountedReader<File>, OpenFailed> {
-        let Some(name) = self.paths.get(file) else {
-            self.failures += 1;
-            return Err(OpenFailed);
-        };
-        match fs::open(self.rt, path_of(name)) {
-            Ok(opened) => Ok(CountedReader::new(opened)),
-            Err(_) => {
+    fn open(&mut self, file: usize) -> Result<CountedReader<Chain<&'a [u8], File>>, OpenFailed> {
+        match self.take(file) {
+            Ok(begun) => Ok(CountedReader::new(begun.front.chain(begun.rest))),
+            Err(failed) => {
                 self.failures += 1;
-                Err(OpenFailed)
+                Err(failed)
             }
         }
     }
 
-    fn close(&mut self, reader: CountedReader<File>) {
+    fn close(&mut self, reader: CountedReader<Chain<&'a [u8], File>>) {
         if reader.failures > 0 {
             self.failures += 1;
         }

@@ -2,7 +2,7 @@
 
 use crate::words::Request;
 use commands::fault::{Fault, RefusalLine};
-use operating::refusal::{Form, Refusal};
+use operating::refusal::{Refusal, TextForm};
 use std::fmt;
 
 /// A refusal, with the name of its file.
@@ -28,10 +28,12 @@ impl<'a> fmt::Display for Told<'a> {
         if let Some(byte) = self.refusal.byte {
             write!(f, ", byte {byte}")?;
         }
-        let sentence = self.refusal.fault;
-        write!(f, ": {sentence}")?;
+        match self.refusal.fault {
+            Fault::ReadFailed => f.write_str(": it can't be opened, or can't be read to its end")?,
+            sentence => write!(f, ": {sentence}")?,
+        }
         match (self.refusal.fault, self.refusal.form) {
-            (_, Form::Other) => Ok(()),
+            (_, TextForm::Unknown) => Ok(()),
             (Fault::DirectoryMagic | Fault::BadMagic | Fault::BadTag, form) => {
                 write!(f, "; the file is {form}")
             }

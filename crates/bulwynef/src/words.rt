@@ -1,32 +1,52 @@
 //! The words of the command line, read by `clap`.
 
+use crate::command_line::command;
+use crate::programs::NAMES;
+use answers::Style;
 use authenticators::NodeId;
 use clap::error::ErrorKind;
-use clap::{Arg, ArgAction, ArgMatches, Command, Error, value_parser};
-use parallel_checking::MOST_WORKERS;
+use clap::parser::ValueSource;
+use clap::{ArgMatches, Error};
+use operating::scope::Scope;
+use shards::{Dealing, Ranges, Shards, Width};
 use std::alloc::{AllocError, Global};
 use std::io;
 use std::process::ExitCode;
 
 /// A command.
-#[derive(Clone, Copy, Debug, PartialEq, Eq)]
+#[derive(Clone, Copy)]
 pub enum Task {
-    /// What stores say of each node.
-    Status,
+    /// What stores say of each of these nodes.
+    Status(Scope),
     /// The union of stores.
     Merge,
-    /// A proof that the node misbehaved.
+    /// A proof that exposes the node.
     Prove(NodeId),
     /// Whom a proof convicts.
     Check,
+    /// What evidence says, for a person to read.
+    Explain(Subject),
+    /// A proof to hand over, in one file with its directory.
+    Bundle,
+    /// The parts of stores, each as a store.
+    Split(Dealing),
+    /// The worst of what parts say.
+    Combine,
+    /// What a file is.
+    Show,
+    /// What a scenario leaves.
+    Play,
 }
 
-/// The program that the nodes run.
-#[derive(Clone, Copy, Debug, PartialEq, Eq)]
-pub enum ProgramName {
-    Tally,
-    Relay,
-    Mailbox,
+/// What is explained.
+#[derive(Clone, Copy)]
+pub enum Subject {
+    /// Stores.
+    Stores,
+    /// A proof.
+    Proof,
+    /// A directory.
+    Directory,
 }
 
 /// What was asked for. The words are lent.
@@ -34,16 +54,22 @@ pub enum ProgramName {
 pub struct Request<'a> {
     /// The command.
     pub task: Task,
-    /// The program that the nodes run.
-    pub program: ProgramName,
+    /// The name of the program that the nodes run.
+    pub program: &'a str,
+    /// Whether the program was named.
+    pub is_program_named: bool,
     /// How many workers check, if it was said.
     pub workers: Option<u32>,
     /// The most bytes of a file.
     pub most_bytes: u64,
-    /// The files' names: the directory's first.
+    /// The files' names: the directory's first, where one is read.
     pub paths: Vec<&'a str>,
-    /// The name of the file to which is written; none or `-` for standard output.
+    /// The name of the file to which is written; none or `-` for standard output. What the names of files begin with that `split` writes.
     pub output: Option<&'a str>,
+    /// How the answer is written.
+    pub style: Style,
+    /// Whether a page is written.
+    pub is_page: bool,
 }
 
 /// What the words ask for.
@@ -76,7 +102,12 @@ fn all_words(rt: &HostRuntime) -> io::Result<Vec<String>> {
 pub fn read_words<'a>(rt: &HostRuntime, words: &'a [String]) -> Asked<'a> {
     match parsed(rt.alloc(), words) {
         Ok(Some(request)) => Asked::Run(request),
-        Ok(None) => Asked::Other,
+        Ok(None) => {
+            let _ = eprintln!(rt;
+                "error: --part wants k/K, where K is 1 to 1024 and k is less, and --extract no --by range"
+            );
+            Asked::Other
+        }
         Err(error) if error.kind() == ErrorKind::OutOfMemory => Asked::Refused,
         Err(error) => {
             let _ = eprint!(rt; "{error}");
@@ -85,186 +116,90 @@ pub fn read_words<'a>(rt: &HostRuntime, words: &'a [String]) -> Asked<'a> {
     }
 }
 
-/// The directory's file.
-fn directory<'a>(alloc: Global) -> Arg<'a> {
-    Arg::new(alloc, "directory")
-        .long("directory")
-        .value_name("FILE")
-        .required(true)
-        .help("The directory of the nodes and their keys")
+/// The shard of the words `k/K`.
+fn shard_of(words: &str) -> Option<Scope> {
+    let (number, count) = words.split_once('/')?;
+    let number = number.parse::<u32>().ok()?;
+    let shards = Shards::new(count.parse::<u32>().ok()?)?;
+    if number >= shards.count() {
+        return None;
+    }
+    Some(Scope::Shard(shards, number))
 }
 
-/// Stores' files.
-fn stores<'a>(alloc: Global) -> Arg<'a> {
-    Arg::new(alloc, "STORE")
-        .action(ArgAction::Append)
-        .num_args(1..)
-        .required(true)
-        .help("A store of evidence, as a witness exports it")
+/// Of which nodes is told; none where the words name no shard.
+fn scope_of(options: &ArgMatches<'_>) -> Option<Scope> {
+    match options.get_str("part") {
+        Some(words) => shard_of(words),
+        None => Some(Scope::All),
+    }
 }
 
-/// One file.
-fn file<'a>(alloc: Global, name: &'a str, help: &'a str) -> Arg<'a> {
-    Arg::new(alloc, name).required(true).help(help)
+/// How items are dealt to parts; none where extracts are asked for by ranges, or where a number is missing, which clap has refused.
+fn dealing_of(options: &ArgMatches<'_>) -> Option<Dealing> {
+    let shards = Shards::new(options.get_one::<u32>("parts")?)?;
+    match (options.get_str("by"), options.get_flag("extract")) {
+        (Some("range"), true) => None,
+        (Some("range"), false) => {
+            let width = Width::new(options.get_one::<u64>("width")?)?;
+            Some(Dealing::ByRange(Ranges { shards, width }))
+        }
+        (_, true) => Some(Dealing::Extracts(shards)),
+        (_, false) => Some(Dealing::ByNode(shards)),
+    }
 }
 
-/// The number of a node.
-fn node<'a>(alloc: Global) -> Arg<'a> {
-    Arg::new(alloc, "NODE")
-        .required(true)
-        .value_parser(value_parser!(u32))
-        .help("The number of the node, in decimal digits")
-}
-
-/// Where the answer is written.
-fn output<'a>(alloc: Global) -> Arg<'a> {
-    Arg::new(alloc, "output")
-        .long("output")
-        .value_name("FILE")
-        .default_value("-")
-        .help(
-            "Where it is written: a new file takes the name once it is whole, and - is standard output",
-        )
-}
-
-/// The program that the nodes run.
-fn program<'a>(alloc: Global) -> Arg<'a> {
-    Arg::new(alloc, "program")
-        .long("program")
-        .value_name("NAME")
-        .value_parser(PROGRAMS.as_slice())
-        .default_value("tally")
-        .help("The program that the nodes run")
-}
-
-/// The names of the programs.
-const PROGRAMS: [&str; 3] = ["tally", "relay", "mailbox"];
-
-/// The text of the option's help names it.
-const _: () = prove!(MOST_WORKERS == 8);
-
-/// How many workers check.
-fn workers<'a>(alloc: Global) -> Arg<'a> {
-    Arg::new(alloc, "workers")
-        .long("workers")
-        .value_name("N")
-        .value_parser(value_parser!(u32).range(1..=MOST_WORKERS as i64))
-        .help(
-            "How many workers check the items: 1 to 8. As many as there are processors, if it is left out",
-        )
-}
-
-/// The most bytes of a file.
-fn most<'a>(alloc: Global) -> Arg<'a> {
-    Arg::new(alloc, "most")
-        .long("most")
-        .value_name("BYTES")
-        .value_parser(value_parser!(u64))
-        .default_value("1099511627776")
-        .help("The most bytes of a file; one that has more is refused")
-}
-
-/// A command that reads a directory.
-fn reading<'a>(
-    alloc: Global,
-    name: &'a str,
-    about: &'a str,
-    example: &'a str,
-) -> Result<Command<'a>, AllocError> {
-    Command::new(alloc, name)
-        .about(about)
-        .after_help(example)
-        .arg(directory(alloc))?
-        .arg(program(alloc))?
-        .arg(most(alloc))
-}
-
-fn status<'a>(alloc: Global) -> Result<Command<'a>, AllocError> {
-    reading(
-        alloc,
-        "status",
-        "Writes what each node is: trusted, suspected or exposed. Ends with 3 where somebody is exposed",
-        "Example: bulwynef status --directory nodes.dir first.store second.store",
-    )?
-    .arg(workers(alloc))?
-    .arg(stores(alloc))
-}
-
-fn merge<'a>(alloc: Global) -> Result<Command<'a>, AllocError> {
-    reading(
-        alloc,
-        "merge",
-        "Writes one store with the items of all stores",
-        "Example: bulwynef merge --directory nodes.dir --output all.store first.store second.store",
-    )?
-    .arg(workers(alloc))?
-    .arg(output(alloc))?
-    .arg(stores(alloc))
-}
-
-fn prove<'a>(alloc: Global) -> Result<Command<'a>, AllocError> {
-    reading(
-        alloc,
-        "prove",
-        "Writes a proof that the node misbehaved. Ends with 4 where there is none",
-        "Example: bulwynef prove --directory nodes.dir 2 --output two.proof all.store",
-    )?
-    .arg(workers(alloc))?
-    .arg(output(alloc))?
-    .arg(node(alloc))?
-    .arg(stores(alloc))
-}
-
-fn check<'a>(alloc: Global) -> Result<Command<'a>, AllocError> {
-    reading(
-        alloc,
-        "check",
-        "Writes which node a proof exposes",
-        "Example: bulwynef check --directory nodes.dir two.proof",
-    )?
-    .arg(file(alloc, "PROOF", "A proof, as prove writes it"))
-}
-
-/// The program's command.
-fn command<'a>(alloc: Global) -> Result<Command<'a>, AllocError> {
-    Command::new(alloc, "bulwynef")
-        .about(
-            "Tells what signed evidence in files says of nodes. A file is bytes, or lines of hexadecimal digits; - is standard input",
-        )
-        .subcommand_required(true)
-        .arg_required_else_help(true)
-        .subcommand(status(alloc)?)?
-        .subcommand(merge(alloc)?)?
-        .subcommand(prove(alloc)?)?
-        .subcommand(check(alloc)?)
-}
-
-/// The command of the name; none where it is unknown or its number is missing, which clap has refused.
+/// The command of the name; none where `--part` names no shard, where extracts are asked for by ranges, or where clap has refused the words: a name is unknown, or a number missing.
 fn task_of(name: &str, options: &ArgMatches<'_>) -> Option<Task> {
     match name {
-        "status" => Some(Task::Status),
+        "status" => Some(Task::Status(scope_of(options)?)),
+        "split" => Some(Task::Split(dealing_of(options)?)),
+        "combine" => Some(Task::Combine),
         "merge" => Some(Task::Merge),
         "prove" => match options.get_one::<u32>("NODE") {
             Some(node) => Some(Task::Prove(NodeId(node))),
             None => None,
         },
         "check" => Some(Task::Check),
+        "explain" => Some(Task::Explain(subject_of(options))),
+        "bundle" => Some(Task::Bundle),
+        "show" => Some(Task::Show),
+        "play" => Some(Task::Play),
         _ => None,
     }
 }
 
-fn program_of(options: &ArgMatches<'_>) -> ProgramName {
-    match options.get_str("program") {
-        Some("relay") => ProgramName::Relay,
-        Some("mailbox") => ProgramName::Mailbox,
-        _ => ProgramName::Tally,
+/// What is explained: a proof or stores, where they are named.
+fn subject_of(options: &ArgMatches<'_>) -> Subject {
+    if options.get_str("proof").is_some() {
+        Subject::Proof
+    } else if options.get_strs("STORE").is_some() {
+        Subject::Stores
+    } else {
+        Subject::Directory
+    }
+}
+
+fn style_of(options: &ArgMatches<'_>) -> Style {
+    if options.get_flag("json") {
+        Style::Json
+    } else {
+        Style::Lines
     }
 }
 
 /// The names of a command's files, the directory's first.
 fn paths_of<'a>(alloc: Global, options: &ArgMatches<'a>) -> Result<Vec<&'a str>, AllocError> {
     let mut paths = Vec::new(alloc);
-    for name in ["directory", "STORE", "PROOF"] {
+    for name in [
+        "directory",
+        "STORE",
+        "PROOF",
+        "proof",
+        "FILE",
+        "SCENARIO",
+        "LINES",
+    ] {
         add_paths(&mut paths, options, name)?;
     }
     Ok(paths)
@@ -284,7 +219,7 @@ fn add_paths<'a>(
     Ok(())
 }
 
-/// What the words ask for, where clap takes them; none where they name no command, which clap has refused.
+/// What the words ask for, where clap takes them; none where `task_of` gives none.
 fn parsed<'a>(alloc: Global, words: &'a [String]) -> Result<Option<Request<'a>>, Error> {
     let matches = command(alloc)?.try_get_matches_from(words)?;
     let Some((name, options)) = matches.subcommand() else {
@@ -293,12 +228,16 @@ fn parsed<'a>(alloc: Global, words: &'a [String]) -> Result<Option<Request<'a>>,
     let Some(task) = task_of(name, options) else {
         return Ok(None);
     };
+    let page = options.get_str("html");
     Ok(Some(Request {
         task,
-        program: program_of(options),
+        program: options.get_str("program").unwrap_or(NAMES[0]),
+        is_program_named: options.value_source("program") == Some(ValueSource::CommandLine),
         workers: options.get_one::<u32>("workers"),
         most_bytes: options.get_one::<u64>("most").unwrap_or(u64::MAX),
         paths: paths_of(alloc, options)?,
-        output: options.get_str("output"),
+        output: page.or(options.get_str("output")),
+        style: style_of(options),
+        is_page: page.is_some(),
     }))
 }

@@ -16,22 +16,29 @@ pub struct Output<'a> {
 }
 
 /// The name of the new file beside the one that is to be.
-fn name_beside(rt: &HostRuntime, name: &str) -> Result<String, AllocError> {
+pub(crate) fn name_beside(rt: &HostRuntime, name: &str) -> Result<String, AllocError> {
     let number = std::process::id(rt.process());
     format!(in rt.alloc(); "{name}.new.{number}")
 }
 
-/// Writes the bytes to a new file, and has them on the disk.
-fn write_new(rt: &HostRuntime, name: &str, bytes: &[u8]) -> io::Result<()> {
-    let mut file = File::create_new(rt, name)?;
+/// Writes the bytes to the file, and has them on the disk.
+fn fill(mut file: File, bytes: &[u8]) -> io::Result<()> {
     file.write_all(bytes)?;
     file.sync_all()
 }
 
-/// Writes the bytes to a new file, which takes the name once it is whole. Where that fails no new file is left.
+/// Writes the bytes to a new file, and has them on the disk.
+pub(crate) fn write_new(rt: &HostRuntime, name: &str, bytes: &[u8]) -> io::Result<()> {
+    let file = File::create_new(rt, name)?;
+    fill(file, bytes)
+}
+
+/// Writes the bytes to a new file, which takes the name once it is whole. Where that fails it is removed; where a file of its name was
+/// there, that one is left as it is.
 fn write_whole(rt: &HostRuntime, name: &str, bytes: &[u8]) -> io::Result<()> {
     let beside = name_beside(rt, name)?;
-    let written = match write_new(rt, beside.as_str(), bytes) {
+    let file = File::create_new(rt, beside.as_str())?;
+    let written = match fill(file, bytes) {
         Ok(()) => fs::rename(rt, beside.as_str(), name),
         Err(error) => Err(error),
     };

@@ -7,7 +7,7 @@ use Rattle.std.proofs.lemmas.List.Concat.{flat_map-cons}
 use Rattle.std.proofs.lemmas.List.Elements.{All-head, All-tail, All-weaker}
 use Rattle.std.proofs.lemmas.List.Splits.{slice_split_at}
 use Rattle.std.proofs.lemmas.List.Sums.{AllPass-from_list_all}
-use Rattle.bundles.specs.Grammar.{Place, lines_of, sentences_from, with_sentence}
+use Rattle.bundles.specs.Grammar.{Reached, lines_of, sentences_from, with_sentence}
 use Rattle.bundles.specs.Spelling.{ended, is_sentence}
 use Rattle.bundles.proofs.Sentences.{one_first}
 
@@ -29,7 +29,7 @@ lines_first (l ∷ ls) rest h =
     ∙ line_first l (flat_map ended ls ++ rest) p.0
     ∙ ap (λ (parts : List (List ℕ)). l ∷ parts) (lines_first ls rest p.1)
 
-abbrev pub pair_of : List ℕ → Place → List ℕ × Place
+abbrev pub pair_of : List ℕ → Reached → List ℕ × Reached
 pair_of t p = (t, p)
 
 -- Sentences in front of lines that begin with none.

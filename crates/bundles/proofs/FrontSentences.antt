@@ -8,7 +8,7 @@ use Rattle.std.proofs.lemmas.List.Concat.{flat_map-cons}
 use Rattle.std.proofs.lemmas.List.Elements.{All-cons, All-head, All-nil, All-tail, All-weaker}
 use Rattle.std.proofs.lemmas.List.Splits.{join_with_byte-slice_split}
 use Rattle.std.proofs.lemmas.List.Sums.{AllPass-from_list_all, list_all-from_AllPass}
-use Rattle.bundles.specs.Grammar.{Place, lines_of, sentences_from, with_sentence}
+use Rattle.bundles.specs.Grammar.{Reached, lines_of, sentences_from, with_sentence}
 use Rattle.bundles.specs.Spelling.{AreSentences, ended, is_printed, is_sentence}
 use Rattle.bundles.proofs.Feeds.{lines_first, no_feed, pair_of, sentences_first}
 
@@ -20,7 +20,7 @@ Is line = IsTrue (is_sentence line)
 pub no_sentences : AreSentences []
 no_sentences = record { lines = []; each = All-nil Is; joined = refl }
 
-by_test : (line : List ℕ) (t : Bool) (later : List ℕ × Place) (at : Place) → is_sentence line ≡ t → AreSentences later.0 → AreSentences (cond t (with_sentence line later) (pair_of [] at)).0
+by_test : (line : List ℕ) (t : Bool) (later : List ℕ × Reached) (at : Reached) → is_sentence line ≡ t → AreSentences later.0 → AreSentences (cond t (with_sentence line later) (pair_of [] at)).0
 by_test line true later at h s = record {
   lines = line ∷ s.lines;
   each = All-cons Is line s.lines h s.each;
@@ -62,14 +62,14 @@ rest_is_empty text front rest count h s =
     let lines : lines_of text ≡ s.lines ++ ([] ∷ []) = ap (λ (t : List ℕ). lines_of t) (s.joined ∙ sym (append-nil (flat_map ended s.lines))) ∙ lines_first s.lines [] (no_feeds s.lines s.each) in
     let (m, e) = sentences_first s.lines ([] ∷ []) 0 s.each (omega arith) last_stops in
     let whole : sentences_from 0 (lines_of text) ≡ pair_of (flat_map ended s.lines) (record { number = m; left = [] ∷ [] }) = ap (λ (parts : List (List ℕ)). sentences_from 0 parts) lines ∙ e in
-    let left : lines_of rest ≡ [] ∷ [] = ap (λ (p : List ℕ × Place). p.1.left) (sym h ∙ whole) in
+    let left : lines_of rest ≡ [] ∷ [] = ap (λ (p : List ℕ × Reached). p.1.left) (sym h ∙ whole) in
     ap length (sym (join_with_byte-slice_split 10 rest) ∙ ap (join_with_byte 10) left)
 
 of_rest : (text front rest : List ℕ) (count : ℕ) (t : Bool) → text ≡ front ++ rest → sentences_from 0 (lines_of text) ≡ pair_of front (record { number = count; left = lines_of rest }) → (length rest == 0) ≡ t → MatchBool t (AreSentences text) (AreSentences text → ⊥)
 of_rest text front rest count true whole h is =
     let none = nil_from_length rest (eqb-true _ _ is) in
     let all : text ≡ front = whole ∙ ap (λ (r : List ℕ). front ++ r) none ∙ append-nil front in
-    subst AreSentences (ap (λ (p : List ℕ × Place). p.0) h ∙ sym all) (found_sentences 0 (lines_of text))
+    subst AreSentences (ap (λ (p : List ℕ × Reached). p.0) h ∙ sym all) (found_sentences 0 (lines_of text))
 of_rest text front rest count false whole h is = λ s. eqb-false (length rest) 0 is (rest_is_empty text front rest count h s)
 
 pub tested : (text front rest : List ℕ) (count : ℕ) (t : Bool) → text ≡ front ++ rest → ((n : ℕ) → sentences_from n (lines_of text) ≡ (front, record { number = n + count; left = lines_of rest })) → t ≡ (length rest == 0) → MatchBool t (AreSentences text) (AreSentences text → ⊥)

@@ -12,7 +12,7 @@ use Rattle.outcome.specs.Bytes.{IsBytes}
 use Rattle.outcome.proofs.Steps.{Ok-inj, bind_ok, guard_true}
 use Rattle.bundles.specs.declared.fault.BundleFault.{BundleFault}
 use Rattle.bundles.specs.declared.fault.BundleFault.TheVariants.{OtherLength, OtherSum}
-use Rattle.bundles.specs.Grammar.{Head, Part, Place, Read, as_told, beginning, bundle_of, bytes_in, exposed_in, form_of, greets, head_of, line_at, next_says, nothing_left, part_of, parts_at, program_in, said, sentences_from, told_of, with_sentence}
+use Rattle.bundles.specs.Grammar.{Head, Part, Reached, Read, as_told, beginning, bundle_of, bytes_in, exposed_in, form_of, greets, head_of, line_at, next_says, nothing_left, part_of, parts_at, program_in, said, sentences_from, told_of, with_sentence}
 use Rattle.bundles.specs.Spelling.{AreSentences, Contents, IsBundle, ended, first_line, is_name, is_sentence, text_of, told_line}
 use Rattle.bundles.proofs.DigitTexts.{bytes_found}
 use Rattle.bundles.proofs.Feeds.{pair_of}
@@ -26,32 +26,32 @@ text parts = join_with_byte 10 parts
 
 -- ---- one line
 
-record IsRead {A : Type 0} (says : List ℕ → Option A) (at : Place) (x : A) (behind : Place) : Type 0 where
+record IsRead {A : Type 0} (says : List ℕ → Option A) (at : Reached) (x : A) (behind : Reached) : Type 0 where
   line : List ℕ
   told : says line ≡ Some x
   whole : text at.left ≡ ended line ++ text behind.left
 
-abbrev up_to : {A : Type 0} → A → Place → Read A
+abbrev up_to : {A : Type 0} → A → Reached → Read A
 up_to x at = Ok (x, at)
 
-of_line : {A : Type 0} (says : List ℕ → Option A) (n : ℕ) (line next : List ℕ) (more : List (List ℕ)) (o : Option A) (p : A × Place) → says line ≡ o → said n (next ∷ more) o ≡ up_to p.0 p.1 → IsRead says (record { number = n; left = line ∷ next ∷ more }) p.0 p.1
+of_line : {A : Type 0} (says : List ℕ → Option A) (n : ℕ) (line next : List ℕ) (more : List (List ℕ)) (o : Option A) (p : A × Reached) → says line ≡ o → said n (next ∷ more) o ≡ up_to p.0 p.1 → IsRead says (record { number = n; left = line ∷ next ∷ more }) p.0 p.1
 of_line {A} says n line next more (Some x) p told h =
-    let same : (x, record { number = n + 1; left = next ∷ more }) ≡ p = Ok-inj {A = A × Place} {E = BundleFault} (x, record { number = n + 1; left = next ∷ more }) p h in
-    subst (λ (q : A × Place). IsRead says (record { number = n; left = line ∷ next ∷ more }) q.0 q.1) same (record { line = line; told = told; whole = sym (append_assoc line (10 ∷ []) (text (next ∷ more))) })
+    let same : (x, record { number = n + 1; left = next ∷ more }) ≡ p = Ok-inj {A = A × Reached} {E = BundleFault} (x, record { number = n + 1; left = next ∷ more }) p h in
+    subst (λ (q : A × Reached). IsRead says (record { number = n; left = line ∷ next ∷ more }) q.0 q.1) same (record { line = line; told = told; whole = sym (append_assoc line (10 ∷ []) (text (next ∷ more))) })
 of_line says n line next more None p told h = absurd cc
 
-of_lines : {A : Type 0} (says : List ℕ → Option A) (n : ℕ) (parts : List (List ℕ)) (p : A × Place) → next_says says n parts ≡ up_to p.0 p.1 → IsRead says (record { number = n; left = parts }) p.0 p.1
+of_lines : {A : Type 0} (says : List ℕ → Option A) (n : ℕ) (parts : List (List ℕ)) (p : A × Reached) → next_says says n parts ≡ up_to p.0 p.1 → IsRead says (record { number = n; left = parts }) p.0 p.1
 of_lines says n [] p h = absurd cc
 of_lines says n (rest ∷ []) p h = absurd cc
 of_lines says n (line ∷ next ∷ more) p h = of_line says n line next more (says line) p refl h
 
-is_read : {A : Type 0} (says : List ℕ → Option A) (at : Place) (p : A × Place) → line_at says at ≡ up_to p.0 p.1 → IsRead says at p.0 p.1
+is_read : {A : Type 0} (says : List ℕ → Option A) (at : Reached) (p : A × Reached) → line_at says at ≡ up_to p.0 p.1 → IsRead says at p.0 p.1
 unfolding line_at
 is_read says at p h = of_lines says at.number at.left p h
 
 -- ---- sentences
 
-of_test : (t : Bool) (line next : List ℕ) (more : List (List ℕ)) (later : List ℕ × Place) (n : ℕ) → text (next ∷ more) ≡ later.0 ++ text later.1.left → text (line ∷ next ∷ more) ≡ (cond t (with_sentence line later) (pair_of [] (record { number = n; left = line ∷ next ∷ more }))).0 ++ text (cond t (with_sentence line later) (pair_of [] (record { number = n; left = line ∷ next ∷ more }))).1.left
+of_test : (t : Bool) (line next : List ℕ) (more : List (List ℕ)) (later : List ℕ × Reached) (n : ℕ) → text (next ∷ more) ≡ later.0 ++ text later.1.left → text (line ∷ next ∷ more) ≡ (cond t (with_sentence line later) (pair_of [] (record { number = n; left = line ∷ next ∷ more }))).0 ++ text (cond t (with_sentence line later) (pair_of [] (record { number = n; left = line ∷ next ∷ more }))).1.left
 of_test true line next more later n h =
     ap (λ (t : List ℕ). line ++ 10 ∷ t) h
     ∙ sym (append_assoc line (10 ∷ []) (later.0 ++ text later.1.left))
@@ -66,7 +66,7 @@ sentences_whole n (line ∷ next ∷ more) = of_test (is_sentence line) line nex
 
 -- ---- the head
 
-record IsHead (whole_text : List ℕ) (h : Head) (behind : Place) : Type 0 where
+record IsHead (whole_text : List ℕ) (h : Head) (behind : Reached) : Type 0 where
   sentences : AreSentences h.sentences
   program : is_name h.program ≡ true
   node : h.node < 10 ^ 10
@@ -75,7 +75,7 @@ record IsHead (whole_text : List ℕ) (h : Head) (behind : Place) : Type 0 where
 abbrev head : List ℕ → List ℕ → ℕ → Head
 head sentences program node = record { sentences = sentences; program = program; node = node }
 
-of_three : (whole_text : List ℕ) (x : Unit {0}) (first p_behind e_behind : Place) (name : List ℕ) (node : ℕ) → IsRead greets (beginning whole_text) x first → IsRead program_in (sentences_from first.number first.left).1 name p_behind → IsRead exposed_in p_behind node e_behind → IsHead whole_text (head (sentences_from first.number first.left).0 name node) e_behind
+of_three : (whole_text : List ℕ) (x : Unit {0}) (first p_behind e_behind : Reached) (name : List ℕ) (node : ℕ) → IsRead greets (beginning whole_text) x first → IsRead program_in (sentences_from first.number first.left).1 name p_behind → IsRead exposed_in p_behind node e_behind → IsHead whole_text (head (sentences_from first.number first.left).0 name node) e_behind
 of_three whole_text x first p_behind e_behind name node g p e =
     let named = program_found p.line name p.told in
     let exposed = exposed_found e.line node e.told in
@@ -94,15 +94,15 @@ of_three whole_text x first p_behind e_behind name node g p e =
           ∙ ap (λ (l : List ℕ). ended first_line ++ (front ++ (ended (codes "program" ++ 32 ∷ name) ++ (ended l ++ text e_behind.left)))) exposed.1;
     }
 
-head_found : (whole_text : List ℕ) (h : Head × Place) → head_of whole_text ≡ up_to h.0 h.1 → IsHead whole_text h.0 h.1
+head_found : (whole_text : List ℕ) (h : Head × Reached) → head_of whole_text ≡ up_to h.0 h.1 → IsHead whole_text h.0 h.1
 unfolding head_of
 head_found whole_text h is =
     let p0 = bind_ok (line_at greets (beginning whole_text)) _ h is in
     let p1 = bind_ok (line_at program_in (sentences_from p0.0.1.number p0.0.1.left).1) _ h p0.2 in
     let p2 = bind_ok (line_at exposed_in p1.0.1) _ h p1.2 in
     let front : List ℕ = (sentences_from p0.0.1.number p0.0.1.left).0 in
-    let same : (head front p1.0.0 p2.0.0, p2.0.1) ≡ h = Ok-inj {A = Head × Place} {E = BundleFault} (head front p1.0.0 p2.0.0, p2.0.1) h p2.2 in
-    subst (λ (q : Head × Place). IsHead whole_text q.0 q.1) same
+    let same : (head front p1.0.0 p2.0.0, p2.0.1) ≡ h = Ok-inj {A = Head × Reached} {E = BundleFault} (head front p1.0.0 p2.0.0, p2.0.1) h p2.2 in
+    subst (λ (q : Head × Reached). IsHead whole_text q.0 q.1) same
     (of_three whole_text p0.0.0 p0.0.1 p1.0.1 p2.0.1 p1.0.0 p2.0.0 (is_read greets (beginning whole_text) p0.0 p0.1) (is_read program_in (sentences_from p0.0.1.number p0.0.1.left).1 p1.0 p1.1) (is_read exposed_in p1.0.1 p2.0 p2.1))
 
 -- ---- directory and proof
@@ -116,14 +116,14 @@ nothing n (line ∷ next ∷ more) x h = absurd cc
 abbrev telling : List ℕ → ℕ → List ℕ → List ℕ
 telling word count sum = word ++ 32 ∷ decimal count ++ 32 ∷ sum
 
-record AreParts (at : Place) (d p : Part) : Type 0 where
+record AreParts (at : Reached) (d p : Part) : Type 0 where
   directory : IsBytes d.bytes
   proof : IsBytes p.bytes
   directory_length : d.told_length < 10 ^ 10
   proof_length : p.told_length < 10 ^ 10
   whole : text at.left ≡ ended (telling (codes "directory") d.told_length d.told_sum) ++ (ended (telling (codes "proof") p.told_length p.told_sum) ++ (ended (encode_lower d.bytes) ++ ended (encode_lower p.bytes)))
 
-of_four : (at a_1 a_2 a_3 a_4 : Place) (n m : ℕ) (dt pt : ℕ × List ℕ) (db pb : List ℕ) → IsRead (told_of (codes "directory")) at dt a_1 → IsRead (told_of (codes "proof")) a_1 pt a_2 → IsRead bytes_in a_2 db a_3 → IsRead bytes_in a_3 pb a_4 → text a_4.left ≡ [] → AreParts at (part_of n dt db) (part_of m pt pb)
+of_four : (at a_1 a_2 a_3 a_4 : Reached) (n m : ℕ) (dt pt : ℕ × List ℕ) (db pb : List ℕ) → IsRead (told_of (codes "directory")) at dt a_1 → IsRead (told_of (codes "proof")) a_1 pt a_2 → IsRead bytes_in a_2 db a_3 → IsRead bytes_in a_3 pb a_4 → text a_4.left ≡ [] → AreParts at (part_of n dt db) (part_of m pt pb)
 of_four at a_1 a_2 a_3 a_4 n m dt pt db pb d p x y last =
     let dl = told_found (codes "directory") d.line dt d.told in
     let pl = told_found (codes "proof") p.line pt p.told in
@@ -147,7 +147,7 @@ of_four at a_1 a_2 a_3 a_4 n m dt pt db pb d p x y last =
 abbrev both : Part × Part → Result (Part × Part) BundleFault
 both q = Ok q
 
-parts_found : (at : Place) (q : Part × Part) → parts_at at ≡ both q → AreParts at q.0 q.1
+parts_found : (at : Reached) (q : Part × Part) → parts_at at ≡ both q → AreParts at q.0 q.1
 unfolding parts_at
 parts_found at q is =
     let p0 = bind_ok (line_at (told_of (codes "directory")) at) _ q is in
@@ -191,7 +191,7 @@ abbrev bundle : List ℕ → List ℕ → ℕ → List ℕ → List ℕ → Cont
 bundle sentences program node directory proof = record { sentences = sentences; program = program; node = node; directory = directory; proof = proof }
 
 record IsForm (whole_text : List ℕ) (h : Head) (d p : Part) : Type 0 where
-  behind : Place
+  behind : Reached
   head : IsHead whole_text h behind
   parts : AreParts behind d p
 

@@ -1,15 +1,15 @@
 -- Sentences at the front of a text.
 use Rattle.std.proofs.Common.{◌≡◌, ◌≤◌, ◌+◌, ◌-◌, ◌==◌, ℕ, true, false, List, [], ◌∷◌, ◌++◌, length, take, refl, sym, ap, subst, ◌∙◌, add-zero, add_assoc, append_assoc, append-nil, length-append, arith}
 use Rattle.std.proofs.Math.Seq.{take-append_seam}
-use Rattle.bundles.specs.Grammar.{Place, lines_of, sentences_from, with_sentence}
+use Rattle.bundles.specs.Grammar.{Reached, lines_of, sentences_from, with_sentence}
 use Rattle.bundles.specs.Spelling.{ended, is_sentence}
 use Rattle.bundles.specs.within.Cursors.{AreInFront, IsBehindSentence, IsLine, IsNext}
 use Rattle.bundles.proofs.Cuts.{some_parts}
 
-abbrev pair : List ℕ → Place → List ℕ × Place
+abbrev pair : List ℕ → Reached → List ℕ × Reached
 pair t p = (t, p)
 
-abbrev place : ℕ → List (List ℕ) → Place
+abbrev place : ℕ → List (List ℕ) → Reached
 place n parts = record { number = n; left = parts }
 
 -- ---- one line
@@ -55,7 +55,7 @@ one_more text rest more count so_far is =
       whole = so_far.whole ∙ ap (λ (t : List ℕ). so_far.front ++ t) (is.is.whole ∙ sym (append_assoc is.line (10 ∷ []) more)) ∙ sym (append_assoc so_far.front (ended is.line) more);
       sentences =
           λ n. so_far.sentences n
-          ∙ ap (λ (p : List ℕ × Place). pair (so_far.front ++ p.0) p.1) (here n)
+          ∙ ap (λ (p : List ℕ × Reached). pair (so_far.front ++ p.0) p.1) (here n)
           ∙ ap (λ (t : List ℕ). pair t (sentences_from (n + count + 1) (lines_of more)).1) (sym (append_assoc so_far.front (ended is.line) (sentences_from (n + count + 1) (lines_of more)).0))
           ∙ ap (λ (m : ℕ). pair (so_far.front ++ ended is.line ++ (sentences_from m (lines_of more)).0) (sentences_from m (lines_of more)).1) (add_assoc n count 1);
     }
@@ -69,7 +69,7 @@ cut_front text front rest h =
 pub all_found : (text rest : List ℕ) (count : ℕ) → AreInFront text rest count → ((n : ℕ) → sentences_from n (lines_of rest) ≡ ([], record { number = n; left = lines_of rest })) → (n : ℕ) → sentences_from n (lines_of text) ≡ (take (length text - length rest) text, record { number = n + count; left = lines_of rest })
 all_found text rest count is none n =
     is.sentences n
-    ∙ ap (λ (p : List ℕ × Place). pair (is.front ++ p.0) p.1) (none (n + count))
+    ∙ ap (λ (p : List ℕ × Reached). pair (is.front ++ p.0) p.1) (none (n + count))
     ∙ ap (λ (t : List ℕ). pair t (place (n + count) (lines_of rest))) (append-nil is.front ∙ sym (cut_front text is.front rest is.whole))
 
 pub is_whole : (text rest : List ℕ) (count : ℕ) → AreInFront text rest count → text ≡ take (length text - length rest) text ++ rest

@@ -9,7 +9,7 @@ use Rattle.sha2.specs.Sha256.{sha256}
 use Rattle.outcome.specs.Outcome.{◌>>=◌}
 use Rattle.std.proofs.lemmas.Slice.Eq.{bytes_eq-Decides}
 use Rattle.bundles.specs.declared.fault.BundleFault.{BundleFault}
-use Rattle.bundles.specs.Grammar.{Head, Part, Place, Read, as_told, beginning, bundle_of, bytes_in, exposed_in, form_of, greets, head_of, line_at, lines_of, nothing_left, part_of, parts_at, program_in, sentences_from, told_of}
+use Rattle.bundles.specs.Grammar.{Head, Part, Reached, Read, as_told, beginning, bundle_of, bytes_in, exposed_in, form_of, greets, head_of, line_at, lines_of, nothing_left, part_of, parts_at, program_in, sentences_from, told_of}
 use Rattle.bundles.specs.Spelling.{Contents, IsBundle, ended, first_line, is_sentence, last_lines, text_of, told_line}
 use Rattle.bundles.proofs.DigitTexts.{are_digits, bytes_said, sum_is_digits}
 use Rattle.bundles.proofs.Feeds.{line_first, lines_first, no_feed, pair_of, sentences_first}
@@ -56,14 +56,14 @@ text_lines b is =
 
 -- ---- one line after the other
 
-abbrev at : ℕ → List (List ℕ) → Place
+abbrev at : ℕ → List (List ℕ) → Reached
 at n parts = record { number = n; left = parts }
 
-abbrev up_to : {A : Type 0} → A → Place → Read A
+abbrev up_to : {A : Type 0} → A → Reached → Read A
 up_to x p = Ok (x, p)
 
 -- the line is read, and then the rest
-on : {A B : Type 0} (says : List ℕ → Option A) (f : A × Place → Result B BundleFault) (y : Result B BundleFault) (p : Place) (n : ℕ) (line : List ℕ) (more : List (List ℕ)) (x : A) → p.number ≡ n → p.left ≡ line ∷ more → 1 ≤ length more → says line ≡ Some x → f (x, at (n + 1) more) ≡ y → (line_at says p >>= f) ≡ y
+on : {A B : Type 0} (says : List ℕ → Option A) (f : A × Reached → Result B BundleFault) (y : Result B BundleFault) (p : Reached) (n : ℕ) (line : List ℕ) (more : List (List ℕ)) (x : A) → p.number ≡ n → p.left ≡ line ∷ more → 1 ≤ length more → says line ≡ Some x → f (x, at (n + 1) more) ≡ y → (line_at says p >>= f) ≡ y
 on {A} {B} says f y p n line more x number left some told behind =
     let read : line_at says p ≡ up_to x (at (n + 1) more) = says_some says p (at (n + 1) more) line x (record { number = ap (λ (m : ℕ). m + 1) (sym number); left = left; ends = some }) told in
     ap (λ (r : Read A). r >>= f) read ∙ behind
@@ -71,12 +71,12 @@ on {A} {B} says f y p n line more x number left some told behind =
 abbrev head : List ℕ → List ℕ → ℕ → Head
 head sentences program node = record { sentences = sentences; program = program; node = node }
 
-abbrev head_up_to : Head → Place → Read Head
+abbrev head_up_to : Head → Reached → Read Head
 head_up_to h p = Ok (h, p)
 
-behind_sentences : (says_program : List ℕ → Option (List ℕ)) (says_node : List ℕ → Option ℕ) (found : List ℕ × Place) (sentences p e name : List ℕ) (node m : ℕ) (more : List (List ℕ)) → 1 ≤ length more → says_program p ≡ Some name → says_node e ≡ Some node → found ≡ pair_of sentences (at m (p ∷ e ∷ more)) → (line_at says_program found.1 >>= (λ program. line_at says_node program.1 >>= (λ exposed. head_up_to (head found.0 program.0 exposed.0) exposed.1))) ≡ head_up_to (head sentences name node) (at (m + 1 + 1) more)
+behind_sentences : (says_program : List ℕ → Option (List ℕ)) (says_node : List ℕ → Option ℕ) (found : List ℕ × Reached) (sentences p e name : List ℕ) (node m : ℕ) (more : List (List ℕ)) → 1 ≤ length more → says_program p ≡ Some name → says_node e ≡ Some node → found ≡ pair_of sentences (at m (p ∷ e ∷ more)) → (line_at says_program found.1 >>= (λ program. line_at says_node program.1 >>= (λ exposed. head_up_to (head found.0 program.0 exposed.0) exposed.1))) ≡ head_up_to (head sentences name node) (at (m + 1 + 1) more)
 behind_sentences says_program says_node found sentences p e name node m more some program exposed h =
-    ap (λ (q : List ℕ × Place). line_at says_program q.1 >>= (λ program. line_at says_node program.1 >>= (λ exposed. head_up_to (head q.0 program.0 exposed.0) exposed.1))) h
+    ap (λ (q : List ℕ × Reached). line_at says_program q.1 >>= (λ program. line_at says_node program.1 >>= (λ exposed. head_up_to (head q.0 program.0 exposed.0) exposed.1))) h
     ∙ on says_program (λ program. line_at says_node program.1 >>= (λ exposed. head_up_to (head sentences program.0 exposed.0) exposed.1)) (head_up_to (head sentences name node) (at (m + 1 + 1) more)) (at m (p ∷ e ∷ more)) m p (e ∷ more) name refl refl (omega (arith, some)) program
     (on says_node (λ exposed. head_up_to (head sentences name exposed.0) exposed.1) (head_up_to (head sentences name node) (at (m + 1 + 1) more)) (at (m + 1) (e ∷ more)) (m + 1) e more node refl refl some exposed refl)
 
@@ -125,7 +125,7 @@ bundle sentences program node directory proof = Ok (record { sentences = sentenc
 abbrev form : Head → Part → Part → Result (Head × Part × Part) BundleFault
 form h d p = Ok (h, d, p)
 
-form_read : (text : List ℕ) (h : Head) (at : Place) (d p : Part) → head_of text ≡ head_up_to h at → parts_at at ≡ parts_of d p → form_of text ≡ form h d p
+form_read : (text : List ℕ) (h : Head) (at : Reached) (d p : Part) → head_of text ≡ head_up_to h at → parts_at at ≡ parts_of d p → form_of text ≡ form h d p
 unfolding form_of
 form_read text h at d p read parts = then (head_of text) _ (h, at) (form h d p) read (then (parts_at at) _ (d, p) (form h d p) parts refl)
 

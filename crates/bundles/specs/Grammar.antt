@@ -84,18 +84,18 @@ abbrev pub lines_of : List ℕ → List (List ℕ)
 lines_of text = slice_split (λ c. c == 10) text
 
 -- How far a text is read: the number of the next line, and what is left.
-pub record Place : Type 0 where
+pub record Reached : Type 0 where
   pub number : ℕ
   pub left : List (List ℕ)
 
-abbrev pub beginning : List ℕ → Place
+abbrev pub beginning : List ℕ → Reached
 beginning text = record { number = 1; left = lines_of text }
 
--- What was read up to a place.
+-- What was read, and how far.
 abbrev pub Read : Type 0 → Type 0
-Read A = Result (A × Place) BundleFault
+Read A = Result (A × Reached) BundleFault
 
--- What the line says, and the place behind it; a line that does not say it is refused.
+-- What the line says, and that it is reached; a line that does not say it is refused.
 abbrev pub said : {A : Type 0} → ℕ → List (List ℕ) → Option A → Read A
 said number more None = Err (BadBundle number)
 said number more (Some x) = Ok (x, record { number = number + 1; left = more })
@@ -106,15 +106,15 @@ next_says says number [] = Err (BadBundle number)
 next_says says number (rest ∷ []) = Err (BadBundle number)
 next_says says number (line ∷ next ∷ more) = said number (next ∷ more) (says line)
 
-unfoldable pub line_at : {A : Type 0} → (List ℕ → Option A) → Place → Read A
+unfoldable pub line_at : {A : Type 0} → (List ℕ → Option A) → Reached → Read A
 line_at says at = next_says says at.number at.left
 
 -- One more sentence in front.
-abbrev pub with_sentence : List ℕ → List ℕ × Place → List ℕ × Place
+abbrev pub with_sentence : List ℕ → List ℕ × Reached → List ℕ × Reached
 with_sentence line later = (ended line ++ later.0, later.1)
 
 -- The sentences as they stand, up to the first line that is none.
-unfoldable pub sentences_from : ℕ → List (List ℕ) → List ℕ × Place
+unfoldable pub sentences_from : ℕ → List (List ℕ) → List ℕ × Reached
 sentences_from number [] = ([], record { number = number; left = [] })
 sentences_from number (rest ∷ []) = ([], record { number = number; left = rest ∷ [] })
 sentences_from number (line ∷ next ∷ more) =
@@ -153,7 +153,7 @@ pub record Part : Type 0 where
 abbrev pub part_of : ℕ → ℕ × List ℕ → List ℕ → Part
 part_of line told bytes = record { line = line; told_length = told.0; told_sum = told.1; bytes = bytes }
 
-unfoldable pub parts_at : Place → Result (Part × Part) BundleFault
+unfoldable pub parts_at : Reached → Result (Part × Part) BundleFault
 parts_at at = do
   directory ← line_at (told_of (codes "directory")) at
   proof ← line_at (told_of (codes "proof")) directory.1

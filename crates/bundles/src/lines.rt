@@ -1,7 +1,7 @@
 //! Lines, one after the other.
 
 ghost use Rattle.std.specs.Prelude.{◌≡◌, ◌<◌, ◌≤◌, ◌+◌, ◌++◌, ℕ, [], ◌∷◌, length, IfSome, MatchOption};
-ghost use Rattle.bundles.specs.Grammar.{Place, beginning, lines_of, nothing_left, sentences_from};
+ghost use Rattle.bundles.specs.Grammar.{Reached, beginning, lines_of, nothing_left, sentences_from};
 ghost use Rattle.bundles.specs.within.Cursors.{IsBehindSentence, IsLine, IsNext};
 ghost use Rattle.bundles.specs.declared.fault.BundleFault.TheVariants.{BadBundle};
 
@@ -62,9 +62,9 @@ pub(crate) struct Lines<'a> {
 
 impl<'a> Model for Lines<'a> {
     ghost use Rattle.std.specs.Prelude.{◌+◌, ◌<◌, ◌^◌, length};
-    ghost use Rattle.bundles.specs.Grammar.{Place, lines_of};
+    ghost use Rattle.bundles.specs.Grammar.{Reached, lines_of};
 
-    ghost Value = { Place };
+    ghost Value = { Reached };
 
     ghost view = { λ l. record { number = l.number; left = lines_of l.rest.now } };
 

@@ -1,5 +1,7 @@
-//! Tests of the public calls of `bundles`.
+//! Tests of the public calls of `bundles` and `bundling`.
 #![tactic(auto)]
 
 #[cfg(test)]
 mod calls;
+#[cfg(test)]
+mod handing;

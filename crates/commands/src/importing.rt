@@ -14,7 +14,7 @@ use crate::pending::{LONGEST_STRIDE, Pending};
 use authenticators::Directory;
 use containers::{Cause, ImportFault};
 use evidence::laws::refused_pieces_stay;
-use evidence_store::{Evidence, Importer};
+use evidence::{Evidence, Importer};
 use outcome::Memory;
 use replay_verifier::Program;
 use std::alloc::Global;

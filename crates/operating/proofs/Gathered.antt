@@ -1,5 +1,6 @@
 -- The evidence of a directory alone, and with one store more.
 use Rattle.std.proofs.Common.{◌≡◌, ◌∙◌, ◌+◌, ◌<◌, ℕ, suc, false, List, [], ◌∷◌, ◌++◌, length, Option, Some, Result, Ok, Err, inr, refl, sym, ap, subst, arith}
+use Rattle.std.specs.List.{Contains}
 use Rattle.std.proofs.lemmas.List.{length-append}
 use Rattle.outcome.specs.Outcome.{◌>>=◌, told_as}
 use Rattle.authenticators.specs.Directory.{Listing}
@@ -9,13 +10,12 @@ use Rattle.item_forms.specs.declared.forms.Fields.{Fields}
 use Rattle.evidence_set.specs.ItemSets.{SetsAsExpected, none}
 use Rattle.evidence.specs.Contents.{Contents}
 use Rattle.commands.specs.declared.fault.Fault.{Fault}
+use Rattle.commands.specs.Adding.{AddsStore}
 use Rattle.commands.specs.Refusals.{of_directory}
 use Rattle.commands.specs.Inputs.{AreItems, Parsed, evidence_of, store_of, stores_after}
 use Rattle.operating.specs.GatheredFiles.{AreGathered, RefusesFiles, RefusesStore}
 use Rattle.operating.specs.declared.refusal.Refusal.{Refusal}
 use Rattle.operating.specs.FileTexts.{Say, Says, SaysDirectory}
-use Rattle.operating.specs.within.Adding.{AddsStore}
-use Rattle.operating.proofs.Members.{none_here}
 
 -- ---- the directory
 
@@ -33,6 +33,9 @@ by_directory a stores = refl
 no_stores : (ds : Listing) → read_stores [] ds ≡ parsed ds []
 unfolding stores_after
 no_stores ds = refl
+
+none_here : {X : Type 0} (x : X) → Contains [] x → ⊥
+none_here x c = let below : c.0 < 0 = c.1 in omega arith
 
 no_items : SetsAsExpected → (s : Contents) → s.items ≡ none → AreItems s.items []
 no_items law s is x = (λ has. absurd (law.none x (rw is at has)), λ has. absurd (none_here x.fields has))

@@ -1,6 +1,8 @@
-mod AddedStores
+mod Combined
 mod Endings
 mod Exposing
+mod Extracts
 mod Gathered
-mod Members
+mod Plays
+mod Rows
 mod Steps

@@ -1,6 +1,6 @@
 -- What the steps of reading files say of the whole.
 use Rattle.std.proofs.Common.{◌≡◌, ◌∙◌, ℕ, false, List, Option, Some, None, Result, Ok, Err, inl, inr, refl, sym, ap}
-use Rattle.std.specs.Prelude.{◌↔◌, IfErr, IsSome, OnOk, is_some}
+use Rattle.std.specs.Prelude.{◌↔◌, IsSome, OnOk, is_some}
 use Rattle.outcome.specs.Outcome.{told_as, Fails}
 use Rattle.authenticators.specs.Directory.{Listing, is_listed, keys_at}
 use Rattle.authenticators.specs.declared.fault.DirectoryFault.{DirectoryFault}
@@ -25,10 +25,6 @@ quiet_read (Err f) a b h = tt
 pub on_more : {A E : Type 0} (r : Result A E) (P Q : Type 0) → (P → Q) → OnOk r P → OnOk r Q
 on_more (Ok x) P Q f h = f h
 on_more (Err e) P Q f h = tt
-
-pub err_more : {A E : Type 0} (r : Result A E) (P Q : E → Type 0) → ((e : E) → P e → Q e) → IfErr r P → IfErr r Q
-err_more (Ok x) P Q f h = tt
-err_more (Err e) P Q f h = f e h
 
 -- a text that is refused
 pub text_refused : (s : Contents) (text : List ℕ) (f : ImportFault) (r : Refusal) → r.fault ≡ of_import f → r.item ≡ Some f.item → Refuses f (import_set s.directory text) → RefusesText s text r

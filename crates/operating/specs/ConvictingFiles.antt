@@ -1,7 +1,8 @@
 -- A directory and a proof in files, and the first fault in them.
-use Rattle.std.specs.Prelude.{ℕ, ◌≡◌, ◌⊎◌, false, List, Option, Ok, Err}
+use Rattle.std.specs.Prelude.{ℕ, ◌≡◌, ◌⊎◌, false, true, List, Option, Ok, Err}
 use Rattle.outcome.specs.Outcome.{told_as, Fails}
 use Rattle.authenticators.specs.Directory.{Listing}
+use Rattle.authenticators.specs.DirectoryText.{directory_of}
 use Rattle.replay_verifier.specs.Meaning.{Meaning}
 use Rattle.proofs.specs.declared.fault.ProofFault.{ProofFault}
 use Rattle.proofs.specs.declared.proof.Parts.{Parts}
@@ -28,6 +29,11 @@ RefusesProofText program ds text f =
 abbrev pub AreConvicting : {S : Type 0} → Meaning S → ℕ → (ℕ → Option (List ℕ)) → ℕ → Type 0
 AreConvicting program limit files node =
     (ds : Listing) × (text : List ℕ) × SaysDirectory limit (files 0) ds × Says limit false (files 1) text × TextConvicts program ds text node
+
+-- The same with the directory's text beside the node.
+abbrev pub AreConvictingUnder : {S : Type 0} → Meaning S → ℕ → (ℕ → Option (List ℕ)) → ℕ × List ℕ → Type 0
+AreConvictingUnder program limit files found =
+    (ds : Listing) × (text : List ℕ) × Says limit true (files 0) found.1 × (directory_of found.1 ≡ Ok ds) × Says limit false (files 1) text × TextConvicts program ds text found.0
 
 -- Why a proof is refused under a directory: its file says nothing, or what convicts nobody.
 abbrev pub RefusesProof : {S : Type 0} → Meaning S → ℕ → Listing → Option (List ℕ) → Fault → Type 0

@@ -1,5 +1,5 @@
 -- What an engine did with files and a writer.
-use Rattle.std.specs.Prelude.{ℕ, ◌≡◌, ◌⊎◌, ◌+◌, ◌^◌, ◌<◌, List, None, Result, Ok, Err, IfErr, IfOk, OnOk}
+use Rattle.std.specs.Prelude.{ℕ, false, ◌≡◌, ◌⊎◌, ◌+◌, ◌^◌, ◌<◌, List, None, Result, Ok, Err, IfErr, IfOk, OnOk}
 use Rattle.std.specs.Io.KnownBytes.{Appends}
 use Rattle.commands.specs.declared.fault.Fault.{Fault}
 use Rattle.commands.specs.declared.fault.Fault.TheVariants as fault
@@ -7,10 +7,11 @@ use Rattle.commands.specs.Devices.{Writer}
 use Rattle.evidence.specs.Contents.{Contents}
 use Rattle.operating.specs.declared.asking.Ending.{Ending}
 use Rattle.operating.specs.declared.refusal.Refusal.{Refusal}
-use Rattle.operating.specs.ConvictingFiles.{AreConvicting, RefusesConviction}
-use Rattle.operating.specs.FileTexts.{Opened}
-use Rattle.operating.specs.GatheredFiles.{AreGathered, RefusesFiles}
-use Rattle.operating.specs.Questions.{Check}
+use Rattle.operating.specs.ConvictingFiles.{AreConvictingUnder, RefusesConviction}
+use Rattle.operating.specs.FileTexts.{IsUnsaid, Opened, Says}
+use Rattle.operating.specs.GatheredFiles.{AreGathered, IsOfFile, RefusesFiles}
+use Rattle.operating.specs.Questions.{Check, Show}
+use Rattle.answers.specs.declared.style.Style.{Style}
 use Rattle.replay_verifier.specs.Meaning.{Meaning}
 
 -- The counts have room for what an engine does with so many files and one write.
@@ -39,6 +40,10 @@ pub record Ran {S W : Type 0} (reads : S → Type 0) (refuses : Refusal → Type
 abbrev pub RanOnStores : {W : Type 0} → (Contents → Result (List ℕ × Ending) Fault → Type 0) → ℕ → ℕ → Result Ending Refusal → Opened → Opened → (W → Writer) → W → W → Type 0
 RanOnStores question limit count result old new seen before after = Ran (AreGathered limit old.files count) (RefusesFiles limit old.files count) question result old new seen before after
 
--- An engine asked whom a proof convicts under a directory.
-abbrev pub RanOnProof : {S W : Type 0} → Meaning S → ℕ → Result Ending Refusal → Opened → Opened → (W → Writer) → W → W → Type 0
-RanOnProof program limit result old new seen before after = Ran (AreConvicting program limit old.files) (RefusesConviction program limit old.files) Check result old new seen before after
+-- An engine asked whom a proof convicts under a directory and the program, which has this name.
+abbrev pub RanOnProof : {S W : Type 0} → Style → List ℕ → Meaning S → ℕ → Result Ending Refusal → Opened → Opened → (W → Writer) → W → W → Type 0
+RanOnProof style name program limit result old new seen before after = Ran (AreConvictingUnder program limit old.files) (RefusesConviction program limit old.files) (Check style name) result old new seen before after
+
+-- An engine asked what one file is.
+abbrev pub RanOnFile : {W : Type 0} → Style → ℕ → Result Ending Refusal → Opened → Opened → (W → Writer) → W → W → Type 0
+RanOnFile style limit result old new seen before after = Ran (Says limit false (old.files 0)) (λ r. IsOfFile 0 r × IsUnsaid limit false (old.files 0) r.fault) (Show style) result old new seen before after

@@ -1,32 +1,61 @@
 -- What is written of what was read, and how the engine ends.
-use Rattle.std.specs.Prelude.{ℕ, ◌≡◌, List, [], IsSome, Option, Some, None, Result, Ok, Err}
+use Rattle.std.specs.Prelude.{ℕ, ◌≡◌, ◌↔◌, ◌==◌, Bool, true, List, [], map, All, Contains, IsSome, IsTrue, Option, Some, None, Result, Ok, Err}
+use Rattle.std.specs.List.{filter}
+use Rattle.std.specs.List.Sorted.{IsStrictlyIncreasing}
+use Rattle.answers.specs.declared.showing.Shown.{Shown}
+use Rattle.answers.specs.declared.style.Style.{Style}
+use Rattle.answers.specs.declared.style.Style.TheVariants as style
+use Rattle.answers.specs.Showing.{IsShown}
+use Rattle.answers.specs.Texts.{conviction_text, shown_text, standings_text}
 use Rattle.authenticators.specs.Directory.{keys_at}
 use Rattle.replay_verifier.specs.Meaning.{Meaning}
 use Rattle.proofs.specs.Cases.{Case}
 use Rattle.proofs.specs.ProofTexts.{proof_text}
 use Rattle.evidence_set.specs.Exports.{export_of}
-use Rattle.evidence_set.specs.Indications.{IsExposed}
-use Rattle.evidence.specs.Contents.{Contents}
+use Rattle.evidence_set.specs.Indications.{IsExposed, IsIndication}
+use Rattle.evidence_set.specs.ItemSets.{Items}
+use Rattle.evidence_set.specs.declared.indication.Indication.{Indication}
+use Rattle.evidence.specs.Contents.{Contents, with_items}
+use Rattle.localities.specs.Extracts.{IsExtract}
+use Rattle.localities.specs.Shards.{in_turn}
+use Rattle.shards.specs.Extracts.{AddsQuotes, own_shard}
 use Rattle.commands.specs.declared.fault.Fault.{Fault}
 use Rattle.commands.specs.declared.fault.Fault.TheVariants as fault
-use Rattle.commands.specs.Output.{IsFound, IsReport, exposes_line}
+use Rattle.commands.specs.Output.{IsFound, IsReport}
 use Rattle.operating.specs.declared.asking.Ending.{Ending}
 use Rattle.operating.specs.declared.asking.Ending.TheVariants as ending
+use Rattle.operating.specs.declared.scope.Scope.{Scope}
+use Rattle.operating.specs.declared.scope.Scope.TheVariants as scope
 
--- The evidence exposes a node of the directory.
-abbrev pub ExposesSomebody : {S : Type 0} → Meaning S → Contents → Type 0
-ExposesSomebody program s = (node : ℕ) × IsSome (keys_at s.directory node) × IsExposed s.directory program s.items node
+-- The node is one of those that are asked of: any, or one of shard k.
+abbrev pub is_asked : Scope → ℕ → Bool
+is_asked scope.All node = true
+is_asked (scope.Shard shards k) node = in_turn shards node == k
 
--- The ending says whether somebody is exposed.
-abbrev pub IsEnding : {S : Type 0} → Meaning S → Contents → Ending → Type 0
-IsEnding program s ending.Exposed = ExposesSomebody program s
-IsEnding program s ending.Done = ¬ ExposesSomebody program s
-IsEnding program s ending.NoProof = ⊥
+-- The evidence exposes a node of the directory that is asked of.
+abbrev pub ExposesSomebody : {S : Type 0} → Scope → Meaning S → Contents → Type 0
+ExposesSomebody scope program s = (node : ℕ) × IsSome (keys_at s.directory node) × IsTrue (is_asked scope node) × IsExposed s.directory program s.items node
 
--- `status`: the report of the evidence. It is never refused.
-abbrev pub Status : {S : Type 0} → Meaning S → Contents → Result (List ℕ × Ending) Fault → Type 0
-Status program s (Ok told) = IsReport program s told.0 × IsEnding program s told.1
-Status program s (Err f) = ⊥
+-- The ending says whether somebody that is asked of is exposed.
+abbrev pub IsEnding : {S : Type 0} → Scope → Meaning S → Contents → Ending → Type 0
+IsEnding scope program s ending.Exposed = ExposesSomebody scope program s
+IsEnding scope program s ending.Done = ¬ ExposesSomebody scope program s
+IsEnding scope program s ending.NoProof = ⊥
+
+-- What the items say of each listed node, and of no other, in ascending order of the numbers.
+pub record AreStandings {S : Type 0} (program : Meaning S) (s : Contents) (rows : List (ℕ × Indication)) : Type 0 where
+  pub ascending : IsStrictlyIncreasing (map (λ row. row.0) rows)
+  pub complete : (node : ℕ) → Contains (map (λ row. row.0) rows) node ↔ IsSome (keys_at s.directory node)
+  pub right : All (λ row. IsIndication s.directory program s.items row.0 row.1) rows
+
+-- Of these rows those of the nodes that are asked of.
+abbrev pub asked : Scope → List (ℕ × Indication) → List (ℕ × Indication)
+asked scope rows = filter (λ row. is_asked scope row.0) rows
+
+-- `status`: of the standings those of the nodes that are asked of, as they are written in this style. It is never refused.
+abbrev pub Status : {S : Type 0} → Style → Scope → Meaning S → Contents → Result (List ℕ × Ending) Fault → Type 0
+Status style scope program s (Ok told) = (rows : List (ℕ × Indication)) × AreStandings program s rows × (told.0 ≡ standings_text style (asked scope rows)) × IsEnding scope program s told.1
+Status style scope program s (Err f) = ⊥
 
 -- `merge`: the text of the set of all items. It is never refused.
 abbrev pub Merge : Contents → Result (List ℕ × Ending) Fault → Type 0
@@ -43,7 +72,27 @@ abbrev pub Prove : {S : Type 0} → Meaning S → ℕ → Contents → Result (L
 Prove program node s (Ok told) = (found : Option Case) × IsFound program s node found × (told ≡ told_of found)
 Prove program node s (Err f) = (keys_at s.directory node ≡ None) × (f ≡ fault.UnknownNode)
 
--- `check`: the line that names the convicted node. It is never refused.
-abbrev pub Check : ℕ → Result (List ℕ × Ending) Fault → Type 0
-Check node (Ok told) = told ≡ (exposes_line node, ending.Exposed)
-Check node (Err f) = ⊥
+-- `check`: which node is convicted, under the program of this name and the directory of which text, as it is written in this style. It is
+-- never refused.
+abbrev pub Check : Style → List ℕ → ℕ × List ℕ → Result (List ℕ × Ending) Fault → Type 0
+Check style name found (Ok told) = told ≡ (conviction_text style found.0 name found.1, ending.Done)
+Check style name found (Err f) = ⊥
+
+-- `show`: what a text is and what is in it, as it is written in this style. It is never refused.
+abbrev pub Show : Style → List ℕ → Result (List ℕ × Ending) Fault → Type 0
+Show style text (Ok told) = (shown : Shown) × IsShown text shown × (told ≡ (shown_text style shown, ending.Done))
+Show style text (Err f) = ⊥
+
+-- ---- laws, which `laws` proves
+
+-- In lines `status` of all nodes writes the report that the commands on lines of digits write.
+abbrev pub StandingsAreReports : Type 0 → Type 0
+StandingsAreReports S = (program : Meaning S) (s : Contents) (told : List ℕ × Ending) → Status style.Lines scope.All program s (Ok told) ↔ (IsReport program s told.0 × IsEnding scope.All program s told.1)
+
+-- Of the nodes of shard k `status` answers the same of all evidence and of what is an extract of it for each of them; as is shard k of a
+-- set that has what is quoted in the evidence beside it.
+pub record ExtractsAreTold (S : Type 0) : Type 0 where
+  pub answer : (style : Style) (program : Meaning S) (shards k : ℕ) (s t : Contents) (a b : List ℕ × Ending) → s.directory ≡ t.directory → ((j : ℕ) → in_turn shards j ≡ k → IsExtract s.directory j s.items t.items)
+      → Status style (scope.Shard shards k) program s (Ok a) → Status style (scope.Shard shards k) program t (Ok b) → a ≡ b
+  pub shard : (style : Style) (program : Meaning S) (shards k : ℕ) (s : Contents) (X : Items) (a b : List ℕ × Ending) → AddsQuotes s.directory (in_turn shards) s.items X
+      → Status style (scope.Shard shards k) program s (Ok a) → Status style (scope.Shard shards k) program (with_items s (own_shard (in_turn shards) k X)) (Ok b) → a ≡ b

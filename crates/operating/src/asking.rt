@@ -9,12 +9,14 @@ ghost use Rattle.operating.specs.Operating.{HasRoom, RanOnStores};
 ghost use Rattle.operating.specs.declared.asking.Ending.{Ending};
 ghost use Rattle.parallel_checking.specs.declared.limits.TheConstants.{MOST_WORKERS};
 
-use crate::files::{Limits, Opener};
+use crate::files::Opener;
 use crate::gathering::gather;
+pub use crate::gathering::{Gathered, Reading};
 use crate::refusal::Refusal;
+use crate::watching::StoreWatcher;
 use commands::device::Sink;
 use commands::fault::Fault;
-use evidence_store::Evidence;
+use evidence::Evidence;
 use replay_verifier::Program;
 use std::alloc::Global;
 use std::thread::Threads;
@@ -32,48 +34,49 @@ pub enum Ending {
 
 /// A text, and how the engine ends.
 #[derive(Drop)]
-pub(crate) struct Answer {
-    pub(crate) text: Vec<u8>,
-    pub(crate) ending: Ending,
+pub struct Answer {
+    /// The text.
+    pub text: Vec<u8>,
+    /// How the engine ends.
+    pub ending: Ending,
 }
 
 /// A question to stores of evidence of nodes that follow a program.
-pub(crate) trait Question<P: Program, S: Evidence<P>> {
+pub trait Question<P: Program, S: Evidence<P>> {
     /// Which text answers it of which evidence, and how the engine ends; or why there is none.
     ghost means: { Self → Contents → Result (List ℕ × Ending) Fault → Type 0 };
 
-    /// The answer of a store.
-    fn answer(&self, alloc: Global, store: &S) -> Result<Answer, Fault>
-        ensures told { MatchResult result (λ answer. means self.now (S.contents store.now) (Ok (answer.text.items, answer.ending))) (λ f. (f ≡ fault.Memory) ⊎ means self.now (S.contents store.now) (Err f)) };
+    /// The answer of the evidence that was read.
+    fn answer(&self, alloc: Global, read: &Gathered<S>) -> Result<Answer, Fault>
+        ensures told { MatchResult result (λ answer. means self.now (S.contents read.now.store) (Ok (answer.text.items, answer.ending))) (λ f. (f ≡ fault.Memory) ⊎ means self.now (S.contents read.now.store) (Err f)) };
 }
 
 /// Reads the directory and so many stores behind it, and writes the answer and nothing else, in one write, once everything has been
-/// decided.
-pub(crate) fn ask<
+/// decided. The watcher is told how far the reading of the stores is.
+pub fn ask<
     R: Threads + Sync,
     P: Program + Send + Sync,
     S: Evidence<P>,
     Q: Question<P, S>,
     O: Opener,
+    F: StoreWatcher,
     W: Sink,
 >(
-    rt: &R,
-    alloc: Global,
-    program: &P,
+    reading: &Reading<'_, R, P>,
     question: &Q,
     opener: &mut O,
     stores: usize,
-    limits: Limits,
+    watcher: &mut F,
     writer: &mut W,
 ) -> Result<Ending, Refusal>
 where
     P::State: Send,
-    requires workers { (0 < limits.workers) × (limits.workers ≤ MOST_WORKERS) }
+    requires workers { (0 < reading.now.limits.workers) × (reading.now.limits.workers ≤ MOST_WORKERS) }
     requires room { HasRoom stores (O.seen opener.old) (W.seen writer.old) }
-    ensures { RanOnStores (Q.means question.now) limits.most_bytes stores result (O.seen opener.old) (O.seen opener.new) W.seen writer.old writer.new }
+    ensures { RanOnStores (Q.means question.now) reading.now.limits.most_bytes stores result (O.seen opener.old) (O.seen opener.new) W.seen writer.old writer.new }
 {
-    let store = gather::<R, P, S, O>(rt, alloc, program, opener, stores, limits)?;
-    let answer = match question.answer(alloc, &store) {
+    let read = gather::<R, P, S, O, F>(reading, opener, stores, watcher)?;
+    let answer = match question.answer(reading.alloc, &read) {
         Ok(answer) => answer,
         Err(fault) => return Err(Refusal::of_none(fault)),
     };
@@ -82,7 +85,7 @@ where
 }
 
 /// Writes the text, in one write.
-pub(crate) fn write<W: Sink>(writer: &mut W, text: &[u8]) -> Result<(), Refusal>
+pub fn write<W: Sink>(writer: &mut W, text: &[u8]) -> Result<(), Refusal>
     requires room { (W.seen writer.old).failures < 2 ^ 63 }
     ensures written { OnOk result (Appends (W.seen writer.old).written (W.seen writer.new).written text.now) }
     ensures quiet { OnOk result ((W.seen writer.new).failures ≡ (W.seen writer.old).failures) }

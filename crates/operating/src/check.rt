@@ -1,15 +1,15 @@
-//! The engine of `check`: whom a proof convicts.
+//! The engine of `check`: whom a proof convicts, under which program and which directory.
 
 ghost use Rattle.std.specs.Prelude.{◌≡◌, ◌+◌, ◌<◌, ◌^◌, IfErr, IfOk, MatchResult, OnOk};
-ghost use Rattle.operating.specs.ConvictingFiles.{AreConvicting, RefusesConviction, RefusesProofText, TextConvicts};
+ghost use Rattle.operating.specs.ConvictingFiles.{AreConvictingUnder, RefusesConviction, RefusesProofText, TextConvicts};
 ghost use Rattle.operating.specs.Operating.{HasRoom, RanOnProof};
 
 use crate::asking::{Ending, write};
 use crate::files::{Limits, Opener};
-use crate::reading::{read_directory, read_said};
+use crate::reading::{ReadDirectory, read_directory_file, read_said};
 use crate::refusal::Refusal;
+use answers::{Style, conviction_text};
 use authenticators::{Directory, NodeId};
-use commands::check::exposes_line;
 use commands::device::Sink;
 use commands::fault::Fault;
 use proofs::{Proof, check_proof};
@@ -30,43 +30,73 @@ fn convicted_by<P: Program>(
     Ok(node)
 }
 
-/// Whom the proof that file 1 says convicts.
+/// Whom a proof convicts, and the text of the directory under which it does.
+#[derive(Drop)]
+struct Found {
+    node: NodeId,
+    directory: Vec<u8>,
+}
+
+/// Whom the proof that file 1 says convicts under the directory that file 0 says.
 fn convicted<P: Program, O: Opener>(
     alloc: Global,
     program: &P,
     opener: &mut O,
     limits: Limits,
-) -> Result<NodeId, Refusal>
+) -> Result<Found, Refusal>
     requires room { (O.seen opener.old).failures + 1 < 2 ^ 63 }
-    ensures convicted { IfOk result (λ node. AreConvicting P.means limits.most_bytes (O.seen opener.old).files node) }
+    ensures convicted { IfOk result (λ found. AreConvictingUnder P.means limits.most_bytes (O.seen opener.old).files (found.node, found.directory.items)) }
     ensures refused { IfErr result (λ r. RefusesConviction P.means limits.most_bytes (O.seen opener.old).files r) }
     ensures quiet { OnOk result ((O.seen opener.new).failures ≡ (O.seen opener.old).failures) }
 {
-    let directory = read_directory(alloc, opener, limits)?;
+    let read = read_directory_file(alloc, opener, limits)?;
     let text = read_said(alloc, opener, 1, false, limits)?;
+    let ReadDirectory {
+        text: directory_text,
+        directory,
+    } = read;
     match convicted_by(alloc, program, &directory, &text) {
-        Ok(node) => Ok(node),
+        Ok(node) => Ok(Found {
+            node,
+            directory: directory_text,
+        }),
         Err(fault) => Err(Refusal::of_text(1, &text, fault)),
     }
 }
 
-/// Reads a directory and a proof, and writes which node the proof convicts: nothing else, and in one write, once everything has been
-/// decided.
+/// In which style a conviction is written, and by which name the program is told.
+#[derive(Drop)]
+pub struct Convicting<'a> {
+    /// The style.
+    pub style: Style,
+    /// The name, with no character that JSON escapes.
+    pub name: &'a [u8],
+}
+
+/// Reads a directory and a proof, and writes which node the proof convicts, under the program of this name and that directory: nothing
+/// else, and in one write, once everything has been decided.
 pub fn run<P: Program, O: Opener, W: Sink>(
     alloc: Global,
     program: &P,
+    convicting: &Convicting<'_>,
     opener: &mut O,
     limits: Limits,
     writer: &mut W,
 ) -> Result<Ending, Refusal>
     requires room { HasRoom 1 (O.seen opener.old) (W.seen writer.old) }
-    ensures { RanOnProof P.means limits.most_bytes result (O.seen opener.old) (O.seen opener.new) W.seen writer.old writer.new }
+    ensures { RanOnProof convicting.now.style convicting.now.name.now P.means limits.most_bytes result (O.seen opener.old) (O.seen opener.new) W.seen writer.old writer.new }
 {
-    let node = convicted(alloc, program, opener, limits)?;
-    let line = match exposes_line(alloc, node) {
-        Ok(line) => line,
+    let found = convicted(alloc, program, opener, limits)?;
+    let text = match conviction_text(
+        alloc,
+        convicting.style,
+        found.node,
+        convicting.name,
+        &found.directory,
+    ) {
+        Ok(text) => text,
         Err(_) => return Err(Refusal::of_none(Fault::Memory)),
     };
-    write(writer, &line)?;
-    Ok(Ending::Exposed)
+    write(writer, &text)?;
+    Ok(Ending::Done)
 }

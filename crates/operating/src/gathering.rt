@@ -3,23 +3,57 @@
 ghost use Rattle.std.specs.Prelude.{◌≡◌, ◌+◌, ◌<◌, ◌≤◌, ◌^◌, IfErr, IfOk, List, OnOk, Some, false, suc, ℕ};
 ghost use Rattle.evidence_set.specs.Exports.{AreValid};
 ghost use Rattle.evidence_set.specs.ItemSets.{count};
+ghost use Rattle.commands.specs.Adding.{AddsStore};
 ghost use Rattle.operating.specs.GatheredFiles.{AreGathered, IsOfFile, RefusesDirectory, RefusesFiles, RefusesStore, RefusesText};
 ghost use Rattle.operating.specs.FileTexts.{Says};
-ghost use Rattle.operating.specs.within.Adding.{AddsStore};
 ghost use Rattle.parallel_checking.specs.declared.limits.TheConstants.{MOST_WORKERS};
 
 use crate::files::{Limits, Opener};
-use crate::reading::{read_directory, read_said};
+use crate::reading::{ReadDirectory, read_directory_file, read_said};
 use crate::refusal::Refusal;
+use crate::watching::StoreWatcher;
 use commands::fault::Fault;
-use evidence_set::laws::{
-    joins_are_as_expected, sets_are_as_expected, sets_are_lists, sets_count, sets_have_one_text,
-};
-use evidence_store::Evidence;
-use parallel_reading::import_by;
+use commands::laws::texts_are_added;
+use evidence::Evidence;
+use evidence_set::laws::sets_are_as_expected;
+use parallel_reading::{Workers, import_by};
 use replay_verifier::Program;
 use std::alloc::Global;
 use std::thread::Threads;
+
+/// How stores are read, and under what their items are checked.
+#[derive(Drop)]
+pub struct Reading<'a, R, P> {
+    /// The runtime, which makes threads.
+    pub rt: &'a R,
+    /// Of what memory is taken.
+    pub alloc: Global,
+    /// The program that the nodes are to follow.
+    pub program: &'a P,
+    /// How much is read, and by how many workers.
+    pub limits: Limits,
+}
+
+/// The evidence that was read of files.
+#[derive(Drop)]
+pub struct Gathered<S> {
+    /// The directory's text.
+    pub directory: Vec<u8>,
+    /// How many stores there were.
+    pub stores: usize,
+    /// The bytes by which the text of the last of them is known; zeros where there was none.
+    pub front: [u8; 8],
+    /// The evidence.
+    pub store: S,
+}
+
+/// The bytes by which a text is known.
+fn front_of(text: &[u8]) -> [u8; 8] {
+    match text.first_chunk() {
+        Some(front) => *front,
+        None => [0u8; 8],
+    }
+}
 
 /// What every store's items are: valid under its directory, and fewer than a number of 64 bits can count.
 fn items_fit<P: Program, S: Evidence<P>>(store: &S)
@@ -31,25 +65,26 @@ fn items_fit<P: Program, S: Evidence<P>>(store: &S)
 }
 
 /// Adds the items of the text of a file.
-fn add_text<R: Threads + Sync, P: Program + Send + Sync, S: Evidence<P>>(
-    rt: &R,
-    program: &P,
+fn add_text<R: Threads + Sync, P: Program + Send + Sync, S: Evidence<P>, F: StoreWatcher>(
+    reading: &Reading<'_, R, P>,
     store: &mut S,
     text: &[u8],
     file: usize,
-    workers: usize,
+    watcher: &mut F,
 ) -> Result<(), Refusal>
 where
     P::State: Send,
-    requires workers { (0 < workers) × (workers ≤ MOST_WORKERS) }
+    requires workers { (0 < reading.now.limits.workers) × (reading.now.limits.workers ≤ MOST_WORKERS) }
     ensures added { OnOk result (AddsStore (S.contents store.old) (S.contents store.new) text.now) }
     ensures refused { IfErr result (λ r. (r.file ≡ Some file) × RefusesText (S.contents store.old) text.now r) }
 {
-    sets_have_one_text();
-    joins_are_as_expected();
-    sets_are_lists();
-    sets_count();
-    match import_by(rt, store, program, text, workers) {
+    texts_are_added();
+    let workers = Workers {
+        rt: reading.rt,
+        alloc: reading.alloc,
+        count: reading.limits.workers,
+    };
+    match import_by(&workers, store, reading.program, text, watcher) {
         Ok(_) => {
             items_fit::<P, S>(store);
             Ok(())
@@ -58,70 +93,124 @@ where
     }
 }
 
-/// Adds the items of the store that a file says.
-fn add_file<R: Threads + Sync, P: Program + Send + Sync, S: Evidence<P>, O: Opener>(
-    rt: &R,
-    alloc: Global,
-    program: &P,
+/// Adds the items of the store that a file says, and gives the bytes by which its text is known.
+fn add_file<
+    R: Threads + Sync,
+    P: Program + Send + Sync,
+    S: Evidence<P>,
+    O: Opener,
+    F: StoreWatcher,
+>(
+    reading: &Reading<'_, R, P>,
     store: &mut S,
     opener: &mut O,
     file: usize,
-    limits: Limits,
-) -> Result<(), Refusal>
+    watcher: &mut F,
+) -> Result<[u8; 8], Refusal>
 where
     P::State: Send,
-    requires workers { (0 < limits.workers) × (limits.workers ≤ MOST_WORKERS) }
+    requires workers { (0 < reading.now.limits.workers) × (reading.now.limits.workers ≤ MOST_WORKERS) }
     requires room { (O.seen opener.old).failures < 2 ^ 63 }
-    ensures added { OnOk result ((text : List ℕ) × Says limits.most_bytes false ((O.seen opener.old).files file) text × AddsStore (S.contents store.old) (S.contents store.new) text) }
-    ensures refused { IfErr result (λ r. (r.file ≡ Some file) × RefusesStore limits.most_bytes (S.contents store.old) ((O.seen opener.old).files file) r) }
+    ensures added { OnOk result ((text : List ℕ) × Says reading.now.limits.most_bytes false ((O.seen opener.old).files file) text × AddsStore (S.contents store.old) (S.contents store.new) text) }
+    ensures refused { IfErr result (λ r. (r.file ≡ Some file) × RefusesStore reading.now.limits.most_bytes (S.contents store.old) ((O.seen opener.old).files file) r) }
     ensures files { (O.seen opener.new).files ≡ (O.seen opener.old).files }
     ensures quiet { OnOk result ((O.seen opener.new).failures ≡ (O.seen opener.old).failures) }
 {
-    let text = read_said(alloc, opener, file, false, limits)?;
-    add_text::<R, P, S>(rt, program, store, &text, file, limits.workers)
+    let text = read_said(reading.alloc, opener, file, false, reading.limits)?;
+    watcher.begin(file, text.len() as u64);
+    add_text::<R, P, S, F>(reading, store, &text, file, watcher)?;
+    Ok(front_of(&text))
 }
 
-/// The store of the directory alone, which is file 0.
+/// The evidence of the directory alone, which is file 0.
 fn begin<P: Program, S: Evidence<P>, O: Opener>(
     alloc: Global,
     opener: &mut O,
     limits: Limits,
-) -> Result<S, Refusal>
+) -> Result<Gathered<S>, Refusal>
     requires room { (O.seen opener.old).failures < 2 ^ 63 }
-    ensures gathered { IfOk result (λ s. AreGathered limits.most_bytes (O.seen opener.old).files 0 (S.contents s)) }
+    ensures gathered { IfOk result (λ read. AreGathered limits.most_bytes (O.seen opener.old).files 0 (S.contents read.store)) }
     ensures refused { IfErr result (λ r. IsOfFile 0 r × RefusesDirectory limits.most_bytes ((O.seen opener.old).files 0) r.fault) }
     ensures files { (O.seen opener.new).files ≡ (O.seen opener.old).files }
     ensures quiet { OnOk result ((O.seen opener.new).failures ≡ (O.seen opener.old).failures) }
 {
     sets_are_as_expected();
-    let directory = read_directory(alloc, opener, limits)?;
+    let read = read_directory_file(alloc, opener, limits)?;
+    let ReadDirectory { text, directory } = read;
     match S::new(alloc, directory) {
-        Ok(store) => Ok(store),
+        Ok(store) => Ok(Gathered {
+            directory: text,
+            stores: 0,
+            front: [0u8; 8],
+            store,
+        }),
         Err(_) => Err(Refusal::of_file(0, Fault::Memory)),
     }
 }
 
 /// The evidence of the directory, which is file 0, and of so many stores, which are the files from 1 on.
-pub(crate) fn gather<R: Threads + Sync, P: Program + Send + Sync, S: Evidence<P>, O: Opener>(
-    rt: &R,
-    alloc: Global,
-    program: &P,
+fn gather_each<
+    R: Threads + Sync,
+    P: Program + Send + Sync,
+    S: Evidence<P>,
+    O: Opener,
+    F: StoreWatcher,
+>(
+    reading: &Reading<'_, R, P>,
     opener: &mut O,
     stores: usize,
-    limits: Limits,
-) -> Result<S, Refusal>
+    watcher: &mut F,
+) -> Result<Gathered<S>, Refusal>
 where
     P::State: Send,
-    requires workers { (0 < limits.workers) × (limits.workers ≤ MOST_WORKERS) }
+    requires workers { (0 < reading.now.limits.workers) × (reading.now.limits.workers ≤ MOST_WORKERS) }
     requires stores { stores < 2 ^ 63 }
     requires room { (O.seen opener.old).failures < 2 ^ 63 }
-    ensures gathered { IfOk result (λ s. AreGathered limits.most_bytes (O.seen opener.old).files stores (S.contents s)) }
-    ensures refused { IfErr result (λ r. RefusesFiles limits.most_bytes (O.seen opener.old).files stores r) }
+    ensures gathered { IfOk result (λ read. AreGathered reading.now.limits.most_bytes (O.seen opener.old).files stores (S.contents read.store)) }
+    ensures refused { IfErr result (λ r. RefusesFiles reading.now.limits.most_bytes (O.seen opener.old).files stores r) }
     ensures quiet { OnOk result ((O.seen opener.new).failures ≡ (O.seen opener.old).failures) }
 {
-    let mut store = begin::<P, S, O>(alloc, opener, limits)?;
+    let read: Gathered<S> = begin::<P, S, O>(reading.alloc, opener, reading.limits)?;
+    let Gathered {
+        directory,
+        stores: _,
+        mut front,
+        mut store,
+    } = read;
     for number in 0..stores {
-        add_file::<R, P, S, O>(rt, alloc, program, &mut store, opener, number + 1, limits)?;
+        front = add_file::<R, P, S, O, F>(reading, &mut store, opener, number + 1, watcher)?;
     }
-    Ok(store)
+    Ok(Gathered {
+        directory,
+        stores,
+        front,
+        store,
+    })
+}
+
+/// The same. The watcher is told when that is done, whether the files are refused or not.
+pub(crate) fn gather<
+    R: Threads + Sync,
+    P: Program + Send + Sync,
+    S: Evidence<P>,
+    O: Opener,
+    F: StoreWatcher,
+>(
+    reading: &Reading<'_, R, P>,
+    opener: &mut O,
+    stores: usize,
+    watcher: &mut F,
+) -> Result<Gathered<S>, Refusal>
+where
+    P::State: Send,
+    requires workers { (0 < reading.now.limits.workers) × (reading.now.limits.workers ≤ MOST_WORKERS) }
+    requires stores { stores < 2 ^ 63 }
+    requires room { (O.seen opener.old).failures < 2 ^ 63 }
+    ensures gathered { IfOk result (λ read. AreGathered reading.now.limits.most_bytes (O.seen opener.old).files stores (S.contents read.store)) }
+    ensures refused { IfErr result (λ r. RefusesFiles reading.now.limits.most_bytes (O.seen opener.old).files stores r) }
+    ensures quiet { OnOk result ((O.seen opener.new).failures ≡ (O.seen opener.old).failures) }
+{
+    let read = gather_each::<R, P, S, O, F>(reading, opener, stores, watcher);
+    watcher.end();
+    read
 }

@@ -5,12 +5,14 @@ ghost use Rattle.operating.specs.Operating.{HasRoom, RanOnStores};
 ghost use Rattle.parallel_checking.specs.declared.limits.TheConstants.{MOST_WORKERS};
 ghost use Rattle.operating.specs.Questions.{Merge};
 
-use crate::asking::{Answer, Ending, Question, ask};
-use crate::files::{Limits, Opener};
+use crate::asking::{Answer, Ending, Gathered, Question, Reading, ask};
+use crate::files::Opener;
 use crate::refusal::Refusal;
+use crate::watching::StoreWatcher;
 use commands::device::Sink;
 use commands::fault::Fault;
-use evidence_store::{Evidence, IndexedStore};
+use evidence::Evidence;
+use indexed_store::IndexedStore;
 use replay_verifier::Program;
 use std::alloc::Global;
 use std::thread::Threads;
@@ -21,8 +23,8 @@ struct Merging;
 impl<P: Program, S: Evidence<P>> Question<P, S> for Merging {
     ghost means = { λ _. Merge };
 
-    fn answer(&self, _alloc: Global, store: &S) -> Result<Answer, Fault> {
-        let text = store.export()?;
+    fn answer(&self, _alloc: Global, read: &Gathered<S>) -> Result<Answer, Fault> {
+        let text = read.store.export()?;
         Ok(Answer {
             text,
             ending: Ending::Done,
@@ -32,22 +34,20 @@ impl<P: Program, S: Evidence<P>> Question<P, S> for Merging {
 
 /// Reads a directory and so many stores, and writes the text of the items of all stores: nothing else, and in one write, once
 /// everything has been decided.
-pub fn run<R: Threads + Sync, P: Program + Send + Sync, O: Opener, W: Sink>(
-    rt: &R,
-    alloc: Global,
-    program: &P,
+pub fn run<R: Threads + Sync, P: Program + Send + Sync, O: Opener, F: StoreWatcher, W: Sink>(
+    reading: &Reading<'_, R, P>,
     opener: &mut O,
     stores: usize,
-    limits: Limits,
+    watcher: &mut F,
     writer: &mut W,
 ) -> Result<Ending, Refusal>
 where
     P::State: Send,
-    requires workers { (0 < limits.workers) × (limits.workers ≤ MOST_WORKERS) }
+    requires workers { (0 < reading.now.limits.workers) × (reading.now.limits.workers ≤ MOST_WORKERS) }
     requires room { HasRoom stores (O.seen opener.old) (W.seen writer.old) }
-    ensures { RanOnStores Merge limits.most_bytes stores result (O.seen opener.old) (O.seen opener.new) W.seen writer.old writer.new }
+    ensures { RanOnStores Merge reading.now.limits.most_bytes stores result (O.seen opener.old) (O.seen opener.new) W.seen writer.old writer.new }
 {
-    ask::<R, P, IndexedStore<P>, Merging, O, W>(
-        rt, alloc, program, &Merging, opener, stores, limits, writer,
+    ask::<R, P, IndexedStore<P>, Merging, O, F, W>(
+        reading, &Merging, opener, stores, watcher, writer,
     )
 }

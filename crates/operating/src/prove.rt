@@ -5,14 +5,17 @@ ghost use Rattle.operating.specs.Operating.{HasRoom, RanOnStores};
 ghost use Rattle.parallel_checking.specs.declared.limits.TheConstants.{MOST_WORKERS};
 ghost use Rattle.operating.specs.Questions.{Prove, told_of};
 
-use crate::asking::{Answer, Ending, Question, ask};
-use crate::files::{Limits, Opener};
+use crate::asking::{Answer, Ending, Gathered, Question, Reading, ask};
+use crate::files::Opener;
 use crate::refusal::Refusal;
+use crate::watching::StoreWatcher;
 use authenticators::NodeId;
 use commands::device::Sink;
 use commands::fault::Fault;
-use evidence_store::{Evidence, IndexedStore, Proof};
+use evidence::Evidence;
+use indexed_store::IndexedStore;
 use outcome::Memory;
+use proofs::Proof;
 use replay_verifier::Program;
 use std::alloc::Global;
 use std::thread::Threads;
@@ -45,8 +48,8 @@ fn answer_of(alloc: Global, found: Option<Proof>) -> Result<Answer, Memory>
 impl<P: Program, S: Evidence<P>> Question<P, S> for Proving {
     ghost means = { λ q. Prove P.means q.node };
 
-    fn answer(&self, alloc: Global, store: &S) -> Result<Answer, Fault> {
-        let found = store.proof(self.node)?;
+    fn answer(&self, alloc: Global, read: &Gathered<S>) -> Result<Answer, Fault> {
+        let found = read.store.proof(self.node)?;
         let answer = answer_of(alloc, found)?;
         Ok(answer)
     }
@@ -55,30 +58,26 @@ impl<P: Program, S: Evidence<P>> Question<P, S> for Proving {
 /// Reads a directory and so many stores, and writes a proof that convicts the node before anybody who has the directory and the program;
 /// or nothing, and answers `NoProof`, where the items do not expose it. Where several proofs convict the node, it is left open which one
 /// is written.
-pub fn run<R: Threads + Sync, P: Program + Send + Sync, O: Opener, W: Sink>(
-    rt: &R,
-    alloc: Global,
-    program: &P,
+pub fn run<R: Threads + Sync, P: Program + Send + Sync, O: Opener, F: StoreWatcher, W: Sink>(
+    reading: &Reading<'_, R, P>,
     node: NodeId,
     opener: &mut O,
     stores: usize,
-    limits: Limits,
+    watcher: &mut F,
     writer: &mut W,
 ) -> Result<Ending, Refusal>
 where
     P::State: Send,
-    requires workers { (0 < limits.workers) × (limits.workers ≤ MOST_WORKERS) }
+    requires workers { (0 < reading.now.limits.workers) × (reading.now.limits.workers ≤ MOST_WORKERS) }
     requires room { HasRoom stores (O.seen opener.old) (W.seen writer.old) }
-    ensures { RanOnStores (Prove P.means node) limits.most_bytes stores result (O.seen opener.old) (O.seen opener.new) W.seen writer.old writer.new }
+    ensures { RanOnStores (Prove P.means node) reading.now.limits.most_bytes stores result (O.seen opener.old) (O.seen opener.new) W.seen writer.old writer.new }
 {
-    ask::<R, P, IndexedStore<P>, Proving, O, W>(
-        rt,
-        alloc,
-        program,
+    ask::<R, P, IndexedStore<P>, Proving, O, F, W>(
+        reading,
         &Proving { node },
         opener,
         stores,
-        limits,
+        watcher,
         writer,
     )
 }

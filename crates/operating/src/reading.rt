@@ -1,6 +1,7 @@
 //! One file, and what it says.
 
-ghost use Rattle.std.specs.Prelude.{◌≡◌, ◌+◌, ◌<◌, ◌≤◌, ◌^◌, IfErr, IfOk, OnOk, vec_len};
+ghost use Rattle.std.specs.Prelude.{◌≡◌, ◌+◌, ◌<◌, ◌≤◌, ◌^◌, IfErr, IfOk, Ok, OnOk, true, vec_len};
+ghost use Rattle.authenticators.specs.DirectoryText.{directory_of};
 ghost use Rattle.commands.specs.Devices.{IsAllOf, IsReadFault};
 ghost use Rattle.operating.specs.GatheredFiles.{IsOfFile, RefusesDirectory};
 ghost use Rattle.operating.specs.FileTexts.{IsUnsaid, Says, SaysDirectory};
@@ -14,7 +15,7 @@ use commands::input::read_input;
 use std::alloc::Global;
 
 /// All bytes of the file with this number.
-fn read_file<O: Opener>(
+pub(crate) fn read_file<O: Opener>(
     alloc: Global,
     opener: &mut O,
     file: usize,
@@ -37,7 +38,7 @@ fn read_file<O: Opener>(
 }
 
 /// What the file with this number says: in its first line or in its last, where it is lines of digits.
-pub(crate) fn read_said<O: Opener>(
+pub fn read_said<O: Opener>(
     alloc: Global,
     opener: &mut O,
     file: usize,
@@ -61,6 +62,36 @@ pub(crate) fn read_said<O: Opener>(
     }
 }
 
+/// A directory that was read.
+#[derive(Debug, Drop)]
+pub struct ReadDirectory {
+    /// Its text: a directory has two, where each node has one key.
+    pub text: Vec<u8>,
+    /// The directory.
+    pub directory: Directory,
+}
+
+/// The directory that file 0 says, with its text.
+pub fn read_directory_file<O: Opener>(
+    alloc: Global,
+    opener: &mut O,
+    limits: Limits,
+) -> Result<ReadDirectory, Refusal>
+    requires room { (O.seen opener.old).failures < 2 ^ 63 }
+    ensures said { IfOk result (λ read. SaysDirectory limits.most_bytes ((O.seen opener.old).files 0) read.directory) }
+    ensures text { IfOk result (λ read. Says limits.most_bytes true ((O.seen opener.old).files 0) read.text.items × (directory_of read.text.items ≡ Ok read.directory)) }
+    ensures refused { IfErr result (λ r. IsOfFile 0 r × RefusesDirectory limits.most_bytes ((O.seen opener.old).files 0) r.fault) }
+    ensures files { (O.seen opener.new).files ≡ (O.seen opener.old).files }
+    ensures quiet { OnOk result ((O.seen opener.new).failures ≡ (O.seen opener.old).failures) }
+    ensures few { (O.seen opener.new).failures ≤ (O.seen opener.old).failures + 1 }
+{
+    let text = read_said(alloc, opener, 0, true, limits)?;
+    match Directory::from_bytes(alloc, &text) {
+        Ok(directory) => Ok(ReadDirectory { text, directory }),
+        Err(fault) => Err(Refusal::of_text(0, &text, Fault::from(fault))),
+    }
+}
+
 /// The directory that file 0 says.
 pub(crate) fn read_directory<O: Opener>(
     alloc: Global,
@@ -74,9 +105,6 @@ pub(crate) fn read_directory<O: Opener>(
     ensures quiet { OnOk result ((O.seen opener.new).failures ≡ (O.seen opener.old).failures) }
     ensures few { (O.seen opener.new).failures ≤ (O.seen opener.old).failures + 1 }
 {
-    let text = read_said(alloc, opener, 0, true, limits)?;
-    match Directory::from_bytes(alloc, &text) {
-        Ok(directory) => Ok(directory),
-        Err(fault) => Err(Refusal::of_text(0, &text, Fault::from(fault))),
-    }
+    let read = read_directory_file(alloc, opener, limits)?;
+    Ok(read.directory)
 }

@@ -1,9 +1,10 @@
 //! Why nothing was written, and where the fault stands.
 
 ghost use Rattle.std.specs.Prelude.{◌≡◌, None, Some};
+ghost use Rattle.commands.specs.declared.fault.Fault.TheVariants as fault;
 ghost use Rattle.commands.specs.Refusals.{of_import};
 
-pub use crate::form::Form;
+pub use answers::TextForm;
 use commands::fault::Fault;
 use containers::ImportFault;
 use log_chain::FieldReader;
@@ -20,7 +21,7 @@ pub struct Refusal {
     /// How many bytes of the file's text stand before that item's length; none where it is at no item, or there is no such item.
     pub byte: Option<u64>,
     /// What the file is, where it was read.
-    pub form: Form,
+    pub form: TextForm,
 }
 
 /// How many bytes stand before the length of an item that stands behind so many others.
@@ -45,7 +46,7 @@ fn byte_of(text: &[u8], item: u64) -> Option<u64> {
 
 impl Refusal {
     /// A fault that stands in no file.
-    pub(crate) fn of_none(fault: Fault) -> Refusal
+    pub fn of_none(fault: Fault) -> Refusal
         ensures { (result.fault ≡ fault) × (result.file ≡ None) × (result.item ≡ None) }
     {
         Refusal {
@@ -53,8 +54,15 @@ impl Refusal {
             file: None,
             item: None,
             byte: None,
-            form: Form::Other,
+            form: TextForm::Unknown,
         }
+    }
+
+    /// The answer could not be written.
+    pub fn of_writing() -> Refusal
+        ensures { (result.fault ≡ fault.WriteFailed) × (result.file ≡ None) × (result.item ≡ None) }
+    {
+        Refusal::of_none(Fault::WriteFailed)
     }
 
     /// A fault of a file that was not read.
@@ -66,12 +74,12 @@ impl Refusal {
             file: Some(file),
             item: None,
             byte: None,
-            form: Form::Other,
+            form: TextForm::Unknown,
         }
     }
 
     /// A fault of a file's text.
-    pub(crate) fn of_text(file: usize, text: &[u8], fault: Fault) -> Refusal
+    pub fn of_text(file: usize, text: &[u8], fault: Fault) -> Refusal
         ensures { (result.fault ≡ fault) × (result.file ≡ Some file) × (result.item ≡ None) }
     {
         Refusal {
@@ -79,7 +87,7 @@ impl Refusal {
             file: Some(file),
             item: None,
             byte: None,
-            form: Form::of(text),
+            form: TextForm::known(text),
         }
     }
 
@@ -92,7 +100,7 @@ impl Refusal {
             file: Some(file),
             item: Some(fault.item),
             byte: byte_of(text, fault.item),
-            form: Form::of(text),
+            form: TextForm::known(text),
         }
     }
 }

@@ -5,23 +5,33 @@ ghost use Rattle.authenticators.specs.Directory.{keys_at};
 ghost use Rattle.evidence_set.specs.Indications.{IsExposed};
 ghost use Rattle.operating.specs.Operating.{HasRoom, RanOnStores};
 ghost use Rattle.parallel_checking.specs.declared.limits.TheConstants.{MOST_WORKERS};
-ghost use Rattle.operating.specs.Questions.{ExposesSomebody, IsEnding, Status};
+ghost use Rattle.operating.specs.Questions.{ExposesSomebody, IsEnding, Status, is_asked};
 
-use crate::asking::{Answer, Ending, Question, ask};
-use crate::files::{Limits, Opener};
+use crate::asking::{Answer, Ending, Gathered, Question, Reading, ask};
+use crate::files::Opener;
 use crate::refusal::Refusal;
+use crate::scope::Scope;
+use crate::standings::standings_of;
+use crate::watching::StoreWatcher;
+use answers::{Style, standings_text};
 use authenticators::NodeId;
 use commands::device::Sink;
 use commands::fault::Fault;
-use commands::report::report_of;
+use evidence::Evidence;
 use evidence_set::Indication;
-use evidence_store::{Evidence, IndexedStore};
+use indexed_store::IndexedStore;
 use replay_verifier::Program;
 use std::alloc::Global;
 use std::thread::Threads;
 
-/// The question of `status`.
-struct Reporting;
+/// What is asked: of which nodes, and in which style it is answered.
+#[derive(Clone, Copy)]
+pub struct Reporting {
+    /// The style.
+    pub style: Style,
+    /// The nodes.
+    pub scope: Scope,
+}
 
 /// Whether the evidence exposes a listed node.
 fn is_exposed<P: Program, S: Evidence<P>>(store: &S, node: NodeId) -> bool
@@ -38,23 +48,34 @@ fn is_exposed<P: Program, S: Evidence<P>>(store: &S, node: NodeId) -> bool
     }
 }
 
-/// Whether the evidence exposes a node of its directory.
-fn exposes_somebody<P: Program, S: Evidence<P>>(store: &S) -> bool
-    ensures { IsTrue result ↔ ExposesSomebody P.means (S.contents store.now) }
+/// Whether a listed node is asked of, and the evidence exposes it.
+fn exposes<P: Program, S: Evidence<P>>(store: &S, scope: &Scope, node: NodeId) -> bool
+    requires { IsSome (keys_at (S.contents store.now).directory node) }
+    ensures { IsTrue result ↔ (IsTrue (is_asked scope.now node) × IsExposed (S.contents store.now).directory P.means (S.contents store.now).items node) }
+{
+    if !scope.asks(node) {
+        return false;
+    }
+    is_exposed::<P, S>(store, node)
+}
+
+/// Whether the evidence exposes a node of its directory that is asked of.
+fn exposes_somebody<P: Program, S: Evidence<P>>(store: &S, scope: &Scope) -> bool
+    ensures { IsTrue result ↔ ExposesSomebody scope.now P.means (S.contents store.now) }
 {
     for node in store.directory().nodes() {
-        if is_exposed::<P, S>(store, *node) {
+        if exposes::<P, S>(store, scope, *node) {
             return true;
         }
     }
     false
 }
 
-/// How the engine ends.
-fn ending_of<P: Program, S: Evidence<P>>(store: &S) -> Ending
-    ensures { IsEnding P.means (S.contents store.now) result }
+/// How an engine ends that tells what evidence says of the nodes that are asked of.
+pub fn ending_of<P: Program, S: Evidence<P>>(store: &S, scope: &Scope) -> Ending
+    ensures { IsEnding scope.now P.means (S.contents store.now) result }
 {
-    if exposes_somebody::<P, S>(store) {
+    if exposes_somebody::<P, S>(store, scope) {
         Ending::Exposed
     } else {
         Ending::Done
@@ -62,33 +83,34 @@ fn ending_of<P: Program, S: Evidence<P>>(store: &S) -> Ending
 }
 
 impl<P: Program, S: Evidence<P>> Question<P, S> for Reporting {
-    ghost means = { λ _. Status P.means };
+    ghost means = { λ q. Status q.style q.scope P.means };
 
-    fn answer(&self, alloc: Global, store: &S) -> Result<Answer, Fault> {
-        let text = report_of::<P, S>(alloc, store)?;
-        let ending = ending_of::<P, S>(store);
+    fn answer(&self, alloc: Global, read: &Gathered<S>) -> Result<Answer, Fault> {
+        let mut standings = standings_of::<P, S>(alloc, &read.store)?;
+        self.scope.keep(&mut standings);
+        let text = standings_text(alloc, self.style, &standings)?;
+        let ending = ending_of::<P, S>(&read.store, &self.scope);
         Ok(Answer { text, ending })
     }
 }
 
-/// Reads a directory and so many stores, and writes what the items of all stores say of each node of the directory: nothing else, and
-/// in one write, once everything has been decided.
-pub fn run<R: Threads + Sync, P: Program + Send + Sync, O: Opener, W: Sink>(
-    rt: &R,
-    alloc: Global,
-    program: &P,
+/// Reads a directory and so many stores, and writes in this style what the items of all stores say of each node of the directory that is
+/// asked of: nothing else, and in one write, once everything has been decided.
+pub fn run<R: Threads + Sync, P: Program + Send + Sync, O: Opener, F: StoreWatcher, W: Sink>(
+    reading: &Reading<'_, R, P>,
+    reporting: &Reporting,
     opener: &mut O,
     stores: usize,
-    limits: Limits,
+    watcher: &mut F,
     writer: &mut W,
 ) -> Result<Ending, Refusal>
 where
     P::State: Send,
-    requires workers { (0 < limits.workers) × (limits.workers ≤ MOST_WORKERS) }
+    requires workers { (0 < reading.now.limits.workers) × (reading.now.limits.workers ≤ MOST_WORKERS) }
     requires room { HasRoom stores (O.seen opener.old) (W.seen writer.old) }
-    ensures { RanOnStores (Status P.means) limits.most_bytes stores result (O.seen opener.old) (O.seen opener.new) W.seen writer.old writer.new }
+    ensures { RanOnStores (Status reporting.now.style reporting.now.scope P.means) reading.now.limits.most_bytes stores result (O.seen opener.old) (O.seen opener.new) W.seen writer.old writer.new }
 {
-    ask::<R, P, IndexedStore<P>, Reporting, O, W>(
-        rt, alloc, program, &Reporting, opener, stores, limits, writer,
+    ask::<R, P, IndexedStore<P>, Reporting, O, F, W>(
+        reading, reporting, opener, stores, watcher, writer,
     )
 }

@@ -7,35 +7,34 @@ ghost use Rattle.parallel_checking.specs.declared.limits.TheConstants.{MOST_WORK
 ghost use Rattle.parallel_reading.specs.Readings.{AreReadings, IsReadingAt, gathered};
 
 use crate::item::read_item;
+use crate::workers::Workers;
 use authenticators::Directory;
 use containers::{Cause, ImportFault};
 use evidence_item::Checked;
 use outcome::Memory;
 use parallel_map::map_claimed;
 use replay_verifier::Program;
-use std::alloc::Global;
 use std::thread::Threads;
 
-/// What each text but the first is read as behind the one before it, by so many workers.
+/// What each text but the first is read as behind the one before it, by the workers.
 pub(crate) fn read_texts<R: Threads + Sync, P: Program + Send + Sync>(
-    rt: &R,
-    alloc: Global,
+    workers: &Workers<'_, R>,
     program: &P,
     directory: &Directory,
     texts: &[&[u8]],
-    workers: usize,
 ) -> Result<Vec<Result<Checked<P>, Cause>>, Memory>
 where
     P::State: Send,
-    requires workers { (0 < workers) × (workers ≤ MOST_WORKERS) }
+    requires workers { (0 < workers.now.count) × (workers.now.count ≤ MOST_WORKERS) }
     requires some { 0 < length texts.now }
     ensures { IfOk result (λ v. AreReadings directory.now P.means (map (λ t. t.now) texts.now) v.items) }
 {
+    let alloc = workers.alloc;
     let read = |n: usize| -> Result<Checked<P>, Cause>
         requires { n + 1 < length texts.now }
         ensures { IsReadingAt directory.entry.now P.means (map (λ t. t.now) texts.entry.now) n result }
     { read_item(alloc, program, directory, texts[n], texts[n + 1]) };
-    let readings = map_claimed(rt, alloc, texts.len() - 1, workers, &read)?;
+    let readings = map_claimed(workers.rt, alloc, texts.len() - 1, workers.count, &read)?;
     Ok(readings)
 }
 

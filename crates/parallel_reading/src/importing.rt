@@ -14,6 +14,8 @@ ghost use Rattle.evidence.specs.Importing.{import_set};
 ghost use Rattle.parallel_checking.specs.declared.limits.TheConstants.{MOST_WORKERS};
 
 use crate::reading::read_all_by;
+use crate::watching::Watcher;
+use crate::workers::Workers;
 use authenticators::Directory;
 use containers::ImportFault;
 use evidence::{Evidence, add_all, magic_of};
@@ -21,21 +23,19 @@ use evidence_item::Checked;
 use evidence_set::laws::sets_have_one_text;
 use log_chain::laws::bytes_fit;
 use replay_verifier::Program;
-use std::alloc::Global;
 use std::thread::Threads;
 
 /// The items of the text of a set, each checked under the directory, in the order of their spellings.
-fn items_of<R: Threads + Sync, P: Program + Send + Sync>(
-    rt: &R,
-    alloc: Global,
+fn items_of<R: Threads + Sync, P: Program + Send + Sync, W: Watcher>(
+    workers: &Workers<'_, R>,
     program: &P,
     directory: &Directory,
     bytes: &[u8],
-    workers: usize,
+    watcher: &mut W,
 ) -> Result<Vec<Checked<P>>, ImportFault>
 where
     P::State: Send,
-    requires workers { (0 < workers) × (workers ≤ MOST_WORKERS) }
+    requires workers { (0 < workers.now.count) × (workers.now.count ≤ MOST_WORKERS) }
     ensures checked { IfOk result (λ items. All (IsChecked directory.now P.means) items.items) }
     ensures ascending { IfOk result (λ items. IsStrictlySortedBy by_bytes (pieces items.items)) }
     ensures text { IfOk result (λ items. bytes.now ≡ set_text (magic_of bytes.now) (set_of items.items)) }
@@ -45,44 +45,28 @@ where
 {
     bytes_fit(bytes);
     sets_have_one_text();
-    let items = read_all_by(
-        rt,
-        alloc,
-        program,
-        directory,
-        magic_of(bytes),
-        bytes,
-        workers,
-    )?;
+    let items = read_all_by(workers, program, directory, magic_of(bytes), bytes, watcher)?;
     Ok(items)
 }
 
-/// Reads the text of a set, behind `PRSTORE2` or `PRSTORE1`, checks its items by so many workers, 1 to
-/// [`MOST_WORKERS`](crate::MOST_WORKERS), and adds them: all, or none. It answers how many are new, as `Evidence::import` does, and
-/// tells the same refusals.
-pub fn import_by<R: Threads + Sync, P: Program + Send + Sync, S: Evidence<P>>(
-    rt: &R,
+/// Reads the text of a set, behind `PRSTORE2` or `PRSTORE1`, checks its items by workers, and adds them: all, or none. It answers how many
+/// are new, as `Evidence::import` does, and tells the same refusals. The watcher is told as of [`read_all_by`].
+pub fn import_by<R: Threads + Sync, P: Program + Send + Sync, S: Evidence<P>, W: Watcher>(
+    workers: &Workers<'_, R>,
     store: &mut S,
     program: &P,
     bytes: &[u8],
-    workers: usize,
+    watcher: &mut W,
 ) -> Result<u64, ImportFault>
 where
     P::State: Send,
-    requires workers { (0 < workers) × (workers ≤ MOST_WORKERS) }
+    requires workers { (0 < workers.now.count) × (workers.now.count ≤ MOST_WORKERS) }
     ensures told { IfOk result (λ new. count (S.contents store.old).items + new ≡ count (S.contents store.new).items) }
     ensures joined { OnOk result ((added : Items) × (bytes.now ≡ set_text (magic_of bytes.now) added) × (S.contents store.new ≡ with_items (S.contents store.old) (Join (S.contents store.old).items added))) }
     ensures fault { IfErr result (λ f. Refuses f (import_set (S.contents store.old).directory bytes.now)) }
     ensures memory { IfErr result (λ f. f.cause ≡ cause.Memory → IsBehindFront (import_set (S.contents store.old).directory bytes.now)) }
     ensures refused { OnErr result (S.contents store.new ≡ S.contents store.old) }
 {
-    let items = items_of(
-        rt,
-        store.allocator(),
-        program,
-        store.directory(),
-        bytes,
-        workers,
-    )?;
+    let items = items_of(workers, program, store.directory(), bytes, watcher)?;
     add_all::<P, S>(store, items)
 }

@@ -3,6 +3,7 @@
 //! - [`read_all_by`] reads the items of a container that is there at once, as `containers::read_all` does. The caller finds where the
 //!   items' texts stand; workers decode them, test that they ascend, and check them.
 //! - [`import_by`] adds the items of the text of a set to a store, as `Evidence::import` does.
+//! - A [`Watcher`] is told meanwhile how far it is.
 //!
 //! What an item is read as hangs on its own text and on the text before it alone. So the items can be read in any order, and the first
 //! fault in the order of the items is told: `specs/Readings.antt` says so, and [`laws`] proves it.
@@ -11,6 +12,8 @@
 pub use importing::import_by;
 pub use parallel_checking::MOST_WORKERS;
 pub use reading::read_all_by;
+pub use watching::{Unwatched, Watcher};
+pub use workers::Workers;
 
 mod batch;
 mod importing;
@@ -19,3 +22,5 @@ pub mod laws;
 mod limits;
 mod reading;
 mod texts;
+mod watching;
+mod workers;

@@ -4,10 +4,11 @@
 ghost use Rattle.std.specs.Prelude.{◌<◌, ◌≤◌};
 ghost use Rattle.parallel_checking.specs.declared.limits.TheConstants.{MOST_WORKERS};
 
-use crate::samples::{header, make_signer, put_item, statement};
+use crate::samples::{header, put_item, statement};
 use authenticators::Directory;
 use containers::Cause;
-use parallel_reading::read_all_by;
+use evidence_samples::make_nodes;
+use parallel_reading::{Unwatched, Watcher, Workers, read_all_by};
 use ref_programs::Tally;
 use std::alloc::Global;
 use std::test::Fail;
@@ -29,7 +30,19 @@ fn told<R: Threads + Sync>(
 ) -> Told
     requires { (0 < workers) × (workers ≤ MOST_WORKERS) }
 {
-    match read_all_by(rt, alloc, &Tally, directory, *b"PRSTORE2", text, workers) {
+    let workers = Workers {
+        rt,
+        alloc,
+        count: workers,
+    };
+    match read_all_by(
+        &workers,
+        &Tally,
+        directory,
+        *b"PRSTORE2",
+        text,
+        &mut Unwatched,
+    ) {
         Ok(items) => (items.len() as u64, READ),
         Err(fault) => (fault.item, fault.cause.number()),
     }
@@ -61,13 +74,12 @@ fn of_node(alloc: Global, valid: &[u8], node: u8) -> Result<Vec<u8>, Fail> {
 }
 
 fn make_statements(alloc: Global) -> Result<Statements, Fail> {
-    let mut signer = make_signer(alloc)?;
-    let valid = statement(alloc, &mut signer, 5)?;
+    let mut nodes = make_nodes(alloc)?;
+    let valid = statement(alloc, &mut nodes.one, 5)?;
     let third = of_node(alloc, &valid, 3)?;
     let fourth = of_node(alloc, &valid, 4)?;
-    let directory = signer.directory;
     Ok(Statements {
-        directory,
+        directory: nodes.directory,
         valid,
         third,
         fourth,
@@ -221,5 +233,65 @@ fn a_fault_of_the_front_is_told(rt: HostRuntime) -> Result<(), Fail> {
             twice(0, Cause::BadTag),
         ]
     );
+    Ok(())
+}
+
+/// What was told of a reading: how often, how many items in all, and how many bytes there were behind the first item and at the end.
+#[derive(Clone, Copy, Debug, PartialEq, Eq)]
+struct Notes {
+    times: u32,
+    items: u64,
+    first_left: u64,
+    left: u64,
+}
+
+impl Watcher for Notes {
+    fn read(&mut self, items: u64, left: u64) {
+        if self.times == 0 {
+            self.first_left = left;
+        }
+        self.times = self.times.saturating_add(1);
+        self.items = items;
+        self.left = left;
+    }
+}
+
+#[test]
+fn a_watcher_is_told_of_the_first_item_and_of_those_that_are_read_at_once(
+    rt: HostRuntime,
+) -> Result<(), Fail> {
+    let alloc = rt.alloc();
+    let mut nodes = make_nodes(alloc)?;
+    let mut text = header(alloc, 3)?;
+    for seq in [5, 6, 7] {
+        put_item(&mut text, &statement(alloc, &mut nodes.one, seq)?)?;
+    }
+    let workers = Workers {
+        rt: &rt,
+        alloc,
+        count: 2,
+    };
+    let mut notes = Notes {
+        times: 0,
+        items: 0,
+        first_left: 0,
+        left: 9,
+    };
+    let read = read_all_by(
+        &workers,
+        &Tally,
+        &nodes.directory,
+        *b"PRSTORE2",
+        &text,
+        &mut notes,
+    );
+    let expected = Notes {
+        times: 2,
+        items: 3,
+        // Two items, each with its length, a byte, node 1 in four bytes, 5 in eight, a hash, and 8,684 bytes of signature behind their length.
+        first_left: 2 * (4 + 1 + 4 + 8 + 32 + 4 + 8684),
+        left: 0,
+    };
+    assert!(rt; read.is_ok() && notes == expected);
     Ok(())
 }

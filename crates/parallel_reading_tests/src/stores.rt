@@ -3,9 +3,10 @@
 ghost use Rattle.std.specs.Prelude.{◌<◌, ◌≤◌};
 ghost use Rattle.parallel_checking.specs.declared.limits.TheConstants.{MOST_WORKERS};
 
-use crate::samples::{header, make_signer, put_item, statement};
+use crate::samples::{header, put_item, statement};
+use evidence_samples::make_nodes;
 use evidence_store::{Evidence, IndexedStore};
-use parallel_reading::import_by;
+use parallel_reading::{Unwatched, Workers, import_by};
 use ref_programs::Tally;
 use std::alloc::Global;
 use std::test::Fail;
@@ -25,13 +26,18 @@ struct Left {
 fn left_by<R: Threads + Sync>(rt: &R, alloc: Global, workers: usize) -> Result<Left, Fail>
     requires { (0 < workers) × (workers ≤ MOST_WORKERS) }
 {
-    let mut signer = make_signer(alloc)?;
+    let mut nodes = make_nodes(alloc)?;
     let mut text = header(alloc, 3)?;
     for seq in [5, 6, 7] {
-        put_item(&mut text, &statement(alloc, &mut signer, seq)?)?;
+        put_item(&mut text, &statement(alloc, &mut nodes.one, seq)?)?;
     }
-    let mut store: IndexedStore<Tally> = IndexedStore::new(alloc, signer.directory.try_clone()?)?;
-    let new = import_by(rt, &mut store, &Tally, &text, workers)?;
+    let mut store: IndexedStore<Tally> = IndexedStore::new(alloc, nodes.directory.try_clone()?)?;
+    let workers = Workers {
+        rt,
+        alloc,
+        count: workers,
+    };
+    let new = import_by(&workers, &mut store, &Tally, &text, &mut Unwatched)?;
     Ok(Left {
         new,
         count: store.count(),

@@ -1,6 +1,6 @@
 -- A step from line to line.
 use Rattle.std.specs.Prelude.{◌≡◌, ◌≤◌, ◌+◌, ℕ, true, List, ◌∷◌, ◌++◌, length}
-use Rattle.bundles.specs.Grammar.{Place, lines_of, sentences_from}
+use Rattle.bundles.specs.Grammar.{Reached, lines_of, sentences_from}
 use Rattle.bundles.specs.Spelling.{is_sentence}
 
 -- The text is the line, its end, and the rest.
@@ -15,7 +15,7 @@ pub record IsBehindSentence (text rest : List ℕ) : Type 0 where
   pub sentence : is_sentence line ≡ true
 
 -- The line is the next one of a place, and the other place is behind it.
-pub record IsNext (at : Place) (line : List ℕ) (behind : Place) : Type 0 where
+pub record IsNext (at : Reached) (line : List ℕ) (behind : Reached) : Type 0 where
   pub number : behind.number ≡ at.number + 1
   pub left : at.left ≡ line ∷ behind.left
   pub ends : 1 ≤ length behind.left

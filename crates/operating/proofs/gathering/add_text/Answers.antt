@@ -1,11 +1,10 @@
-use Rattle.operating.proofs.AddedStores.{adds_store}
 use Rattle.operating.proofs.Steps.{text_refused}
 use Rattle.operating.proofs.gathering.add_text.Goals as goal
 
 pub returns-in-Ok-clause-added : goal.returns-in-Ok-clause-added
 returns-in-Ok-clause-added g c =
     let (added, is, joined) = c.in-Ok.ensures.joined in
-    adds_store c.sets_have_one_text.ensures c.joins_are_as_expected.ensures c.sets_are_lists.ensures c.sets_count.ensures (g.S.Evidence.contents c.args.store.now) (g.S.Evidence.contents c.import_by.new.store) c.args.text.now added is joined
+    c.texts_are_added.ensures.adds (g.S.Evidence.contents c.args.store.now) (g.S.Evidence.contents c.import_by.new.store) c.args.text.now added is joined
     c.items_fit.ensures.valid c.items_fit.ensures.few
 
 pub returns-in-Err-clause-refused : goal.returns-in-Err-clause-refused

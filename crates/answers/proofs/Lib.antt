@@ -1,0 +1,2 @@
+mod Indications
+mod Joined

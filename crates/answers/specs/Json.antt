@@ -1,0 +1,87 @@
+-- Answers as JSON (RFC 8259), for programs: one document, in one line. Names and words have no character that JSON escapes.
+use Rattle.std.specs.Prelude.{ℕ, Bool, true, false, List, [], ◌++◌, codes, decimal}
+use Rattle.std.specs.List.{join_by}
+use Rattle.hex.specs.Hex.{encode_lower}
+use Rattle.sha2.specs.Sha256.{sha256}
+use Rattle.authenticators.specs.Refusals as listing
+use Rattle.containers.specs.Refusals as container
+use Rattle.evidence_set.specs.declared.indication.Indication.{Indication}
+use Rattle.evidence_set.specs.Names.{name_of}
+use Rattle.answers.specs.declared.form.TextForm.{TextForm}
+use Rattle.answers.specs.declared.keys.KeyPrint.{KeyPrint}
+use Rattle.answers.specs.declared.tally.Tally.{Tally}
+use Rattle.answers.specs.declared.showing.Contents.{Contents}
+use Rattle.answers.specs.declared.showing.Contents.TheVariants as contents
+use Rattle.answers.specs.declared.showing.Shown.{Shown}
+use Rattle.answers.specs.Showing.{form_name}
+
+-- What parts an element from the one before it.
+abbrev pub comma : Bool → List ℕ
+comma true = []
+comma false = codes ","
+
+-- ---- what is said of a node
+
+abbrev pub standing_object : ℕ × Indication → List ℕ
+standing_object row = codes "{\"node\":" ++ decimal row.0 ++ codes ",\"indication\":\"" ++ name_of row.1 ++ codes "\"}"
+
+-- ---- whom a proof convicts
+
+-- Its number; then the name of the program, and the SHA-256 value of the directory's text, under which it is convicted.
+abbrev pub conviction_members : ℕ → List ℕ → List ℕ → List ℕ
+conviction_members node program directory = codes "\"exposes\":" ++ decimal node ++ codes ",\"program\":\"" ++ program ++ codes "\",\"directory\":\"" ++ encode_lower (sha256 directory) ++ codes "\""
+
+abbrev pub conviction_json : ℕ → List ℕ → List ℕ → List ℕ
+conviction_json node program directory = codes "{" ++ conviction_members node program directory ++ codes "}\n"
+
+-- ---- what is in a text
+
+-- A number behind its name, behind a comma.
+unfoldable pub count_member : List ℕ → ℕ → List ℕ
+count_member name n = codes ",\"" ++ name ++ codes "\":" ++ decimal n
+
+-- A key of a node.
+abbrev pub key_object : KeyPrint → List ℕ
+key_object k = codes "{\"node\":" ++ decimal k.node ++ codes ",\"sha256\":\"" ++ encode_lower k.sha256 ++ codes "\"}"
+
+-- How many items there are of a node.
+abbrev pub node_object : ℕ × ℕ → List ℕ
+node_object row = codes "{\"node\":" ++ decimal row.0 ++ codes ",\"items\":" ++ decimal row.1 ++ codes "}"
+
+unfoldable pub nodes_member : List (ℕ × ℕ) → List ℕ
+nodes_member rows = codes ",\"nodes\":[" ++ join_by node_object (codes ",") rows ++ codes "]"
+
+-- How many items there are of each form.
+unfoldable pub logged_members : Tally → List ℕ
+logged_members t = count_member (codes "statements") t.statements ++ count_member (codes "segments") t.segments
+
+unfoldable pub asked_members : Tally → List ℕ
+asked_members t = count_member (codes "audit_challenges") t.audit_challenges ++ count_member (codes "send_challenges") t.send_challenges
+
+abbrev pub tally_members : Tally → List ℕ
+tally_members t =
+    count_member (codes "items") t.items ++ logged_members t ++ asked_members t
+    ++ count_member (codes "acknowledgements") t.acknowledgements ++ nodes_member t.nodes.entries
+
+-- Why it can't be read: a refusal's number and its name.
+unfoldable pub name_member : List ℕ → List ℕ
+name_member name = codes ",\"name\":\"" ++ name ++ codes "\""
+
+abbrev pub refused_members : ℕ → List ℕ → List ℕ
+refused_members number name = count_member (codes "refused") number ++ name_member name
+
+abbrev pub contents_members : Contents → List ℕ
+contents_members (contents.Keys prints) = codes ",\"keys\":[" ++ join_by key_object (codes ",") prints.items ++ codes "]"
+contents_members (contents.NoDirectory f) = refused_members (listing.number_of f) (listing.name_of f)
+contents_members (contents.Items tally) = tally_members tally
+contents_members (contents.NoItems f) = refused_members (container.number_of f.cause) (container.name_of f.cause) ++ count_member (codes "items_before") f.item
+contents_members contents.Untold = []
+
+unfoldable pub form_member : TextForm → List ℕ
+form_member f = codes "{\"form\":\"" ++ form_name f ++ codes "\""
+
+unfoldable pub digest_member : List ℕ → List ℕ
+digest_member digest = codes ",\"sha256\":\"" ++ encode_lower digest ++ codes "\""
+
+abbrev pub shown_json : Shown → List ℕ
+shown_json s = form_member s.form ++ count_member (codes "bytes") s.bytes ++ digest_member s.sha256 ++ contents_members s.contents ++ codes "}\n"

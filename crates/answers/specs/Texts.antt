@@ -1,0 +1,35 @@
+-- How answers are written, each as a function of the answer and of for whom it is written.
+use Rattle.std.specs.Prelude.{ℕ, ◌≡◌, List, ◌++◌, codes}
+use Rattle.std.specs.List.{flat_map, join_by}
+use Rattle.evidence_set.specs.declared.indication.Indication.{Indication}
+use Rattle.answers.specs.declared.style.Style.{Style}
+use Rattle.answers.specs.declared.style.Style.TheVariants as style
+use Rattle.answers.specs.declared.showing.Shown.{Shown}
+use Rattle.answers.specs.Json.{conviction_json, shown_json, standing_object}
+use Rattle.answers.specs.Lines.{conviction_lines, shown_lines, standing_line}
+
+-- What a text is, and what is in it.
+abbrev pub shown_text : Style → Shown → List ℕ
+shown_text style.Lines s = shown_lines s
+shown_text style.Json s = shown_json s
+
+-- What is said of a node.
+abbrev pub standing_text : Style → ℕ × Indication → List ℕ
+standing_text style.Lines row = standing_line row
+standing_text style.Json row = standing_object row
+
+-- What is said of each of these nodes.
+abbrev pub standings_text : Style → List (ℕ × Indication) → List ℕ
+standings_text style.Lines rows = flat_map standing_line rows
+standings_text style.Json rows = codes "{\"nodes\":[" ++ join_by standing_object (codes ",") rows ++ codes "]}\n"
+
+-- Whom a proof convicts, under the program of a name and the directory of a text.
+abbrev pub conviction_text : Style → ℕ → List ℕ → List ℕ → List ℕ
+conviction_text style.Lines node program directory = conviction_lines node program directory
+conviction_text style.Json node program directory = conviction_json node program directory
+
+-- ---- laws, which `laws` proves
+
+-- What is written of a node tells what is said of it, in either style.
+abbrev pub StandingsAreTold : Type 0
+StandingsAreTold = (s : Style) (node : ℕ) (a b : Indication) → standing_text s (node, a) ≡ standing_text s (node, b) → a ≡ b

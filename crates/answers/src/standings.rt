@@ -1,0 +1,110 @@
+//! What is said of nodes.
+
+ghost use Rattle.std.specs.Prelude.{◌≡◌, ◌++◌, IfOk, OnOk, codes};
+ghost use Rattle.std.specs.List.{flat_map, join_by};
+ghost use Rattle.evidence_set.specs.Names.{name_of};
+ghost use Rattle.answers.specs.Json.{comma, standing_object};
+ghost use Rattle.answers.specs.Lines.{standing_line};
+ghost use Rattle.answers.specs.Texts.{standings_text};
+
+use crate::style::Style;
+use crate::writing::put_number;
+use evidence_set::Indication;
+use std::alloc::{AllocError, Global};
+use std::collections::BTreeMap;
+
+/// The word for an indication.
+fn word_of(indication: Indication) -> &'static str
+    ensures { result.now ≡ name_of indication }
+{
+    match indication {
+        Indication::Trusted => "trusted",
+        Indication::Suspected => "suspected",
+        Indication::Exposed => "exposed",
+    }
+}
+
+/// Writes a node's line.
+fn put_line(
+    alloc: Global,
+    text: &mut Vec<u8>,
+    node: u32,
+    indication: Indication,
+) -> Result<(), AllocError>
+    ensures { OnOk result (text.new.items ≡ text.old.items ++ standing_line (node, indication)) }
+{
+    put_number(alloc, text, node as u64)?;
+    text.extend_from_slice(b" ")?;
+    text.extend_from_slice(word_of(indication).as_bytes())?;
+    text.extend_from_slice(b"\n")
+}
+
+/// Writes the lines of all nodes.
+fn put_lines(
+    alloc: Global,
+    text: &mut Vec<u8>,
+    standings: &BTreeMap<u32, Indication>,
+) -> Result<(), AllocError>
+    ensures { OnOk result (text.new.items ≡ text.old.items ++ flat_map standing_line standings.now.entries) }
+{
+    for (node, indication) in standings.iter() {
+        put_line(alloc, text, *node, *indication)?;
+    }
+    Ok(())
+}
+
+/// Writes what is said of a node, behind a comma unless it is the first.
+fn put_object(
+    alloc: Global,
+    text: &mut Vec<u8>,
+    is_first: bool,
+    node: u32,
+    indication: Indication,
+) -> Result<(), AllocError>
+    ensures { OnOk result (text.new.items ≡ text.old.items ++ (comma is_first ++ standing_object (node, indication))) }
+{
+    if !is_first {
+        text.extend_from_slice(b",")?;
+    }
+    text.extend_from_slice(b"{\"node\":")?;
+    put_number(alloc, text, node as u64)?;
+    text.extend_from_slice(b",\"indication\":\"")?;
+    text.extend_from_slice(word_of(indication).as_bytes())?;
+    text.extend_from_slice(b"\"}")
+}
+
+/// Writes what is said of all nodes, parted by commas.
+fn put_objects(
+    alloc: Global,
+    text: &mut Vec<u8>,
+    standings: &BTreeMap<u32, Indication>,
+) -> Result<(), AllocError>
+    ensures { OnOk result (text.new.items ≡ text.old.items ++ join_by standing_object (codes ",") standings.now.entries) }
+{
+    let mut is_first = true;
+    for (node, indication) in standings.iter() {
+        put_object(alloc, text, is_first, *node, *indication)?;
+        is_first = false;
+    }
+    Ok(())
+}
+
+/// What is said of each node, ascending by their numbers. It is refused memory alone.
+pub fn standings_text(
+    alloc: Global,
+    style: Style,
+    standings: &BTreeMap<u32, Indication>,
+) -> Result<Vec<u8>, AllocError>
+    ensures { IfOk result (λ text. text.items ≡ standings_text style standings.now.entries) }
+{
+    let mut text = Vec::new(alloc);
+    match style {
+        Style::Lines => put_lines(alloc, &mut text, standings)?,
+        Style::Json => {
+            text.extend_from_slice(b"{\"nodes\":[")?;
+            put_objects(alloc, &mut text, standings)?;
+            text.extend_from_slice(b"]}\n")?;
+        }
+    }
+    Ok(text)
+}

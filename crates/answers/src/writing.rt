@@ -1,0 +1,22 @@
+//! Numbers and digits, as answers are written.
+
+ghost use Rattle.std.specs.Prelude.{◌≡◌, ◌++◌, OnOk, decimal};
+ghost use Rattle.hex.specs.Hex.{encode_lower};
+
+use std::alloc::{AllocError, Global};
+
+/// Writes a number in decimal digits.
+pub(crate) fn put_number(alloc: Global, text: &mut Vec<u8>, number: u64) -> Result<(), AllocError>
+    ensures { OnOk result (text.new.items ≡ text.old.items ++ decimal number) }
+{
+    let digits = format!(in alloc; "{number}")?;
+    text.extend_from_slice(digits.as_bytes())
+}
+
+/// Writes bytes in hexadecimal digits, two for each.
+pub(crate) fn put_digits(alloc: Global, text: &mut Vec<u8>, bytes: &[u8]) -> Result<(), AllocError>
+    ensures { OnOk result (text.new.items ≡ text.old.items ++ encode_lower bytes.now) }
+{
+    let digits = hex::encode(alloc, bytes)?;
+    text.extend_from_slice(digits.as_bytes())
+}

@@ -1,0 +1,110 @@
+//! Refusals of bundles, and how they are told.
+
+use crate::telling::told_of;
+use crate::words::Request;
+use bundles::BundleFault;
+use bundling::TextFault;
+use commands::fault::{Fault, RefusalLine};
+use operating::refusal::Refusal;
+use std::fmt;
+
+/// Why nothing was written.
+#[derive(Clone, Copy, Debug)]
+pub enum Refused {
+    /// What an engine tells.
+    Engine(Refusal),
+    /// The file is no bundle.
+    Bundle(BundleFault),
+    /// The directory or the proof in the bundle convicts nobody.
+    Inside(TextFault),
+    /// The bundle is of a program that is not known.
+    UnknownProgram,
+    /// A part of the bundle that was to be is not spelled as bundles have it.
+    Unspelled,
+    /// No directory was given, and the file is no bundle.
+    NoDirectory,
+}
+
+impl From<Refusal> for Refused {
+    fn from(refusal: Refusal) -> Refused {
+        Refused::Engine(refusal)
+    }
+}
+
+/// The fault that the commands tell.
+pub fn fault_of(fault: TextFault) -> Fault {
+    match fault {
+        TextFault::Directory(fault) => Fault::from(fault),
+        TextFault::Spelling(fault) => Fault::from(fault),
+        TextFault::Proof(fault) => Fault::from(fault),
+        TextFault::Memory => Fault::Memory,
+    }
+}
+
+/// The part of a bundle in which a fault stands.
+fn part_of(fault: TextFault) -> &'static str {
+    match fault {
+        TextFault::Directory(_) => ", directory",
+        TextFault::Spelling(_) | TextFault::Proof(_) => ", proof",
+        TextFault::Memory => "",
+    }
+}
+
+/// A refusal, with the name of the last file.
+#[derive(Clone, Copy, Debug)]
+pub struct ToldOfBundle<'a> {
+    pub refused: Refused,
+    pub name: &'a str,
+}
+
+/// What is told on one line: `refused NUMBER NAME`, the file, the place in it, and a sentence.
+impl<'a> fmt::Display for ToldOfBundle<'a> {
+    fn fmt<W: fmt::Write>(&self, f: &mut fmt::Formatter<W>) -> fmt::Result {
+        let file = self.name;
+        match self.refused {
+            Refused::Engine(refusal) => write!(
+                f,
+                "{}",
+                RefusalLine {
+                    fault: refusal.fault
+                }
+            ),
+            Refused::Bundle(fault) => {
+                let (number, name) = (fault.number(), fault.name());
+                write!(f, "refused {number} {name}: {file}")?;
+                if let Some(line) = fault.line() {
+                    write!(f, ", line {line}")?;
+                }
+                write!(f, ": {fault}")
+            }
+            Refused::Inside(inner) => {
+                let fault = fault_of(inner);
+                let (line, part) = (RefusalLine { fault }, part_of(inner));
+                write!(f, "{line}: {file}{part}: {fault}")
+            }
+            Refused::UnknownProgram => write!(
+                f,
+                "refused 109 UnknownProgram: {file}: the bundle names a program that is not known"
+            ),
+            Refused::Unspelled => f.write_str(
+                "refused 106 BadBundle: a part of the bundle is not spelled as bundles have it",
+            ),
+            Refused::NoDirectory => write!(
+                f,
+                "error: {file} is no bundle: give its directory by --directory"
+            ),
+        }
+    }
+}
+
+/// Tells a refusal on standard error.
+pub fn tell(rt: &HostRuntime, request: &Request, refused: Refused) {
+    if let Refused::Engine(refusal) = refused {
+        let line = told_of(request, refusal);
+        let _ = eprintln!(rt; "{line}");
+        return;
+    }
+    let name = request.paths.last().unwrap_or(&"");
+    let line = ToldOfBundle { refused, name };
+    let _ = eprintln!(rt; "{line}");
+}

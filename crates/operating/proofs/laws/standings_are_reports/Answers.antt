@@ -1,0 +1,5 @@
+use Rattle.operating.proofs.Rows.{reports}
+use Rattle.operating.proofs.laws.standings_are_reports.Goals as goal
+
+pub returns : goal.returns
+returns g c = reports

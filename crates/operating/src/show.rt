@@ -1,0 +1,45 @@
+//! The engine of `show`: what a file is, and what is in it. Nothing is checked.
+
+ghost use Rattle.std.specs.Prelude.{IfOk, Ok};
+ghost use Rattle.operating.specs.declared.asking.Ending.TheVariants as ending;
+ghost use Rattle.operating.specs.Operating.{HasRoom, RanOnFile};
+ghost use Rattle.operating.specs.Questions.{Show};
+
+use crate::asking::{Ending, write};
+use crate::files::{Limits, Opener};
+use crate::reading::read_said;
+use crate::refusal::Refusal;
+use answers::{Style, shown_of};
+use commands::device::Sink;
+use commands::fault::Fault;
+use std::alloc::{AllocError, Global};
+
+/// What a text is and what is in it, as it is written in this style.
+fn told(alloc: Global, style: Style, text: &[u8]) -> Result<Vec<u8>, AllocError>
+    ensures { IfOk result (λ told. Show style text.now (Ok (told.items, ending.Done))) }
+{
+    let shown = shown_of(alloc, text)?;
+    let told = shown.write(alloc, style)?;
+    Ok(told)
+}
+
+/// Reads file 0, and writes in this style what it is and what is in it: nothing else, and in one write, once everything has been decided.
+/// Nothing of it is checked.
+pub fn run<O: Opener, W: Sink>(
+    alloc: Global,
+    style: Style,
+    opener: &mut O,
+    limits: Limits,
+    writer: &mut W,
+) -> Result<Ending, Refusal>
+    requires room { HasRoom 0 (O.seen opener.old) (W.seen writer.old) }
+    ensures { RanOnFile style limits.most_bytes result (O.seen opener.old) (O.seen opener.new) W.seen writer.old writer.new }
+{
+    let text = read_said(alloc, opener, 0, false, limits)?;
+    let shown = match told(alloc, style, &text) {
+        Ok(shown) => shown,
+        Err(_) => return Err(Refusal::of_none(Fault::Memory)),
+    };
+    write(writer, &shown)?;
+    Ok(Ending::Done)
+}

@@ -1,0 +1,4 @@
+mod Listed
+mod Unsaid
+mod Sayings
+mod Whole
