@@ -7,6 +7,7 @@ use accuracy::exposes;
 use authenticators::{Directory, NodeId, statement_text};
 use commitment::{Message, Node};
 use evidence_item::Item;
+use evidence_samples::receipt;
 use evidence_store::{Evidence, IndexedStore, Indication, PlainStore};
 use lms_sign::SecretKey;
 use log_chain::{ByteString, Entry, Hash, base_hash, chain_end, kind};
@@ -40,18 +41,6 @@ fn make_nodes(alloc: Global) -> Result<Nodes, Fail> {
     let mut one = node_of(alloc, directory, key)?;
     let message = sent(alloc, &mut one)?;
     Ok(Nodes { one, message, two })
-}
-
-/// What a RECV entry quotes of the message.
-fn quote_of(alloc: Global, message: &Message) -> Result<Vec<u8>, Fail> {
-    let mut content = Vec::new(alloc);
-    content.extend_from_slice(&message.from.0.to_be_bytes())?;
-    content.extend_from_slice(&message.seq.to_be_bytes())?;
-    content.extend_from_slice(&message.prev.0)?;
-    content.extend_from_slice(&u32::try_from(message.sig.len())?.to_be_bytes())?;
-    content.extend_from_slice(message.sig.as_slice())?;
-    content.extend_from_slice(message.payload.as_slice())?;
-    Ok(content)
 }
 
 /// How node 2's segment begins.
@@ -96,13 +85,14 @@ fn change(text: &mut [u8], place: usize) {
 
 /// The second entry: a RECV that quotes the message with the byte at the place changed, if one is.
 fn receipt_of(alloc: Global, message: &Message, place: Option<usize>) -> Result<Entry, Fail> {
-    let mut quote = quote_of(alloc, message)?;
+    let Entry { seq, kind, content } = receipt(alloc, 2, message)?;
+    let mut quote = content.into_vec();
     if let Some(place) = place {
         change(&mut quote, place);
     }
     Ok(Entry {
-        seq: 2,
-        kind: kind::RECV,
+        seq,
+        kind,
         content: ByteString::from_vec(quote),
     })
 }

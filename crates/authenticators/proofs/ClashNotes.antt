@@ -108,9 +108,12 @@ one_each (x ∷ xs) p q up in_p in_q same = ⊎_elim
 -- ---- two in conflict at a number
 
 module _ (held part : List Authenticator) (p : Clash) (is : IsPart (IsInRange p.node p.seq p.seq) held part) where
-  -- the statements of one number are of one node
-  pub one_node : (a b : Authenticator) → Contains part a → Contains part b → a.node ≡ b.node
-  one_node a b in_a in_b = ((is.members a).0 in_a).1.0 ∙ sym ((is.members b).0 in_b).1.0
+  -- the statements there are of one node and number
+  pub one_point : (a b : Authenticator) → Contains part a → Contains part b → (a.node ≡ b.node) × (a.seq ≡ b.seq)
+  one_point a b in_a in_b =
+      let of_a = ((is.members a).0 in_a).1 in
+      let of_b = ((is.members b).0 in_b).1 in
+      (of_a.0 ∙ sym of_b.0, omega (arith, of_a.1, of_a.2, of_b.1, of_b.2))
 
   -- two of them in conflict are a clash
   pub clash_by : (a b : Authenticator) → Contains part a → Contains part b → Conflict a b → IsClash held p

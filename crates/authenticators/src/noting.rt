@@ -9,7 +9,7 @@ ghost use Rattle.authenticators.specs.StatementSet.{IsAscending};
 ghost use Rattle.authenticators.specs.within.Noted.{AreNoted, HasOf, HasUpTo, IsClash, by_node, point_of};
 
 use crate::authenticator::Authenticator;
-use crate::authenticator_store::{first_conflict, range};
+use crate::authenticator_store::{conflict_among, range};
 use crate::clash::Clash;
 use crate::node::NodeId;
 use outcome::Memory;
@@ -56,13 +56,13 @@ pub(crate) fn clash_of(clashes: &[Clash], node: NodeId) -> Option<Clash>
     }
 }
 
-/// Whether two of the statements are in conflict at this number of the node.
+/// Whether two of the statements are in conflict at this number of the node. It looks at the first and the last of that number.
 fn is_clash(held: &[Authenticator], clash: &Clash) -> bool
     requires { IsAscending held.now }
     ensures yes { IsTrue result → IsClash held.now clash.now }
     ensures no { result ≡ false → IsClash held.now clash.now → ⊥ }
 {
-    match first_conflict(range(held, clash.node, clash.seq, clash.seq)) {
+    match conflict_among(range(held, clash.node, clash.seq, clash.seq)) {
         None => false,
         Some(_) => true,
     }

@@ -29,6 +29,8 @@ use Rattle.evidence.specs.Importing.{import_set}
 use Rattle.transfer.specs.Packs.{pack_magic, pack_text}
 use Rattle.byte_calls.specs.declared.refusal.Refusal.{Refusal}
 use Rattle.byte_calls.specs.declared.refusal.Refusal.TheVariants as refusal
+use Rattle.byte_calls.specs.Checks.{Check}
+use Rattle.byte_calls.specs.Explanations.{TellsOf}
 use Rattle.byte_calls.specs.Nodes.{Replies, RefusesReply, accepted, begun, key_of, known, ticked_by}
 use Rattle.byte_calls.specs.Refusals.{of_import, of_node}
 use Rattle.byte_calls.specs.Stores.{AreFewer, Takes, opened, valid_item_of}
@@ -44,6 +46,22 @@ IsProgram program = (program ≡ 1) ⊎ (program ≡ 2) ⊎ (program ≡ 3)
 
 abbrev pub IsNoProgram : ℕ → Type 0
 IsNoProgram program = (program ≡ 1 → ⊥) × (program ≡ 2 → ⊥) × (program ≡ 3 → ⊥)
+
+-- ---- explanations of proofs
+
+-- The text is written of a proof that convicts a node, under the program with this number, and tells of that node.
+abbrev pub Explains : ℕ → List ℕ → List ℕ → List ℕ → Type 0
+Explains program directory proof text =
+    (node : ℕ) × TellsOf node text
+    × (((program ≡ 1) × Check tally directory proof (Ok node)) ⊎ ((program ≡ 2) × Check relay directory proof (Ok node))
+    ⊎ ((program ≡ 3) × Check mailbox directory proof (Ok node)))
+
+-- Why none is written.
+abbrev pub ExplainFails : ℕ → List ℕ → List ℕ → Refusal → Type 0
+ExplainFails program directory proof f =
+    (f ≡ refusal.Memory)
+    ⊎ ((program ≡ 1) × Check tally directory proof (Err f)) ⊎ ((program ≡ 2) × Check relay directory proof (Err f))
+    ⊎ ((program ≡ 3) × Check mailbox directory proof (Err f)) ⊎ (IsNoProgram program × (f ≡ refusal.BadProgram))
 
 -- ---- stores
 
@@ -173,8 +191,8 @@ SendFails seq n f =
     ⊎ ((f ≡ refusal.TooLong) × ((m : Message) × (lookup (nat_eq seq) n.account.sent ≡ Some m) × ¬ (Fits (form.Send m))))
 
 -- The node answered the challenge of a text by the item of this text.
-abbrev pub Answers : List ℕ → List ℕ → List ℕ → {S : Type 0} → Meaning S → NodeState S → NodeState S → Type 0
-Answers challenge entropy text program n m = (item : Fields) × (text ≡ spelling item) × Replies program challenge entropy item n m
+abbrev pub RepliesBy : List ℕ → List ℕ → List ℕ → {S : Type 0} → Meaning S → NodeState S → NodeState S → Type 0
+RepliesBy challenge entropy text program n m = (item : Fields) × (text ≡ spelling item) × Replies program challenge entropy item n m
 
-abbrev pub AnswerFails : List ℕ → List ℕ → {S : Type 0} → Meaning S → NodeState S → Refusal → Type 0
-AnswerFails challenge entropy program n f = (f ≡ refusal.Memory) ⊎ RefusesReply program challenge entropy n f
+abbrev pub ReplyFails : List ℕ → List ℕ → {S : Type 0} → Meaning S → NodeState S → Refusal → Type 0
+ReplyFails challenge entropy program n f = (f ≡ refusal.Memory) ⊎ RefusesReply program challenge entropy n f

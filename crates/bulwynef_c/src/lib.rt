@@ -7,6 +7,7 @@
 
 mod asking;
 mod checking;
+mod explaining;
 pub mod handle;
 mod keys;
 mod loose;

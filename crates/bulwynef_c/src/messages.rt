@@ -1,11 +1,11 @@
-//! Nodes behind handles: what they say to one another and to witnesses.
+//! Nodes behind handles: what they say to one another and to witnesses, and what they logged.
 
 ghost use Rattle.std.specs.Prelude.{◌≡◌, ◌⊎◌, IfErr, IfOk, Ok, OnErr, OnOk, false, is_some, true};
 ghost use Rattle.outcome.specs.Outcome.{Fails};
 ghost use Rattle.item_forms.specs.Spelling.{spelling};
 ghost use Rattle.byte_calls.specs.declared.refusal.Refusal.TheVariants.{Memory};
-ghost use Rattle.byte_calls.specs.Nodes.{RefusesReply, Replies, accepted};
-ghost use Rattle.bulwynef_c.specs.Calls.{Answers, AnswerFails, Sends, SendFails, Waits, WaitFails};
+ghost use Rattle.byte_calls.specs.Nodes.{RefusesLog, RefusesReply, Replies, accepted, log_text};
+ghost use Rattle.bulwynef_c.specs.Calls.{RepliesBy, ReplyFails, Sends, SendFails, Waits, WaitFails};
 ghost use Rattle.bulwynef_c.specs.Handles.{Both, Is, IsNode, IsText, NodeBecomes, NodeRefuses, Says};
 
 use crate::handle::Handle;
@@ -97,6 +97,42 @@ pub extern "C" fn bulwynef_node_message(
     }
 }
 
+fn log_of(alloc: Global, object: &Object) -> Result<Vec<u8>, Refusal>
+    ensures text { IfOk result (λ text. IsNode (λ S p n. text.items ≡ log_text n) object.now) }
+    ensures refused { IfErr result (λ f. NodeRefuses (λ S p n e. RefusesLog n e) object.now f) }
+{
+    match object {
+        Object::TallyNode(node) => nodes::history(alloc, node),
+        Object::RelayNode(node) => nodes::history(alloc, node),
+        Object::MailboxNode(node) => nodes::history(alloc, node),
+        _ => Err(Refusal::OtherKind),
+    }
+}
+
+/// `uint8_t bulwynef_node_history(struct bulwynef_handle *node, struct bulwynef_handle *text)`: the entries of the node's log, in their
+/// order, each as a segment has it.
+#[unsafe(no_mangle)]
+pub extern "C" fn bulwynef_node_history(alloc: Global, node: &mut Handle, text: &mut Handle) -> u8
+    ensures text { result ≡ 0 → Is (λ x. Is (IsText (λ t. IsNode (λ S p n. t ≡ log_text n) x)) text.new.value) node.old.value }
+    ensures still_open { is_some text.old.value ≡ true → result ≡ 114 }
+    ensures number { is_some text.old.value ≡ false → (result ≡ 0 → ⊥) → (result ≡ 99) ⊎ Says (NodeRefuses (λ S p n e. RefusesLog n e)) node.old.value result }
+    ensures refused { (result ≡ 0 → ⊥) → text.new.value ≡ text.old.value }
+    ensures node { node.new.value ≡ node.old.value }
+{
+    if text.is_open() {
+        return told(Refusal::StillOpen);
+    }
+    let Some(object) = taken(alloc, node) else {
+        return told(Refusal::Closed);
+    };
+    let answer = log_of(alloc, &object);
+    *node = Handle::of(object);
+    match answer {
+        Ok(bytes) => put(alloc, text, Object::Text(bytes)),
+        Err(refusal) => told(refusal),
+    }
+}
+
 fn reply(
     alloc: Global,
     object: &mut Object,
@@ -104,7 +140,7 @@ fn reply(
     entropy: &[u8],
 ) -> Result<Item, Refusal>
     ensures answered { IfOk result (λ item. NodeBecomes (λ S p n m. Replies p challenge.now entropy.now item.fields n m) object.old object.new) }
-    ensures refused { IfErr result (λ f. NodeRefuses (λ S p n e. AnswerFails challenge.now entropy.now p n e) object.old f) }
+    ensures refused { IfErr result (λ f. NodeRefuses (λ S p n e. ReplyFails challenge.now entropy.now p n e) object.old f) }
     ensures unchanged { OnErr result (object.new ≡ object.old) }
 {
     match object {
@@ -126,9 +162,9 @@ pub extern "C" fn bulwynef_node_answer(
     entropy: &[u8],
     text: &mut Handle,
 ) -> u8
-    ensures answered { result ≡ 0 → Is (IsText (λ t. Both (NodeBecomes (λ S p n m. Answers challenge.now entropy.now t p n m)) node.old.value node.new.value)) text.new.value }
+    ensures answered { result ≡ 0 → Is (IsText (λ t. Both (NodeBecomes (λ S p n m. RepliesBy challenge.now entropy.now t p n m)) node.old.value node.new.value)) text.new.value }
     ensures still_open { is_some text.old.value ≡ true → result ≡ 114 }
-    ensures number { is_some text.old.value ≡ false → (result ≡ 0 → ⊥) → (result ≡ 99) ⊎ Says (NodeRefuses (λ S p n e. AnswerFails challenge.now entropy.now p n e)) node.old.value result }
+    ensures number { is_some text.old.value ≡ false → (result ≡ 0 → ⊥) → (result ≡ 99) ⊎ Says (NodeRefuses (λ S p n e. ReplyFails challenge.now entropy.now p n e)) node.old.value result }
     ensures kept { (result ≡ 0 → ⊥) → (result ≡ 99 → ⊥) → node.new.value ≡ node.old.value }
     ensures refused { (result ≡ 0 → ⊥) → text.new.value ≡ text.old.value }
 {

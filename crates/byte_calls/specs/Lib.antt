@@ -1,4 +1,5 @@
 pub mod Checks
+pub mod Explanations
 pub mod Nodes
 pub mod Refusals
 pub mod Stores

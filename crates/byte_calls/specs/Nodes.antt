@@ -1,5 +1,6 @@
 -- Nodes, by the texts and numbers that are handed to them.
 use Rattle.std.specs.Prelude.{◌≡◌, ◌⊎◌, ◌==◌, ℕ, nat_lt, List, length, Option, None, Some, Result, Ok, Err, if◌then◌else◌}
+use Rattle.std.specs.List.{All, flat_map}
 use Rattle.outcome.specs.Outcome.{◌>>=◌, told_as}
 use Rattle.lms_sign.specs.Parameters.{height, lms_type_of, ots_type_of}
 use Rattle.lms_sign.specs.Signing.{PrivateKey, new_key, public_key}
@@ -13,6 +14,7 @@ use Rattle.commitment.specs.Nodes.{NodeState, accepts, begins_by, new_node, tick
 use Rattle.item_forms.specs.declared.forms.Fields.{Fields}
 use Rattle.item_forms.specs.declared.forms.Fields.TheVariants as form
 use Rattle.item_forms.specs.Reading.{item_of}
+use Rattle.item_forms.specs.Spelling.{FitsEntry, entry_spelling}
 use Rattle.evidence_item.specs.Validity.{IsValid}
 use Rattle.evidence_set.specs.Challenges.{Answers}
 use Rattle.challenges.specs.declared.fault.AnswerFault.{AnswerFault}
@@ -63,6 +65,14 @@ ticked_by program n moment entropy = do
   bytes ← of_length 32 entropy
   done ← told_as of_node (ticked program n moment bytes)
   Ok done.0
+
+-- The entries of the node's log, in their order, each as a segment has it.
+abbrev pub log_text : {S : Type 0} → NodeState S → List ℕ
+log_text n = flat_map entry_spelling n.account.entries
+
+-- Why they are not written: memory ran out, or an entry is too long for a segment.
+abbrev pub RefusesLog : {S : Type 0} → NodeState S → Refusal → Type 0
+RefusesLog n f = (f ≡ refusal.Memory) ⊎ ((f ≡ refusal.TooLong) × ¬ (All FitsEntry n.account.entries))
 
 -- The acknowledgement that an item holds.
 abbrev pub ack_in : Fields → Result Ack Refusal

@@ -4,6 +4,7 @@
 //! - [`check_proof`] tells whom a proof convicts.
 //! - [`stores`] has what a store of evidence is handed and asked, [`transfers`] what stores give one another, and [`nodes`] what a
 //!   node is handed and answers. Each call is generic in the program that nodes follow, and in the store.
+//! - [`explaining`] tells in sentences what a store says of its nodes, or whom a proof convicts, and why.
 //! - [`Refusal`] is why a call is refused.
 //!
 //! `specs/Refusals.antt` has the table of refusals, and the other files of `specs/` what each call makes of the texts.
@@ -13,6 +14,7 @@ pub use checking::check_proof;
 pub use refusal::Refusal;
 
 mod checking;
+pub mod explaining;
 pub mod nodes;
 mod refusal;
 pub mod stores;

@@ -1,6 +1,7 @@
 //! Nodes: what is handed to them, and what they answer, as texts and numbers.
 
-ghost use Rattle.std.specs.Prelude.{◌≡◌, ◌⊎◌, IfErr, IfOk, List, None, OnErr, Some, nat_eq, slice_get};
+ghost use Rattle.std.specs.Prelude.{◌≡◌, ◌⊎◌, ◌++◌, IfErr, IfOk, List, None, OnErr, OnOk, Some, nat_eq, slice_get};
+ghost use Rattle.std.specs.List.{All, flat_map};
 ghost use Rattle.std.specs.Map.{lookup};
 ghost use Rattle.outcome.specs.Outcome.{Fails, Gives, Leaves, told_as};
 ghost use Rattle.evidence_item.specs.Checking.{IsChecked};
@@ -9,11 +10,11 @@ ghost use Rattle.evidence_set.specs.Challenges.{Answers};
 ghost use Rattle.challenges.specs.Answers.{IsAnswered, IsRefused};
 ghost use Rattle.challenges.specs.declared.fault.AnswerFault.{AnswerFault as TheAnswerFault};
 ghost use Rattle.item_forms.specs.declared.forms.Fields.TheVariants as form;
-ghost use Rattle.item_forms.specs.Spelling.{Fits, spelling};
+ghost use Rattle.item_forms.specs.Spelling.{Fits, FitsEntry, entry_spelling, spelling};
 ghost use Rattle.commitment.specs.declared.message.Message.{Message as TheMessage};
 ghost use Rattle.commitment.specs.Nodes.{checkpointed, rekeyed};
 ghost use Rattle.byte_calls.specs.declared.refusal.Refusal.TheVariants.{Memory, OutOfRange, TooLong, WrongKey};
-ghost use Rattle.byte_calls.specs.Nodes.{Replies, RefusesReply, accepted, ack_in, begun, key_of, key_text_of, known, of_length, ticked_by};
+ghost use Rattle.byte_calls.specs.Nodes.{Replies, RefusesLog, RefusesReply, accepted, ack_in, begun, key_of, key_text_of, known, log_text, of_length, ticked_by};
 ghost use Rattle.byte_calls.specs.Refusals.{of_answering, of_node};
 
 use crate::refusal::Refusal;
@@ -22,8 +23,10 @@ use authenticators::{Directory, NodeId};
 use challenges::answer as answer_challenge;
 use commitment::{Ack, Node};
 use evidence_item::Checked;
-use item_forms::{AckItem, Fields, Item};
+use item_forms::{AckItem, Fields, Item, write_entry};
 use lms_sign::{LmsType, OtsType, SecretKey};
+use log_chain::laws::bytes_fit;
+use log_chain::{Entry, FieldWriter, LONGEST_CONTENT};
 use replay_verifier::Program;
 use std::alloc::Global;
 
@@ -175,6 +178,43 @@ pub fn message<P: Program + Drop>(
     };
     let text = item.encode(alloc)?;
     Ok(text)
+}
+
+/// Writes an entry as a segment has it.
+fn put_entry(writer: &mut FieldWriter, entry: &Entry) -> Result<(), Refusal>
+    ensures written { OnOk result (writer.new ≡ writer.old ++ entry_spelling entry.now) }
+    ensures refused { IfErr result (λ f. (f ≡ Memory) ⊎ ((f ≡ TooLong) × ¬ (FitsEntry entry.now))) }
+{
+    let _seq = entry.seq;
+    let _kind = entry.kind;
+    let content = entry.content.as_slice();
+    bytes_fit(content);
+    if content.len() > LONGEST_CONTENT {
+        return Err(Refusal::TooLong);
+    }
+    write_entry(writer, entry)?;
+    Ok(())
+}
+
+fn put_entries(writer: &mut FieldWriter, entries: &[Entry]) -> Result<(), Refusal>
+    ensures written { OnOk result (writer.new ≡ writer.old ++ flat_map entry_spelling entries.now) }
+    ensures refused { IfErr result (λ f. (f ≡ Memory) ⊎ ((f ≡ TooLong) × ¬ (All FitsEntry entries.now))) }
+{
+    for entry in entries {
+        put_entry(writer, entry)?;
+    }
+    Ok(())
+}
+
+/// The entries of the node's log, in their order, each as a segment has it. Nothing is signed for that: an audit is answered by a segment
+/// with a signature ([`answer`]). `TooLong` (42) where an entry is too long for a segment.
+pub fn history<P: Program + Drop>(alloc: Global, node: &Node<P>) -> Result<Vec<u8>, Refusal>
+    ensures text { IfOk result (λ text. text.items ≡ log_text node.now) }
+    ensures refused { IfErr result (λ f. RefusesLog node.now f) }
+{
+    let mut writer = FieldWriter::new(alloc);
+    put_entries(&mut writer, node.history().entries())?;
+    Ok(writer.finish())
 }
 
 /// What the node answers to a checked challenge.

@@ -37,7 +37,7 @@ pub enum Refusal {
     NotMine,
     /// The sender is not listed in the directory, or is this node.
     UnknownSender,
-    /// The message's signature is by none of the sender's keys.
+    /// The message's signature names no key of the sender's, or is not valid by the one that it names.
     MessageSignature,
     /// The payload of a message is too long.
     PayloadTooLong,

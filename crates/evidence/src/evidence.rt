@@ -57,8 +57,8 @@ pub trait Evidence<P: Program>: Drop {
         ensures item { IfOk result (λ found. option_map (λ (c : TheChecked). c.item) found ≡ slice_get (listed (contents self.now).items) n) }
         ensures checked { IfOk result (λ found. IfSome found (λ c. IsChecked (contents self.now).directory P.means c)) };
 
-    /// The digest of item `n`, from 0, in the order of the items' spellings; none from the count on. The item is hashed where it lies;
-    /// it takes no memory.
+    /// The digest of item `n`, from 0, in the order of the items' spellings; none from the count on. A store may keep it, or hash the
+    /// item where it lies; it takes no memory.
     fn digest_at(&self, n: u64) -> Option<Hash>
         ensures { result ≡ option_map digest_of (slice_get (listed (contents self.now).items) n) };
 

@@ -1,4 +1,7 @@
 //! Two nodes, and what they sign: as nodes do, and otherwise.
+//!
+//! A program keeps samples of its own: the calls of `evidence_samples` fail as tests do, of which `anyhow` makes no error. And the logs
+//! here are those of nodes that ran.
 
 use anyhow::{Result, bail};
 use authenticators::{Authenticator, Directory, NodeId, statement_text};

@@ -11,7 +11,7 @@ pub enum CountFault {
     Empty,
     /// A byte that no text of ASCII has, and its place: a picture, say, or an archive.
     NoText { place: u64, byte: u8 },
-    /// Two lines, and behind them lines with nothing in them.
+    /// Two lines, and behind them blank lines: ends of lines, blanks and tabs alone.
     BlankLines,
     /// So many lines.
     Lines { count: u64 },
@@ -101,7 +101,7 @@ impl fmt::Display for CountFault {
             CountFault::NoText { place, byte } => {
                 write!(f, "the input is no text: byte {place} of it is {byte:02x}")
             }
-            CountFault::BlankLines => f.write_str("behind line 2 stand lines with nothing in them"),
+            CountFault::BlankLines => f.write_str("behind line 2 stand blank lines"),
             CountFault::Lines { count: 1 } => f.write_str("the input has 1 line"),
             CountFault::Lines { count } => write!(f, "the input has {count} lines"),
         }

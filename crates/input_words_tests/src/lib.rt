@@ -48,10 +48,7 @@ fn counts(rt: HostRuntime) -> Result<(), Fail> {
         (b"00", "the input has 1 line"),
         (b"00\n", "the input has 1 line"),
         (b"00\n01\n02\n03", "the input has 4 lines"),
-        (
-            b"00\n01\n\n \r\n",
-            "behind line 2 stand lines with nothing in them",
-        ),
+        (b"00\n01\n\n \r\n", "behind line 2 stand blank lines"),
         (b"00\x01", "the input is no text: byte 3 of it is 01"),
     ];
     for (input, wanted) in inputs {

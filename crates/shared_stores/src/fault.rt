@@ -39,7 +39,7 @@ pub enum CloseFault {
     PassMissing,
     /// 92: the calls of a pass are not those of its number in the history; or the history has a call of another number; or the
     /// directory or the opening set under the lock is not the one beside it.
-    #[error("the passes do not agree with the history")]
+    #[error("the passes, the directory or the opening set do not agree with the history")]
     HistoryMismatch,
 }
 

@@ -18,7 +18,7 @@ use crate::kept::Kept;
 use crate::pass::Pass;
 use authenticators::{Directory, NodeId};
 use evidence::{Evidence, TakeRefused};
-use evidence_item::Checked;
+use evidence_item::{Checked, Item};
 use evidence_set::Indication;
 use outcome::Memory;
 use replay_verifier::Program;
@@ -154,6 +154,24 @@ impl<P: Program, S: Evidence<P>> SharedStore<P, S> {
         let (Ok((noted, copy)), Ok(())) = (made, pass.calls.reserve(1)) else {
             return Err(out_of_memory(checked));
         };
+        let new = self.take_locked(rt, pass.number, checked, copy)?;
+        let call = Recorded::new(pass.number, Call::Take(noted), Given::Took(new));
+        pass.calls.push_reserved(call);
+        Ok(new)
+    }
+
+    /// Takes an item under the lock. The copy is for the history.
+    fn take_locked<R: Wait>(
+        &self,
+        rt: &R,
+        caller: usize,
+        checked: Checked<P>,
+        copy: Item,
+    ) -> Result<bool, NotTaken<P>>
+        requires checked { IsChecked self.now.directory P.means checked }
+        requires copy { copy ≡ checked.item }
+        ensures given_back { IfErr result (λ refused. (refused.checked.item ≡ checked.item) × (refused.checked.verdict ≡ checked.verdict) × IsChecked self.now.directory P.means refused.checked) }
+    {
         let mut kept = self.locked.lock(rt);
         if !kept.is_under(&self.directory) {
             return Err(NotTaken {
@@ -161,12 +179,8 @@ impl<P: Program, S: Evidence<P>> SharedStore<P, S> {
                 fault: CallFault::DirectoryChanged,
             });
         }
-        match kept.take(pass.number, checked, copy) {
-            Ok(new) => {
-                let call = Recorded::new(pass.number, Call::Take(noted), Given::Took(new));
-                pass.calls.push_reserved(call);
-                Ok(new)
-            }
+        match kept.take(caller, checked, copy) {
+            Ok(new) => Ok(new),
             Err(TakeRefused(checked)) => Err(out_of_memory(checked)),
         }
     }

@@ -1,9 +1,6 @@
 //! Three witnesses, to each of whom other evidence comes, and who pass it on to each other.
 
-ghost use Rattle.std.specs.Prelude.{◌≡◌, IfOk, IsTrue, map};
-ghost use Rattle.std.specs.List.{All};
-ghost use Rattle.evidence.specs.Contents.{Contents};
-ghost use Rattle.witness_core.specs.Answering.{IsCheckedFor};
+ghost use Rattle.std.specs.Prelude.{◌≡◌, IsTrue};
 
 use crate::scenes::Pair;
 use accuracy::exposes;
@@ -11,13 +8,13 @@ use anyhow::{Result, bail};
 use authenticators::{Directory, NodeId};
 use commitment::Node;
 use evidence::Evidence;
-use evidence_item::{Item, check_item};
 use evidence_set::Indication;
 use ref_programs::Tally;
 use replay_verifier::Program;
 use std::alloc::Global;
 use tours::network::{last_statement, log_of};
-use witness_core::{Event, Reply, World, run};
+use tours::worlds::{new_world, take, tell};
+use witness_core::{Event, Reply, World};
 
 /// The store that each witness fills.
 type Store = tours::witness::Store<Tally>;
@@ -30,61 +27,6 @@ pub const WITNESSES: u64 = 3;
 pub struct Spreading {
     world: Box<World<Tally, Store>>,
     nodes: Pair,
-}
-
-/// So many stores without items, under copies of the directory.
-fn make_stores<P: Program, S: Evidence<P>>(
-    alloc: Global,
-    directory: &Directory,
-    count: u64,
-) -> Result<Vec<S>>
-    ensures { IfOk result (λ stores. All (λ (s : Contents). s.directory ≡ directory.now) (map S.contents stores.items)) }
-{
-    let mut stores = Vec::new(alloc);
-    for _ in 0..count {
-        let Ok(store) = S::new(alloc, directory.try_clone()?) else {
-            bail!("memory ran out");
-        };
-        stores.push(store)?;
-    }
-    Ok(stores)
-}
-
-/// The witnesses, who have no items yet.
-fn new_world(alloc: Global, directory: &Directory) -> Result<Box<World<Tally, Store>>> {
-    let stores: Vec<Store> = make_stores::<Tally, Store>(alloc, directory, WITNESSES)?;
-    Ok(Box::new(alloc, World::new(alloc, stores))?)
-}
-
-/// What the event answers.
-fn tell<P: Program, S: Evidence<P>>(
-    alloc: Global,
-    world: &mut World<P, S>,
-    event: Event<P>,
-) -> Result<Reply>
-    requires { IsCheckedFor P.means world.old event }
-{
-    let mut replies = run(alloc, world, &[event])?;
-    match replies.pop() {
-        Some(reply) => Ok(reply),
-        None => bail!("no reply"),
-    }
-}
-
-/// The witness takes a copy of the item, if it is valid.
-fn take<P: Program, S: Evidence<P>>(
-    alloc: Global,
-    program: &P,
-    world: &mut World<P, S>,
-    witness: u64,
-    item: &Item,
-) -> Result<()> {
-    let Some(store) = world.stores().get(witness as usize) else {
-        bail!("there is no such witness");
-    };
-    let item = check_item(alloc, program, store.directory(), item.try_clone(alloc)?)?;
-    tell(alloc, world, Event::Take { witness, item })?;
-    Ok(())
 }
 
 /// Nodes 1 and 2 show their logs, node 1 to the witness 2, and node 2 to the witness 1.
@@ -168,7 +110,7 @@ impl Spreading {
     /// Node 1 sends node 2 a number, which tells its total; and node 2 has another history as well. Each witness gets a part of the
     /// evidence.
     pub fn begin(alloc: Global, directory: &Directory) -> Result<Spreading> {
-        let mut world = new_world(alloc, directory)?;
+        let mut world: Box<World<Tally, Store>> = new_world(alloc, directory, WITNESSES)?;
         take_other_history(alloc, directory, &mut world)?;
         let mut nodes = Pair::begin(alloc, directory, 1, 2)?;
         nodes.exchange(alloc, 5)?;

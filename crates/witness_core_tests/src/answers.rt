@@ -54,30 +54,9 @@ fn replies_to_one_statement<S: Evidence<Tally>>(alloc: Global) -> Result<[(u8, u
         take(alloc, &Tally, world, 0, item)?,
         take(alloc, &Tally, world, 0, again)?,
         tell(alloc, world, Event::Summarise { witness: 1 }),
-        tell(
-            alloc,
-            world,
-            Event::Pack {
-                witness: 0,
-                summary: 0,
-            },
-        ),
-        tell(
-            alloc,
-            world,
-            Event::Deliver {
-                pack: 0,
-                witness: 1,
-            },
-        ),
-        tell(
-            alloc,
-            world,
-            Event::Deliver {
-                pack: 0,
-                witness: 1,
-            },
-        ),
+        pack_against(alloc, world, 0, 0),
+        deliver(alloc, world, 0, 1),
+        deliver(alloc, world, 0, 1),
         tell(alloc, world, Event::Ask { witness: 1, node }),
         tell(alloc, world, Event::Export { witness: 1 }),
     ])
@@ -117,22 +96,8 @@ fn replies_to_outlines<S: Evidence<Tally>>(alloc: Global) -> Result<[(u8, u64); 
         short(alloc, world, 1, 1),
         pack_against(alloc, world, 0, 0),
         pack_against(alloc, world, 1, 0),
-        tell(
-            alloc,
-            world,
-            Event::Deliver {
-                pack: 1,
-                witness: 1,
-            },
-        ),
-        tell(
-            alloc,
-            world,
-            Event::Deliver {
-                pack: 0,
-                witness: 1,
-            },
-        ),
+        deliver(alloc, world, 1, 1),
+        deliver(alloc, world, 0, 1),
     ];
     Ok(told)
 }
@@ -155,6 +120,16 @@ fn pack_against<S: Evidence<Tally>>(
     summary: u64,
 ) -> (u8, u64) {
     tell(alloc, world, Event::Pack { witness, summary })
+}
+
+/// What the pack's delivery at the witness is told.
+fn deliver<S: Evidence<Tally>>(
+    alloc: Global,
+    world: &mut World<Tally, S>,
+    pack: u64,
+    witness: u64,
+) -> (u8, u64) {
+    tell(alloc, world, Event::Deliver { pack, witness })
 }
 
 #[test]
@@ -204,32 +179,8 @@ fn delivered_at_home<S: Evidence<Tally>>(alloc: Global) -> Result<[(u8, u64); 2]
     let world = &mut world;
     tell(alloc, world, Event::Summarise { witness: 0 });
     take(alloc, &Tally, world, 0, item)?;
-    tell(
-        alloc,
-        world,
-        Event::Pack {
-            witness: 0,
-            summary: 0,
-        },
-    );
-    Ok([
-        tell(
-            alloc,
-            world,
-            Event::Deliver {
-                pack: 0,
-                witness: 0,
-            },
-        ),
-        tell(
-            alloc,
-            world,
-            Event::Deliver {
-                pack: 0,
-                witness: 0,
-            },
-        ),
-    ])
+    pack_against(alloc, world, 0, 0);
+    Ok([deliver(alloc, world, 0, 0), deliver(alloc, world, 0, 0)])
 }
 
 #[test]
@@ -247,30 +198,9 @@ fn refusals_in_a_small_world<S: Evidence<Tally>>(alloc: Global) -> Result<[(u8, 
     let node = NodeId(3);
     tell(alloc, world, Event::Summarise { witness: 0 });
     Ok([
-        tell(
-            alloc,
-            world,
-            Event::Pack {
-                witness: 1,
-                summary: 1,
-            },
-        ),
-        tell(
-            alloc,
-            world,
-            Event::Pack {
-                witness: 0,
-                summary: 1,
-            },
-        ),
-        tell(
-            alloc,
-            world,
-            Event::Deliver {
-                pack: 0,
-                witness: 0,
-            },
-        ),
+        pack_against(alloc, world, 1, 1),
+        pack_against(alloc, world, 0, 1),
+        deliver(alloc, world, 0, 0),
         tell(alloc, world, Event::Ask { witness: 1, node }),
         tell(alloc, world, Event::Ask { witness: 0, node }),
         short(alloc, world, 1, 0),

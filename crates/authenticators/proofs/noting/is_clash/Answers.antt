@@ -1,8 +1,8 @@
-use Rattle.authenticators.proofs.ClashNotes.{clash_by, no_clash, one_node}
+use Rattle.authenticators.proofs.ClashNotes.{clash_by, no_clash, one_point}
 use Rattle.authenticators.proofs.noting.is_clash.Goals as goal
 
-pub first_conflict-requires-clause-one_node : goal.first_conflict-requires-clause-one_node
-first_conflict-requires-clause-one_node c = one_node c.args.held.now c.range.result.now c.args.clash.now c.range.ensures
+pub conflict_among-requires-clause-one_point : goal.conflict_among-requires-clause-one_point
+conflict_among-requires-clause-one_point c = one_point c.args.held.now c.range.result.now c.args.clash.now c.range.ensures
 
 pub returns-in-None-clause-no : goal.returns-in-None-clause-no
 returns-in-None-clause-no c = λ _. no_clash c.args.held.now c.range.result.now c.args.clash.now c.range.ensures c.in-None.ensures.none

@@ -1,0 +1,97 @@
+//! Explanations, as texts for a person to read.
+
+ghost use Rattle.std.specs.Prelude.{◌≡◌, ◌⊎◌, IfErr, IfOk, false, is_some, true};
+ghost use Rattle.byte_calls.specs.declared.refusal.Refusal.{Refusal as TheRefusal};
+ghost use Rattle.byte_calls.specs.declared.refusal.Refusal.TheVariants.{Memory};
+ghost use Rattle.byte_calls.specs.Explanations.{TellsOfAll};
+ghost use Rattle.byte_calls.specs.Refusals.{number_of as refusal_number};
+ghost use Rattle.bulwynef_c.specs.Calls.{ExplainFails, Explains};
+ghost use Rattle.bulwynef_c.specs.Handles.{Is, IsStore, IsText, Says, StoreRefuses};
+
+use crate::handle::Handle;
+use crate::object::Object;
+use crate::taking::{put, taken, told};
+use byte_calls::{Refusal, explaining};
+use mailbox::Mailbox;
+use ref_programs::{Relay, Tally};
+use std::alloc::Global;
+
+/// What a store says of each node, and why.
+fn explained(alloc: Global, object: &Object) -> Result<Vec<u8>, Refusal>
+    ensures told { IfOk result (λ text. IsStore (λ S p s. TellsOfAll p s text.items) object.now) }
+    ensures refused { IfErr result (λ f. StoreRefuses (λ S p s e. e ≡ Memory) object.now f) }
+{
+    match object {
+        Object::TallyStore(store) => explaining::store(alloc, &Tally, store),
+        Object::RelayStore(store) => explaining::store(alloc, &Relay, store),
+        Object::MailboxStore(store) => explaining::store(alloc, &Mailbox, store),
+        _ => Err(Refusal::OtherKind),
+    }
+}
+
+/// `uint8_t bulwynef_store_explain(struct bulwynef_handle *store, struct bulwynef_handle *text)`: what the items say of each listed
+/// node, and why.
+#[unsafe(no_mangle)]
+pub extern "C" fn bulwynef_store_explain(alloc: Global, store: &mut Handle, text: &mut Handle) -> u8
+    ensures text { result ≡ 0 → Is (λ x. Is (IsText (λ t. IsStore (λ S p s. TellsOfAll p s t) x)) text.new.value) store.old.value }
+    ensures still_open { is_some text.old.value ≡ true → result ≡ 114 }
+    ensures number { is_some text.old.value ≡ false → (result ≡ 0 → ⊥) → (result ≡ 99) ⊎ Says (StoreRefuses (λ S p s e. e ≡ Memory)) store.old.value result }
+    ensures refused { (result ≡ 0 → ⊥) → text.new.value ≡ text.old.value }
+    ensures store { store.new.value ≡ store.old.value }
+{
+    if text.is_open() {
+        return told(Refusal::StillOpen);
+    }
+    let Some(object) = taken(alloc, store) else {
+        return told(Refusal::Closed);
+    };
+    let answer = explained(alloc, &object);
+    *store = Handle::of(object);
+    match answer {
+        Ok(bytes) => put(alloc, text, Object::Text(bytes)),
+        Err(refusal) => told(refusal),
+    }
+}
+
+/// Whom a proof convicts, and why, where nodes follow the program with this number.
+fn explained_proof(
+    alloc: Global,
+    program: u8,
+    directory: &[u8],
+    proof: &[u8],
+) -> Result<Vec<u8>, Refusal>
+    ensures told { IfOk result (λ text. Explains program directory.now proof.now text.items) }
+    ensures refused { IfErr result (λ f. ExplainFails program directory.now proof.now f) }
+{
+    match program {
+        1 => explaining::proof(alloc, &Tally, directory, proof),
+        2 => explaining::proof(alloc, &Relay, directory, proof),
+        3 => explaining::proof(alloc, &Mailbox, directory, proof),
+        _ => Err(Refusal::BadProgram),
+    }
+}
+
+/// `uint8_t bulwynef_explain_proof(uint8_t program, const uint8_t *directory, size_t directory_len, const uint8_t *proof, size_t
+/// proof_len, struct bulwynef_handle *text)`: whom a proof convicts, and why, where nodes follow the program (1 Tally, 2 Relay,
+/// 3 Mailbox).
+#[unsafe(no_mangle)]
+pub extern "C" fn bulwynef_explain_proof(
+    alloc: Global,
+    program: u8,
+    directory: &[u8],
+    proof: &[u8],
+    text: &mut Handle,
+) -> u8
+    ensures text { result ≡ 0 → Is (IsText (λ t. Explains program directory.now proof.now t)) text.new.value }
+    ensures still_open { is_some text.old.value ≡ true → result ≡ 114 }
+    ensures number { is_some text.old.value ≡ false → (result ≡ 0 → ⊥) → (result ≡ 99) ⊎ ((f : TheRefusal) × (result ≡ refusal_number f) × ExplainFails program directory.now proof.now f) }
+    ensures refused { (result ≡ 0 → ⊥) → text.new.value ≡ text.old.value }
+{
+    if text.is_open() {
+        return told(Refusal::StillOpen);
+    }
+    match explained_proof(alloc, program, directory, proof) {
+        Ok(bytes) => put(alloc, text, Object::Text(bytes)),
+        Err(refusal) => told(refusal),
+    }
+}

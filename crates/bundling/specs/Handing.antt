@@ -1,0 +1,58 @@
+-- What is handed over: the bundle of a directory and of a proof that convicts a node.
+use Rattle.std.specs.Prelude.{◌≡◌, ℕ, List, ◌++◌, codes, decimal}
+use Rattle.replay_verifier.specs.Meaning.{Meaning}
+use Rattle.proofs.specs.declared.proof.Parts.{Parts}
+use Rattle.proofs.specs.declared.proof.Parts.TheVariants as parts
+use Rattle.bundles.specs.Spelling.{Contents, IsBundle, text_of}
+use Rattle.bundling.specs.declared.fault.MakeFault.{MakeFault}
+use Rattle.bundling.specs.declared.fault.MakeFault.TheVariants as making
+use Rattle.bundling.specs.Convicting.{RefusesTexts, TextsConvict}
+
+-- ---- sentences
+
+-- Who is exposed, under which program.
+abbrev pub heading : ℕ → List ℕ → List ℕ
+heading node name = codes "# Node " ++ decimal node ++ codes " is exposed, where it was to follow the program " ++ name ++ codes ".\n"
+
+abbrev pub two_hashes : ℕ → List ℕ
+two_hashes seq = codes "# It signed two hashes for entry " ++ decimal seq ++ codes " of its log.\n"
+
+abbrev pub contradiction : ℕ → List ℕ
+contradiction seq = codes "# The hash that it signed for entry " ++ decimal seq ++ codes " of its log contradicts a part of the log that it signed too.\n"
+
+unfoldable pub no_log : List ℕ
+no_log = codes "# It signed a part of its log that is of no log of a node which follows this program.\n"
+
+-- Why, by the form of the proof.
+abbrev pub reason : Parts → List ℕ
+reason (parts.TwoAuths a b) = two_hashes a.seq
+reason (parts.AuthSegment a s) = contradiction a.seq
+reason (parts.Nonconforming s) = no_log
+
+-- How it is checked.
+unfoldable pub advice : List ℕ
+advice = codes "# Believe no sentence of this file. Compare the directory's sum and the program's name, which stand below, with what you got by\n# another way than this file, and check the proof by one of these:\n#   bulwynef check FILE\n#   python3 check.py --why FILE\n"
+
+abbrev pub sentences_of : ℕ → List ℕ → Parts → List ℕ
+sentences_of node name x = heading node name ++ reason x ++ advice
+
+-- ---- the bundle
+
+-- Behind these sentences stand those of the caller.
+abbrev pub handed : ℕ → Parts → List ℕ → List ℕ → List ℕ → List ℕ → Contents
+handed node x name directory proof more =
+    record { sentences = sentences_of node name x ++ more; program = name; node = node; directory = directory; proof = proof }
+
+-- The text is that of the bundle.
+pub record IsMade {S : Type 0} (program : Meaning S) (name directory proof more text : List ℕ) : Type 0 where
+  pub node : ℕ
+  pub parts : Parts
+  pub convicts : TextsConvict program directory proof node parts
+  pub spelled : IsBundle (handed node parts name directory proof more)
+  pub is : text ≡ text_of (handed node parts name directory proof more)
+
+-- Why none is made: the texts convict nobody, or a part is not spelled as bundles have it.
+abbrev pub RefusesMaking : {S : Type 0} → Meaning S → List ℕ → List ℕ → List ℕ → List ℕ → MakeFault → Type 0
+RefusesMaking program name directory proof more (making.Text f) = RefusesTexts program directory proof f
+RefusesMaking program name directory proof more making.BadBundle =
+    (node : ℕ) × (x : Parts) × TextsConvict program directory proof node x × (IsBundle (handed node x name directory proof more) → ⊥)

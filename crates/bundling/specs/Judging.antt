@@ -1,0 +1,47 @@
+-- What is said of a bundle, by its directory and its proof alone.
+use Rattle.std.specs.Prelude.{◌≡◌, ◌==◌, ℕ, List, [], ◌++◌, codes, decimal, if◌then◌else◌, Ok}
+use Rattle.std.specs.Str.{bytes_eq}
+use Rattle.hex.specs.Hex.{encode_lower}
+use Rattle.sha2.specs.Sha256.{sha256}
+use Rattle.replay_verifier.specs.Meaning.{Meaning}
+use Rattle.proofs.specs.declared.proof.Parts.{Parts}
+use Rattle.bundles.specs.Grammar.{bundle_of}
+use Rattle.bundles.specs.Spelling.{Contents}
+use Rattle.bundling.specs.Convicting.{TextsConvict}
+use Rattle.bundling.specs.Handing.{IsMade}
+
+-- Whom the proof convicts, under which program and which directory.
+abbrev pub found : ℕ → List ℕ → List ℕ → List ℕ
+found node name directory = codes "exposes " ++ decimal node ++ codes "\nprogram " ++ name ++ codes "\ndirectory " ++ encode_lower (sha256 directory) ++ codes "\n"
+
+-- ---- where the bundle says otherwise
+
+abbrev pub other_node : ℕ → ℕ → List ℕ
+other_node node said = if node == said then [] else codes "disagrees: the bundle says that it exposes " ++ decimal said ++ codes "\n"
+
+abbrev pub other_program : List ℕ → List ℕ → List ℕ
+other_program name said = if bytes_eq name said then [] else codes "disagrees: the bundle names the program " ++ said ++ codes "\n"
+
+abbrev pub other_directory : List ℕ → List ℕ → List ℕ
+other_directory directory own = if bytes_eq directory own then [] else codes "disagrees: the bundle has the directory " ++ encode_lower (sha256 own) ++ codes "\n"
+
+-- ---- the judgement
+
+abbrev pub judgement : ℕ → List ℕ → List ℕ → Contents → List ℕ
+judgement node name directory b = found node name directory ++ other_node node b.node ++ other_program name b.program ++ other_directory directory b.directory
+
+-- The text says of a bundle whom its proof convicts under the program, which has this name, and the directory.
+pub record IsJudged {S : Type 0} (program : Meaning S) (name directory : List ℕ) (b : Contents) (text : List ℕ) : Type 0 where
+  pub node : ℕ
+  pub parts : Parts
+  pub convicts : TextsConvict program directory b.proof node parts
+  pub is : text ≡ judgement node name directory b
+
+-- ---- laws, which `laws` proves
+
+-- What is made is read as a bundle that has these texts, and judged to expose the node that it names; nothing disagrees.
+abbrev pub MadeBundlesAreConfirmed : Type 0 → Type 0
+MadeBundlesAreConfirmed S =
+    (program : Meaning S) (name directory proof more text : List ℕ) (made : IsMade program name directory proof more text)
+    → (b : Contents) × (bundle_of text ≡ Ok b) × (b.node ≡ made.node) × (b.program ≡ name) × (b.directory ≡ directory) × (b.proof ≡ proof)
+    × ((judged : List ℕ) → IsJudged program name directory b judged → judged ≡ found b.node name directory)

@@ -1,0 +1,4 @@
+pub mod Convicting
+pub mod Handing
+pub mod Judging
+pub mod JudgingJson

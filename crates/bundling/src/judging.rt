@@ -1,0 +1,134 @@
+//! Judging a bundle.
+
+ghost use Rattle.std.specs.Prelude.{◌≡◌, IfOk, MatchResult};
+ghost use Rattle.hex.specs.Hex.{encode_lower};
+ghost use Rattle.sha2.specs.Sha256.{sha256};
+ghost use Rattle.bundling.specs.Convicting.{RefusesTexts};
+ghost use Rattle.bundling.specs.Judging.{IsJudged, found, judgement, other_directory, other_node, other_program};
+
+use crate::convicting::convicted;
+use crate::fault::TextFault;
+use crate::sentences::decimal_of;
+use authenticators::NodeId;
+use bundles::OpenBundle;
+use replay_verifier::Program;
+use sha2::{Digest, Sha256};
+use std::alloc::{AllocError, Global};
+
+/// The SHA-256 value of the bytes, in digits.
+pub(crate) fn sum_of(bytes: &[u8]) -> [u8; 64]
+    ensures { result ≡ encode_lower (sha256 bytes.now) }
+{
+    let mut sum = [0u8; 64];
+    let Ok(()) = hex::encode_to_slice(Sha256::digest(bytes), &mut sum) else {
+        unreachable!();
+    };
+    sum
+}
+
+/// Whom the proof convicts, under which program and which directory.
+fn found_of(
+    alloc: Global,
+    node: NodeId,
+    name: &[u8],
+    directory: &[u8],
+) -> Result<Vec<u8>, AllocError>
+    ensures { IfOk result (λ lines. lines.items ≡ found node name.now directory.now) }
+{
+    let number = decimal_of(alloc, u64::from(node.0))?;
+    let sum = sum_of(directory);
+    let mut lines = Vec::new(alloc);
+    lines.extend_from_slice(b"exposes ")?;
+    lines.extend_from_slice(number.as_bytes())?;
+    lines.extend_from_slice(b"\nprogram ")?;
+    lines.extend_from_slice(name)?;
+    lines.extend_from_slice(b"\ndirectory ")?;
+    lines.extend_from_slice(&sum)?;
+    lines.extend_from_slice(b"\n")?;
+    Ok(lines)
+}
+
+/// The line about the node, where the bundle names another.
+fn other_node_of(alloc: Global, node: NodeId, said: u64) -> Result<Vec<u8>, AllocError>
+    ensures { IfOk result (λ line. line.items ≡ other_node node said) }
+{
+    let mut line = Vec::new(alloc);
+    if u64::from(node.0) == said {
+        return Ok(line);
+    }
+    let number = decimal_of(alloc, said)?;
+    line.extend_from_slice(b"disagrees: the bundle says that it exposes ")?;
+    line.extend_from_slice(number.as_bytes())?;
+    line.extend_from_slice(b"\n")?;
+    Ok(line)
+}
+
+/// The line about the program, where the bundle names another.
+fn other_program_of(alloc: Global, name: &[u8], said: &[u8]) -> Result<Vec<u8>, AllocError>
+    ensures { IfOk result (λ line. line.items ≡ other_program name.now said.now) }
+{
+    let mut line = Vec::new(alloc);
+    if name == said {
+        return Ok(line);
+    }
+    line.extend_from_slice(b"disagrees: the bundle names the program ")?;
+    line.extend_from_slice(said)?;
+    line.extend_from_slice(b"\n")?;
+    Ok(line)
+}
+
+/// The line about the directory, where the bundle has another.
+fn other_directory_of(alloc: Global, directory: &[u8], own: &[u8]) -> Result<Vec<u8>, AllocError>
+    ensures { IfOk result (λ line. line.items ≡ other_directory directory.now own.now) }
+{
+    let mut line = Vec::new(alloc);
+    if directory == own {
+        return Ok(line);
+    }
+    let sum = sum_of(own);
+    line.extend_from_slice(b"disagrees: the bundle has the directory ")?;
+    line.extend_from_slice(&sum)?;
+    line.extend_from_slice(b"\n")?;
+    Ok(line)
+}
+
+/// All lines.
+fn judgement_of(
+    alloc: Global,
+    node: NodeId,
+    name: &[u8],
+    directory: &[u8],
+    bundle: &OpenBundle,
+) -> Result<Vec<u8>, AllocError>
+    ensures { IfOk result (λ text. text.items ≡ judgement node name.now directory.now bundle.now) }
+{
+    let found = found_of(alloc, node, name, directory)?;
+    let other_node = other_node_of(alloc, node, bundle.node)?;
+    let other_program = other_program_of(alloc, name, bundle.program)?;
+    let other_directory = other_directory_of(alloc, directory, &bundle.directory)?;
+    let mut text = Vec::new(alloc);
+    text.extend_from_slice(&found)?;
+    text.extend_from_slice(&other_node)?;
+    text.extend_from_slice(&other_program)?;
+    text.extend_from_slice(&other_directory)?;
+    Ok(text)
+}
+
+/// Whom the bundle's proof convicts under the program, which has this name, and the directory: `exposes ID`, `program NAME` and
+/// `directory SUM`, each with a line feed; and a line `disagrees: ..` where the bundle names another node or program, or has another
+/// directory.
+///
+/// It is refused where the texts convict nobody, the directory's fault before the proof's. Memory may run out in place of these.
+pub fn judge<P: Program>(
+    alloc: Global,
+    program: &P,
+    name: &[u8],
+    directory: &[u8],
+    bundle: &OpenBundle,
+) -> Result<Vec<u8>, TextFault>
+    ensures { MatchResult result (λ text. IsJudged P.means name.now directory.now bundle.now text.items) (λ f. RefusesTexts P.means directory.now bundle.now.proof f) }
+{
+    let found = convicted(alloc, program, directory, &bundle.proof)?;
+    let text = judgement_of(alloc, found.node, name, directory, bundle)?;
+    Ok(text)
+}

@@ -1,0 +1,75 @@
+//! Judging a bundle, for programs.
+
+ghost use Rattle.std.specs.Prelude.{◌≡◌, IfOk, MatchResult};
+ghost use Rattle.bundling.specs.Convicting.{RefusesTexts};
+ghost use Rattle.bundling.specs.JudgingJson.{IsJudgedInJson, document, members};
+
+use crate::convicting::convicted;
+use crate::fault::TextFault;
+use crate::judging::sum_of;
+use crate::sentences::decimal_of;
+use authenticators::NodeId;
+use bundles::OpenBundle;
+use replay_verifier::Program;
+use std::alloc::{AllocError, Global};
+
+/// Whom a proof convicts, under which program and which directory.
+fn members_of(
+    alloc: Global,
+    node: u64,
+    name: &[u8],
+    directory: &[u8],
+) -> Result<Vec<u8>, AllocError>
+    ensures { IfOk result (λ text. text.items ≡ members node name.now directory.now) }
+{
+    let number = decimal_of(alloc, node)?;
+    let sum = sum_of(directory);
+    let mut text = Vec::new(alloc);
+    text.extend_from_slice(b"\"exposes\":")?;
+    text.extend_from_slice(number.as_bytes())?;
+    text.extend_from_slice(b",\"program\":\"")?;
+    text.extend_from_slice(name)?;
+    text.extend_from_slice(b"\",\"directory\":\"")?;
+    text.extend_from_slice(&sum)?;
+    text.extend_from_slice(b"\"")?;
+    Ok(text)
+}
+
+/// What is found, and what the bundle says.
+fn document_of(
+    alloc: Global,
+    node: NodeId,
+    name: &[u8],
+    directory: &[u8],
+    bundle: &OpenBundle,
+) -> Result<Vec<u8>, AllocError>
+    ensures { IfOk result (λ text. text.items ≡ document node name.now directory.now bundle.now) }
+{
+    let found = members_of(alloc, u64::from(node.0), name, directory)?;
+    let said = members_of(alloc, bundle.node, bundle.program, &bundle.directory)?;
+    let mut text = Vec::new(alloc);
+    text.extend_from_slice(b"{")?;
+    text.extend_from_slice(&found)?;
+    text.extend_from_slice(b",\"bundle\":{")?;
+    text.extend_from_slice(&said)?;
+    text.extend_from_slice(b"}}\n")?;
+    Ok(text)
+}
+
+/// Whom the bundle's proof convicts under the program, which has this name, and the directory, and what the bundle says of that, as a
+/// document of JSON (RFC 8259) in one line. Names are of `a` to `z`, `0` to `9` and `_`.
+///
+/// It is refused where the texts convict nobody, the directory's fault before the proof's. Memory may run out in place of these.
+pub fn judge_in_json<P: Program>(
+    alloc: Global,
+    program: &P,
+    name: &[u8],
+    directory: &[u8],
+    bundle: &OpenBundle,
+) -> Result<Vec<u8>, TextFault>
+    ensures { MatchResult result (λ text. IsJudgedInJson P.means name.now directory.now bundle.now text.items) (λ f. RefusesTexts P.means directory.now bundle.now.proof f) }
+{
+    let found = convicted(alloc, program, directory, &bundle.proof)?;
+    let text = document_of(alloc, found.node, name, directory, bundle)?;
+    Ok(text)
+}

@@ -1,0 +1,42 @@
+//! Making a bundle.
+
+ghost use Rattle.std.specs.Prelude.{MatchResult};
+ghost use Rattle.bundling.specs.Handing.{IsMade, RefusesMaking};
+
+use crate::convicting::convicted;
+use crate::fault::{MakeFault, TextFault};
+use crate::sentences::sentences;
+use bundles::{Bundle, WriteFault, write};
+use replay_verifier::Program;
+use std::alloc::Global;
+
+/// The text of the bundle of a directory and a proof, of nodes that were to follow the program of this name. Its sentences say who is
+/// exposed, why, and how that is checked; behind them stand those of the caller.
+///
+/// It is refused where the texts convict nobody, the directory's fault before the proof's; with `BadBundle` (106) where the name, the
+/// caller's sentences or a length is not spelled as bundles have it. Memory may run out in place of any of these.
+pub fn make<P: Program>(
+    alloc: Global,
+    program: &P,
+    name: &[u8],
+    directory: &[u8],
+    proof: &[u8],
+    more: &[u8],
+) -> Result<Vec<u8>, MakeFault>
+    ensures { MatchResult result (λ text. IsMade P.means name.now directory.now proof.now more.now text.items) (λ f. RefusesMaking P.means name.now directory.now proof.now more.now f) }
+{
+    let found = convicted(alloc, program, directory, proof)?;
+    let sentences = sentences(alloc, found.node, name, found.proof.parts(), more)?;
+    let bundle = Bundle {
+        sentences: &sentences,
+        program: name,
+        node: u64::from(found.node.0),
+        directory,
+        proof,
+    };
+    match write(alloc, &bundle) {
+        Ok(text) => Ok(text),
+        Err(WriteFault::BadBundle) => Err(MakeFault::BadBundle),
+        Err(WriteFault::Memory) => Err(MakeFault::Text(TextFault::Memory)),
+    }
+}

@@ -1,0 +1,109 @@
+//! What a bundle says to people: who is exposed, why, and how that is checked.
+
+ghost use Rattle.std.specs.Prelude.{◌≡◌, ◌++◌, IfOk, decimal, string_bytes};
+ghost use Rattle.bundling.specs.Handing.{advice, contradiction, heading, no_log, reason, sentences_of, two_hashes};
+
+use authenticators::NodeId;
+use proofs::Parts;
+use std::alloc::{AllocError, Global};
+
+/// A number in decimal digits.
+pub(crate) fn decimal_of(alloc: Global, number: u64) -> Result<String, AllocError>
+    ensures { IfOk result (λ word. string_bytes word ≡ decimal number) }
+{
+    format!(in alloc; "{number}")
+}
+
+/// Who is exposed, under which program.
+fn heading_of(alloc: Global, node: NodeId, name: &[u8]) -> Result<Vec<u8>, AllocError>
+    ensures { IfOk result (λ line. line.items ≡ heading node name.now) }
+{
+    let number = decimal_of(alloc, u64::from(node.0))?;
+    let mut line = Vec::new(alloc);
+    line.extend_from_slice(b"# Node ")?;
+    line.extend_from_slice(number.as_bytes())?;
+    line.extend_from_slice(b" is exposed, where it was to follow the program ")?;
+    line.extend_from_slice(name)?;
+    line.extend_from_slice(b".\n")?;
+    Ok(line)
+}
+
+/// The node signed two hashes.
+fn two_hashes_of(alloc: Global, seq: u64) -> Result<Vec<u8>, AllocError>
+    ensures { IfOk result (λ line. line.items ≡ two_hashes seq) }
+{
+    let number = decimal_of(alloc, seq)?;
+    let mut line = Vec::new(alloc);
+    line.extend_from_slice(b"# It signed two hashes for entry ")?;
+    line.extend_from_slice(number.as_bytes())?;
+    line.extend_from_slice(b" of its log.\n")?;
+    Ok(line)
+}
+
+/// The node signed a hash and a part of its log that do not go together.
+fn contradiction_of(alloc: Global, seq: u64) -> Result<Vec<u8>, AllocError>
+    ensures { IfOk result (λ line. line.items ≡ contradiction seq) }
+{
+    let number = decimal_of(alloc, seq)?;
+    let mut line = Vec::new(alloc);
+    line.extend_from_slice(b"# The hash that it signed for entry ")?;
+    line.extend_from_slice(number.as_bytes())?;
+    line.extend_from_slice(b" of its log contradicts a part of the log that it signed too.\n")?;
+    Ok(line)
+}
+
+/// The node signed what is of no log that it may have.
+#[tactic(auto, unfolding(crate::specs::Handing::no_log))]
+fn no_log_of(alloc: Global) -> Result<Vec<u8>, AllocError>
+    ensures { IfOk result (λ line. line.items ≡ no_log) }
+{
+    let mut line = Vec::new(alloc);
+    line.extend_from_slice(
+        b"# It signed a part of its log that is of no log of a node which follows this program.\n",
+    )?;
+    Ok(line)
+}
+
+/// Why the node is exposed.
+fn reason_of(alloc: Global, parts: &Parts) -> Result<Vec<u8>, AllocError>
+    ensures { IfOk result (λ line. line.items ≡ reason parts.now) }
+{
+    match parts {
+        Parts::TwoAuths(first, _) => two_hashes_of(alloc, first.seq),
+        Parts::AuthSegment(auth, _) => contradiction_of(alloc, auth.seq),
+        Parts::Nonconforming(_) => no_log_of(alloc),
+    }
+}
+
+/// How the proof is checked.
+#[tactic(auto, unfolding(crate::specs::Handing::advice))]
+fn advice_of(alloc: Global) -> Result<Vec<u8>, AllocError>
+    ensures { IfOk result (λ lines. lines.items ≡ advice) }
+{
+    let mut lines = Vec::new(alloc);
+    lines.extend_from_slice(
+        b"# Believe no sentence of this file. Compare the directory's sum and the program's name, which stand below, with what you got by\n# another way than this file, and check the proof by one of these:\n#   bulwynef check FILE\n#   python3 check.py --why FILE\n",
+    )?;
+    Ok(lines)
+}
+
+/// All sentences, those of the caller last.
+pub(crate) fn sentences(
+    alloc: Global,
+    node: NodeId,
+    name: &[u8],
+    parts: &Parts,
+    more: &[u8],
+) -> Result<Vec<u8>, AllocError>
+    ensures { IfOk result (λ text. text.items ≡ sentences_of node name.now parts.now ++ more.now) }
+{
+    let heading = heading_of(alloc, node, name)?;
+    let reason = reason_of(alloc, parts)?;
+    let advice = advice_of(alloc)?;
+    let mut text = Vec::new(alloc);
+    text.extend_from_slice(&heading)?;
+    text.extend_from_slice(&reason)?;
+    text.extend_from_slice(&advice)?;
+    text.extend_from_slice(more)?;
+    Ok(text)
+}
