@@ -1,7 +1,7 @@
 /* Bulwynef for C, and for what calls C: stores of evidence, nodes that answer for what they did, and proofs that a third party checks.
  *
- * Link with libbulwynef.a, which c/run.py builds of the crate bulwynef_c, and with heap.c. Each call is proved against its contract
- * (crates/bulwynef_c/src). docs/FORMATS.md has the bytes of every text.
+ * Link with libbulwynef.a, which c/run.py makes of the crate bulwynef_c and of heap.c; c/example.c is a program that does. Each call is
+ * proved against its contract (crates/bulwynef_c/src). docs/FORMATS.md has the bytes of every text.
  *
  * Every call but two answers a number: 0, or that of a refusal, and then nothing has changed, but where it says so below. No call
  * aborts, blocks, keeps a pointer, or writes behind the room that it is handed.
@@ -51,14 +51,31 @@ struct bulwynef_handle { void *at; bool is_open; };
 uint8_t bulwynef_check_proof(uint8_t program, const uint8_t *directory, size_t directory_len, const uint8_t *proof, size_t proof_len,
                              uint32_t *node);
 
+/* Whom a proof convicts, and why, for a person to read: a line for the whole, the line `NODE exposed`, and sentences, each in a line behind
+   two blanks. 114 the handle is open; else refused as bulwynef_check_proof refuses. */
+uint8_t bulwynef_explain_proof(uint8_t program, const uint8_t *directory, size_t directory_len, const uint8_t *proof, size_t proof_len,
+                               struct bulwynef_handle *text);
+
 /* The 56 bytes of the public key of a seed, as a directory has them. Refused, in this order: 117 the room is not 56 bytes; 2 and 3 an
-   unknown type; 117 the identifier is not 16 bytes, or the seed not 32; 4 a tree above H10. */
+   unknown type; 117 the identifier is not 16 bytes, or the seed not 32; 4 a tree above H10.
+
+       uint8_t key[BULWYNEF_PUBLIC_KEY_LEN];
+       uint8_t refused = bulwynef_public_key(BULWYNEF_H10, BULWYNEF_W8, key_id, 16, seed, 32, key, sizeof key); */
 uint8_t bulwynef_public_key(uint32_t lms_type, uint32_t ots_type, const uint8_t *key_id, size_t key_id_len, const uint8_t *seed,
                             size_t seed_len, uint8_t *key, size_t key_len);
 
 /* ---- stores of evidence */
 
-/* A store without items, under the directory of a text. 114 the handle is open; 113 no such program; 2, 3, 20 to 26 of the text. */
+/* A store without items, under the directory of a text. 114 the handle is open; 113 no such program; 2, 3, 20 to 26 of the text.
+
+       struct bulwynef_handle store = {0};
+       uint64_t added;
+       uint8_t said;
+       uint8_t refused = bulwynef_store_open(BULWYNEF_TALLY, directory, directory_len, &store);
+       if (!refused) refused = bulwynef_store_import(&store, text, text_len, &added);
+       if (!refused) refused = bulwynef_store_indication(&store, 2, &said);
+       if (!refused && said == BULWYNEF_EXPOSED) puts("node 2 is exposed");
+       bulwynef_close(&store); */
 uint8_t bulwynef_store_open(uint8_t program, const uint8_t *directory, size_t directory_len, struct bulwynef_handle *store);
 
 /* Adds an item, and tells whether it is new (1) or was there (0). 40 to 43 of its text, 44 to 49 of the item. */
@@ -88,20 +105,39 @@ uint8_t bulwynef_store_indication(struct bulwynef_handle *store, uint32_t node, 
 uint8_t bulwynef_store_proof(struct bulwynef_handle *store, uint32_t node, struct bulwynef_handle *text);
 
 /* The challenge at a place, from 0, of those against a node that no item answers, in the order of their bytes: an item of tag 3 or 4, which
-   goes to the node (bulwynef_node_answer), and whose answer is taken. 44 it is not listed, 116 there are fewer. */
+   goes to the node (bulwynef_node_answer), and whose answer is taken. 44 it is not listed, 116 there are fewer.
+
+       for (size_t place = 0; bulwynef_store_challenge(&store, node, place, &text) == 0; place++) {
+           ask_the_node(&text);
+           bulwynef_close(&text);
+       } */
 uint8_t bulwynef_store_challenge(struct bulwynef_handle *store, uint32_t node, size_t place, struct bulwynef_handle *text);
+
+/* What the items say of each listed node, in ascending order, and why, for a person to read: a line for the whole, and of each node the
+   line `NODE trusted`, `NODE suspected` or `NODE exposed` and sentences, each in a line behind two blanks. */
+uint8_t bulwynef_store_explain(struct bulwynef_handle *store, struct bulwynef_handle *text);
 
 /* The one text of the items: stores of the same items have equal exports. */
 uint8_t bulwynef_store_export(struct bulwynef_handle *store, struct bulwynef_handle *text);
 
-/* ---- what stores give one another: an outline, a summary against it, and a pack of what the summary does not name */
+/* ---- what stores give one another: an outline, a summary against it, and a pack of what the summary does not name
 
+       bulwynef_store_outline(&mine, &outline);                            which goes to the other side
+       bulwynef_store_short_summary(&theirs, outline, outline_len, &text); whose summary comes back
+       bulwynef_store_pack(&mine, summary, summary_len, &text);            and the pack goes there
+       bulwynef_store_apply(&theirs, pack, pack_len, &added);              where now is all that is here */
+
+/* The outline of a store, of some 8 KB: the digest of the items in each of 256 buckets. */
 uint8_t bulwynef_store_outline(struct bulwynef_handle *store, struct bulwynef_handle *text);
+
+/* A summary that lists the digest of each item, 32 bytes each, for whoever has no outline. */
 uint8_t bulwynef_store_summary(struct bulwynef_handle *store, struct bulwynef_handle *text);
-/* 40, 43, 60 of the outline's text */
+
+/* A summary against an outline: the digests of the items in the buckets that differ. 40, 43, 60 of the outline's text. */
 uint8_t bulwynef_store_short_summary(struct bulwynef_handle *store, const uint8_t *outline, size_t outline_len,
                                      struct bulwynef_handle *text);
-/* 40, 41, 43, 60 to 62 of the summary's text */
+
+/* The items that the summary does not name. 40, 41, 43, 60 to 62 of the summary's text. */
 uint8_t bulwynef_store_pack(struct bulwynef_handle *store, const uint8_t *summary, size_t summary_len, struct bulwynef_handle *text);
 /* Adds the items of a pack, all or none. 40 to 49, 60, 61. */
 uint8_t bulwynef_store_apply(struct bulwynef_handle *store, const uint8_t *pack, size_t pack_len, uint64_t *added);
@@ -116,7 +152,12 @@ uint8_t bulwynef_node_new(uint8_t program, const uint8_t *directory, size_t dire
                           size_t seed_len, struct bulwynef_handle *node);
 
 /* The timer ticks at a moment, which may tell the program something (docs/PROGRAMS.md). 117 the entropy is not 32 bytes, 36 the key has
-   too few leaves left, 37 the log is full. */
+   too few leaves left, 37 the log is full. What it sends then waits:
+
+       uint64_t seq;
+       if (bulwynef_node_timer(&node, moment, entropy, 32) == 0)
+           for (size_t place = 0; bulwynef_node_waiting(&node, place, &seq) == 0; place++)
+               if (bulwynef_node_message(&node, seq, &text) == 0) { send_on(&text); bulwynef_close(&text); } */
 uint8_t bulwynef_node_timer(struct bulwynef_handle *node, uint64_t moment, const uint8_t *entropy, size_t entropy_len);
 
 /* The number of the message that waits at the place, from 0, for its acknowledgement; 116 where fewer wait. */
@@ -129,9 +170,17 @@ uint8_t bulwynef_node_message(struct bulwynef_handle *node, uint64_t seq, struct
 /* Answers an item of tag 4, a message: it is received, and its acknowledgement is an item of tag 5; or of tag 3, an audit, by a segment,
    an item of tag 2. What was answered before is answered as it was. 117 the entropy is not 32 bytes; 40 to 49 of the item; 72 it is no
    challenge, 70 it is another node's, 71 it names what is not in the log; 36, 37. Where the answer is 99 the node may have received the
-   message: the same call again answers it. */
+   message: the same call again answers it.
+
+       uint8_t refused = bulwynef_node_answer(&node, item, item_len, entropy, 32, &text);
+       if (refused == 99) refused = bulwynef_node_answer(&node, item, item_len, entropy, 32, &text);
+       if (!refused) { send_back(&text); bulwynef_close(&text); } */
 uint8_t bulwynef_node_answer(struct bulwynef_handle *node, const uint8_t *challenge, size_t challenge_len, const uint8_t *entropy,
                              size_t entropy_len, struct bulwynef_handle *text);
+
+/* The entries of its log, from the first to the last, each as a segment has it: number, kind, and content behind its length
+   (docs/FORMATS.md). Nothing is signed for it: whoever is to believe the log asks for it by an audit. */
+uint8_t bulwynef_node_history(struct bulwynef_handle *node, struct bulwynef_handle *text);
 
 /* Accepts an acknowledgement, an item of tag 5: its message waits no longer. 40 to 43, 41 also of another item; 38 it is of no message
    that was sent, or not valid for it. */

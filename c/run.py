@@ -1,9 +1,9 @@
 #!/usr/bin/env python3
 """Builds the test of libbulwynef.a as C11 and as C++, and runs it: the scene and the refusals of c/test.c, each allocation refused in turn,
-and the evidence of examples/ beside what second_opinion/check.py says of it. Builds checkproof as one static file, c/out/checkproof, and
-holds it to the same.
+and the evidence of examples/ beside what second_opinion/check.py says of it and what is stored in examples/explained. Runs c/example.c as
+both. Builds checkproof as one static file, c/out/checkproof, and holds it to the same.
 
-    run.py                     what the gate runs: wants crates/bulwynef_c/out/libbulwynef_c.a, which `rt lib` makes there
+    run.py                     wants crates/bulwynef_c/out/libbulwynef_c.a, which c/library.py makes
     run.py --cases FOLDER      also each case N of a folder with N.args, N.stdin, N.stdout and N.status
     run.py --sanitize          also with AddressSanitizer and UndefinedBehaviorSanitizer on the C side
     run.py --valgrind          also the scene and the refusals under valgrind
@@ -23,6 +23,14 @@ HERE = f"{TOP}/c"
 OUT = f"{HERE}/out"
 BUILT = f"{TOP}/crates/bulwynef_c/out/libbulwynef_c.a"
 EXAMPLES = "answer equivocation exchange hidden_entry second_key silence spreading status_equivocation two_witnesses wrong_output".split()
+# What c/example.c writes, without the sentences that say why
+WRITTEN = """a message to it: 2 is suspected
+its acknowledgement: 2 is trusted
+an acknowledgement by a second log: 2 is exposed
+the proof exposes 2
+The proof exposes node 2 by two statements.
+2 exposed
+"""
 SECOND = [sys.executable, f"{TOP}/second_opinion/check.py"]
 WARNINGS = ["-Wall", "-Wextra", "-Werror"]
 # How many words each command has beside --relay
@@ -43,6 +51,15 @@ def archive():
     subprocess.run(["ar", "r", f"{OUT}/libbulwynef.a", f"{OUT}/heap.o"], check=True, stderr=subprocess.DEVNULL)
 
 
+def differs_in_example(name, compiler):
+    """What c/example.c writes otherwise than is wanted, linked as its head says."""
+    program = f"{OUT}/{name}"
+    subprocess.run([*compiler, *WARNINGS, "-o", program, f"{HERE}/example.c", "-x", "none", f"{OUT}/libbulwynef.a"], check=True)
+    status, text, error = said([program], "")
+    lines = "".join(line for line in text.splitlines(keepends=True) if not line.startswith("  "))
+    return [] if (status, lines, error) == (0, WRITTEN, "") and lines != text else [f"{name}: {status} {text!r} {error!r}"]
+
+
 def said(words, given):
     ran = subprocess.run(words, input=given.encode("latin-1"), capture_output=True, timeout=300)
     return ran.returncode, ran.stdout.decode("latin-1"), ran.stderr.decode("latin-1")
@@ -54,16 +71,25 @@ def read(path):
 
 
 def differs_on_example(program, name):
-    """What the program says of an example otherwise than the second opinion: of each node, and by a proof of each that is exposed."""
+    """What the program says of an example otherwise than the second opinion, of each node and by a proof of each that is exposed, or than is
+    stored of why."""
     text = read(f"{TOP}/examples/{name}.txt")
     if text.count("\n") > 2:
         text = text.splitlines()[0] + "\n" + said([program, "merge"], text)[1]
     wanted = [said([*SECOND, "--store", "-"], text)[1], " ".join(said([*SECOND, "-"], text)[2].split()[:2]) + "\n"]
     found = [said([program, what], text)[1] for what in ("status", "check")]
     for node in [line.split()[0] for line in wanted[0].splitlines() if line.endswith(" exposed")]:
-        wanted.append(f"exposes {node}\n")
-        found.append(said([*SECOND, "-"], text.splitlines()[0] + "\n" + said([program, "prove", node], text)[1])[1])
+        proof = text.splitlines()[0] + "\n" + said([program, "prove", node], text)[1]
+        wanted += [f"exposes {node}\n", stored(f"{name}.proof{node}")]
+        found += [said([*SECOND, "-"], proof)[1], said([program, "proof"], proof)[1]]
+    wanted.append(stored(name))
+    found.append(said([program, "store"], text)[1])
     return [f"{name}: {one!r} and not {other!r}" for one, other in zip(found, wanted) if one != other]
+
+
+def stored(name):
+    """What is explained, without the three lines that say of which program, directory and evidence: who calls the library has these."""
+    return "".join(read(f"{TOP}/examples/explained/{name}.txt").splitlines(keepends=True)[3:])
 
 
 def checkproof():
@@ -133,7 +159,7 @@ def main():
     parser.add_argument("--archive", action="store_true")
     words = parser.parse_args()
     if not os.path.exists(BUILT):
-        sys.exit(f"{BUILT} is not there: `rt lib` in crates/bulwynef_c makes it")
+        sys.exit(f"{BUILT} is not there: c/library.py makes it")
     os.makedirs(OUT, exist_ok=True)
     archive()
     if words.archive:
@@ -146,7 +172,9 @@ def main():
     if words.valgrind:
         runs.append(["valgrind", "--quiet", "--leak-check=full", "--error-exitcode=9", program, "self"])
     wrong = sum(subprocess.run(run).returncode != 0 for run in runs)
-    for line in [*differs_on_checkproof(program, checkproof()), *(line for name in EXAMPLES for line in differs_on_example(program, name))]:
+    told = [*differs_in_example("example", ["cc", "-std=c11"]), *differs_in_example("example_cpp", ["g++", "-x", "c++"])]
+    told += differs_on_checkproof(program, checkproof())
+    for line in [*told, *(line for name in EXAMPLES for line in differs_on_example(program, name))]:
         print(line)
         wrong += 1
     if words.cases:

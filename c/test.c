@@ -3,6 +3,7 @@
  *   test self          the calls in a scene of two nodes and two witnesses, and what each refuses
  *   test fails         the scene again and again, with each allocation refused in turn: always 99, nothing changed, no block left
  *   test status|prove NODE|check|merge [--relay]   reads lines and writes what the command of node_sim does
+ *   test store|proof [--relay]                     reads a directory and a store or a proof, and writes what is explained of it
  */
 #include "bulwynef.h"
 #include <stdio.h>
@@ -47,6 +48,13 @@ static struct bytes text_of(struct bulwynef_handle *t) {
     bulwynef_close(t);
     return b;
 }
+/* whether the text has the line, with its line feed */
+static int has_line(struct bytes text, const char *line) {
+    size_t len = strlen(line), at;
+    for (at = 0; at + len < text.len; at++)
+        if ((at == 0 || text.at[at - 1] == '\n') && memcmp(text.at + at, line, len) == 0 && text.at[at + len] == '\n') return 1;
+    return 0;
+}
 static int same(struct bytes a, struct bytes b) { return a.len == b.len && memcmp(a.at, b.at, a.len) == 0; }
 
 /* ---- what a scene says: the first line that is not as wanted, or a refusal of memory */
@@ -66,24 +74,29 @@ static int holds(int line, int fact) {
 /* ---- the scene */
 enum { H = BULWYNEF_H5, W = BULWYNEF_W4 }; /* the keys of W4 are the quicker ones to make */
 static uint8_t ids[3][16], seeds[3][32], entropy[32];
-static uint8_t directory[12 + 2 * 61], other_directory[12 + 61];
+static uint8_t directory[12 + 61 + 56 + 61], other_directory[12 + 61];
 
 static void put_u32(uint8_t *at, uint32_t n) {
     at[0] = (uint8_t)(n >> 24); at[1] = (uint8_t)(n >> 16); at[2] = (uint8_t)(n >> 8); at[3] = (uint8_t)n;
 }
+static uint8_t put_key(uint8_t *at, int n) { return bulwynef_public_key(H, W, ids[n], 16, seeds[n], 32, at, 56); }
 static uint8_t listed(uint8_t *at, uint32_t node) {
     put_u32(at, node);
     at[4] = 1;
-    return bulwynef_public_key(H, W, ids[node], 16, seeds[node], 32, at + 5, 56);
+    return put_key(at + 5, (int)node);
 }
+/* node 1 has two keys, the second of which is key 0, and node 2 has one */
 static int begin(void) {
     int n;
     for (n = 0; n < 3; n++) { memset(ids[n], n, 16); memset(seeds[n], n + 100, 32); }
     memcpy(directory, "PRDIREC2", 8);
     put_u32(directory + 8, 2);
+    put_u32(directory + 12, 1);
+    directory[16] = 2;
     memcpy(other_directory, "PRDIREC2", 8);
     put_u32(other_directory + 8, 1);
-    return is(__LINE__, listed(directory + 12, 1), 0) && is(__LINE__, listed(directory + 73, 2), 0) && is(__LINE__, listed(other_directory + 12, 1), 0);
+    return is(__LINE__, put_key(directory + 17, 1), 0) && is(__LINE__, put_key(directory + 73, 0), 0)
+        && is(__LINE__, listed(directory + 129, 2), 0) && is(__LINE__, listed(other_directory + 12, 1), 0);
 }
 static uint8_t node_new(uint32_t id, struct bulwynef_handle *node) {
     return bulwynef_node_new(BULWYNEF_TALLY, directory, sizeof directory, id, 1, H, W, ids[id], 16, seeds[id], 32, node);
@@ -114,12 +127,13 @@ static uint8_t answered(struct bulwynef_handle *node, struct bytes challenge, st
 static struct bytes size_of_empty(void) { struct bytes b; b.at = (uint8_t *)calloc(16, 1); b.len = 16; if (b.at) memcpy(b.at, "PRSTORE2", 8); return b; }
 
 /* Node 1 sends node 2 a number, which acknowledges it; a second node 2 by the same key acknowledges another one under the same number, and
-   is exposed; one witness has the first half, another the other, and they exchange what they have. */
+   is exposed; one witness has the first half, another the other, and they exchange what they have; a third begins with their export. */
 static void scene(void) {
-    struct bulwynef_handle one = {0, false}, two = {0, false}, liar = {0, false}, a = {0, false}, b = {0, false}, t = {0, false};
+    struct bulwynef_handle one = {0, false}, two = {0, false}, liar = {0, false}, a = {0, false}, b = {0, false},
+                           c = {0, false}, t = {0, false};
     struct bytes message = nothing(), ack = nothing(), again = nothing(), other = nothing(), lie = nothing(), outline = nothing(),
                  summary = nothing(), pack = nothing(), left_text = nothing(), right_text = nothing(), proof = nothing(),
-                 open_one = nothing();
+                 open_one = nothing(), told = nothing(), whole = nothing(), rest = nothing();
     uint8_t said = 9, is_new = 9, includes = 9;
     uint32_t node = 0, leaves = 0;
     uint64_t added = 0, seq = 0;
@@ -151,10 +165,18 @@ static void scene(void) {
     WANT(bulwynef_node_accept_ack(&one, ack.at, ack.len), 0);
     WANT(bulwynef_node_waiting(&one, 0, &seq), 116);
     WANT(bulwynef_node_checkpoint(&one, &seq), 0);
+    /* entries of 13 bytes and a content: INIT 4, TIMER 8, SEND 4 and 9, CHECKPOINT 8 */
+    WANT(bulwynef_node_history(&one, &t), 0);
+    told = text_of(&t);
+    HOLDS(told.len == 85 && told.at[8] == 1 && told.at[25] == 4 && told.at[46] == 2 && told.at[72] == 5);
+    drop(&told);
     WANT(bulwynef_store_take(&a, ack.at, ack.len, &is_new), 0);
     WANT(bulwynef_store_indication(&a, 2, &said), 0);
     HOLDS(said == BULWYNEF_TRUSTED);
     WANT(bulwynef_store_challenge(&a, 2, 0, &t), 116);
+    WANT(bulwynef_node_next_key(&one, H, W, ids[0], 16, seeds[0], 32), 0);
+    WANT(bulwynef_node_remaining(&one, &leaves), 0);
+    HOLDS(leaves == 32);
     WANT(tick(&one, 6), 0);
     WANT(first_message(&one, &other), 0);
     WANT(answered(&liar, other, &lie), 0);
@@ -179,6 +201,15 @@ static void scene(void) {
     WANT(bulwynef_store_export(&b, &t), 0);
     right_text = text_of(&t);
     HOLDS(same(left_text, right_text));
+    WANT(bulwynef_store_open(BULWYNEF_TALLY, directory, sizeof directory, &c), 0);
+    WANT(bulwynef_store_import(&c, left_text.at, left_text.len, &added), 0);
+    HOLDS(added == 3);
+    WANT(bulwynef_store_summary(&c, &t), 0);
+    whole = text_of(&t);
+    WANT(bulwynef_store_pack(&b, whole.at, whole.len, &t), 0);
+    rest = text_of(&t);
+    WANT(bulwynef_store_apply(&c, rest.at, rest.len, &added), 0);
+    HOLDS(added == 0);
     WANT(bulwynef_store_indication(&b, 2, &said), 0);
     HOLDS(said == BULWYNEF_EXPOSED);
     WANT(bulwynef_store_indication(&b, 1, &said), 0);
@@ -187,11 +218,20 @@ static void scene(void) {
     proof = text_of(&t);
     WANT(bulwynef_check_proof(BULWYNEF_TALLY, directory, sizeof directory, proof.at, proof.len, &node), 0);
     HOLDS(node == 2);
+    WANT(bulwynef_explain_proof(BULWYNEF_TALLY, directory, sizeof directory, proof.at, proof.len, &t), 0);
+    told = text_of(&t);
+    HOLDS(has_line(told, "2 exposed"));
+    HOLDS(!has_line(told, "1 trusted"));
+    drop(&told);
+    WANT(bulwynef_store_explain(&a, &t), 0);
+    told = text_of(&t);
+    HOLDS(has_line(told, "1 trusted"));
+    HOLDS(has_line(told, "2 exposed"));
 end:
-    bulwynef_close(&one); bulwynef_close(&two); bulwynef_close(&liar); bulwynef_close(&a); bulwynef_close(&b); bulwynef_close(&t);
-    bulwynef_close(&a);
+    bulwynef_close(&one); bulwynef_close(&two); bulwynef_close(&liar); bulwynef_close(&a); bulwynef_close(&b); bulwynef_close(&c);
+    bulwynef_close(&t); bulwynef_close(&a);
     drop(&message); drop(&ack); drop(&again); drop(&other); drop(&lie); drop(&outline); drop(&summary); drop(&pack); drop(&left_text);
-    drop(&right_text); drop(&proof); drop(&open_one);
+    drop(&right_text); drop(&proof); drop(&open_one); drop(&told); drop(&whole); drop(&rest);
     if (!wrong && live) { fprintf(stderr, "%ld blocks are left\n", live); wrong = 1; }
 }
 
@@ -199,6 +239,7 @@ end:
 static void refusals(void) {
     struct bulwynef_handle a = {0, false}, b = {0, false}, n = {0, false}, t = {0, false}, m = {0, false};
     struct bytes text = nothing(), empty = size_of_empty();
+    static const uint8_t init[] = {0, 0, 0, 0, 0, 0, 0, 1, 1, 0, 0, 0, 4, 0, 0, 0, 1};
     uint8_t said = 9, is_new = 9, room[16], key[56];
     uint32_t node = 77, leaves = 77;
     uint64_t added = 77;
@@ -213,15 +254,21 @@ static void refusals(void) {
     WANT(bulwynef_check_proof(1, directory, sizeof directory - 1, room, 0, &node), 24);
     WANT(bulwynef_check_proof(1, directory, sizeof directory, room, 0, &node), 40);
     HOLDS(node == 77);
+    WANT(bulwynef_explain_proof(4, directory, sizeof directory, room, 0, &t), 113);
+    WANT(bulwynef_explain_proof(1, directory, 11, room, 0, &t), 24);
+    WANT(bulwynef_explain_proof(1, directory, sizeof directory, room, 0, &t), 40);
+    HOLDS(!t.is_open);
     /* closed handles */
     WANT(bulwynef_store_take(&a, room, 0, &is_new), 110);
     WANT(bulwynef_store_import(&a, room, 0, &added), 110);
     WANT(bulwynef_store_merge(&a, &b, &added), 110);
     WANT(bulwynef_store_indication(&a, 1, &said), 110);
     WANT(bulwynef_store_export(&a, &t), 110);
+    WANT(bulwynef_store_explain(&a, &t), 110);
     WANT(bulwynef_store_outline(&a, &t), 110);
     WANT(bulwynef_node_timer(&n, 1, entropy, 32), 110);
     WANT(bulwynef_node_remaining(&n, &leaves), 110);
+    WANT(bulwynef_node_history(&n, &t), 110);
     WANT(bulwynef_text_copy(&t, room, 0), 110);
     HOLDS(bulwynef_text_len(&t) == 0);
     bulwynef_close(&t);
@@ -256,9 +303,14 @@ static void refusals(void) {
     HOLDS(added == 0);
     WANT(bulwynef_store_export(&a, &t), 0);
     WANT(bulwynef_store_export(&a, &t), 114);
+    WANT(bulwynef_store_explain(&a, &t), 114);
+    WANT(bulwynef_explain_proof(1, directory, sizeof directory, room, 0, &t), 114);
+    WANT(bulwynef_store_explain(&t, &n), 111);
+    HOLDS(t.is_open && !n.is_open);
     WANT(bulwynef_store_indication(&t, 1, &said), 111);
     WANT(bulwynef_node_remaining(&t, &leaves), 111);
     WANT(bulwynef_node_remaining(&a, &leaves), 111);
+    WANT(bulwynef_node_history(&a, &n), 111);
     WANT(bulwynef_text_copy(&a, room, 16), 111);
     WANT(bulwynef_text_copy(&t, room, 15), 117);
     WANT(bulwynef_text_copy(&t, room, 16), 0);
@@ -273,6 +325,12 @@ static void refusals(void) {
     WANT(bulwynef_node_new(4, directory, sizeof directory, 1, 1, H, W, ids[1], 16, seeds[1], 32, &n), 113);
     HOLDS(!n.is_open);
     WANT(node_new(1, &n), 0);
+    /* the log has one entry, INIT with the number 1, of node 1 */
+    WANT(bulwynef_node_history(&n, &t), 0);
+    WANT(bulwynef_node_history(&n, &t), 114);
+    text = text_of(&t);
+    HOLDS(text.len == sizeof init && memcmp(text.at, init, sizeof init) == 0);
+    drop(&text);
     WANT(bulwynef_node_timer(&n, 1, entropy, 31), 117);
     WANT(bulwynef_node_message(&n, 9, &t), 116);
     WANT(bulwynef_node_answer(&n, room, 0, entropy, 32, &t), 40);
@@ -362,22 +420,35 @@ static int read_lines(struct bytes *lines, int *count, int is_merge) {
     }
     return is_bad ? 103 : *count < (is_merge ? 1 : 2) ? 104 : 0;
 }
+static int explained(uint8_t r, struct bulwynef_handle *text) {
+    struct bytes told;
+    if (r) return refused(r);
+    told = text_of(text);
+    fwrite(told.at, 1, told.len, stdout);
+    drop(&told);
+    return 0;
+}
+static int answer_of_proof(const char *what, uint8_t program, struct bytes d, struct bytes proof) {
+    struct bulwynef_handle text = {0, false};
+    uint32_t found = 0;
+    uint8_t r;
+    if (strcmp(what, "proof") == 0) return explained(bulwynef_explain_proof(program, d.at, d.len, proof.at, proof.len, &text), &text);
+    r = bulwynef_check_proof(program, d.at, d.len, proof.at, proof.len, &found);
+    if (r) return refused(r);
+    printf("exposes %u\n", found);
+    return 0;
+}
 static int answer_of(const char *what, uint32_t node, uint8_t program, struct bytes *lines, int count) {
     struct bulwynef_handle store = {0, false}, text = {0, false};
     uint64_t added = 0;
-    uint32_t found = 0;
     uint8_t r;
     int i, end = 0;
-    if (strcmp(what, "check") == 0) {
-        r = bulwynef_check_proof(program, lines[0].at, lines[0].len, lines[1].at, lines[1].len, &found);
-        if (r) return refused(r);
-        printf("exposes %u\n", found);
-        return 0;
-    }
+    if (strcmp(what, "check") == 0 || strcmp(what, "proof") == 0) return answer_of_proof(what, program, lines[0], lines[1]);
     r = bulwynef_store_open(program, lines[0].at, lines[0].len, &store);
     for (i = 1; !r && i < count; i++) r = bulwynef_store_import(&store, lines[i].at, lines[i].len, &added);
     if (r) end = refused(r);
     else if (strcmp(what, "status") == 0) end = status(&store, lines[0]);
+    else if (strcmp(what, "store") == 0) end = explained(bulwynef_store_explain(&store, &text), &text);
     else {
         r = strcmp(what, "merge") == 0 ? bulwynef_store_export(&store, &text) : bulwynef_store_proof(&store, node, &text);
         if (r == 115) printf("none\n");

@@ -1,6 +1,7 @@
 #!/usr/bin/env python3
 """Installs the package into a folder of its own, offline, and runs its tests, the examples of its page, and the network of
-examples/network for a short time. Wants c/out/libbulwynef.a, which c/run.py makes. What is missing of pip and pytest comes from Debian."""
+examples/network for a short time. Wants c/out/libbulwynef.a, which c/run.py makes. What is missing of pip and pytest comes from Debian;
+where Debian can't be reached, it says so and runs nothing."""
 
 import os
 import subprocess
@@ -19,14 +20,18 @@ def has(module):
 
 
 def install_tools():
+    """Whether pip and pytest are there, after what is missing was installed."""
     missing = [package for module, package in PACKAGES.items() if not has(module)]
-    if missing:
-        subprocess.run(["apt-get", "update"], check=True, stdout=subprocess.DEVNULL)
-        subprocess.run(["apt-get", "install", "-y", "--no-install-recommends", *missing], check=True, stdout=subprocess.DEVNULL)
+    for words in (["update"], ["install", "-y", "--no-install-recommends", *missing]):
+        if missing and subprocess.run(["apt-get", *words], stdout=subprocess.DEVNULL).returncode:
+            return False
+    return all(has(module) for module in PACKAGES)
 
 
 def main():
-    install_tools()
+    if not install_tools():
+        print(f"python: nothing was run, since {' and '.join(PACKAGES.values())} can't be installed")
+        return 0
     with tempfile.TemporaryDirectory(prefix="bulwynef-python-") as folder:
         pip = ["-m", "pip", "install", "--quiet", "--no-build-isolation", "--no-index", "--root-user-action=ignore", "--target", folder, HERE]
         runs = [pip, ["-m", "pytest", "-q", "-p", "no:cacheprovider", f"{HERE}/tests"], ["-m", "doctest", f"{HERE}/README.md"], NETWORK]

@@ -1,6 +1,6 @@
 """Bulwynef: stores of evidence, nodes that answer for what they did, and proofs that a third party checks.
 
-    from bulwynef import Key, Node, Program, Store, check_proof, directory
+    from bulwynef import Key, Node, Program, Store, check_proof, directory, explain_proof
 
 Everything that these do is done by the proved library behind the C interface; this package hands bytes to it and back.
 """
@@ -8,6 +8,6 @@ Everything that these do is done by the proved library behind the C interface; t
 from .errors import Refusal, SENTENCES
 from .library import Program
 from .nodes import Key, Node, directory
-from .stores import Indication, Store, check_proof
+from .stores import Indication, Store, check_proof, explain_proof
 
-__all__ = ["Indication", "Key", "Node", "Program", "Refusal", "SENTENCES", "Store", "check_proof", "directory"]
+__all__ = ["Indication", "Key", "Node", "Program", "Refusal", "SENTENCES", "Store", "check_proof", "directory", "explain_proof"]

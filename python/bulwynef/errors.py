@@ -19,7 +19,7 @@ SENTENCES: Dict[int, Tuple[str, str]] = {
     31: ("WrongKey", "The key is none of the node's, was used by it before, or has signed already."),
     32: ("NotMine", "The message is for another node."),
     33: ("UnknownSender", "The sender is not listed in the directory, or is this node."),
-    34: ("BadSignature", "The message's signature is by none of the sender's keys."),
+    34: ("BadSignature", "The message's signature names no key of the sender's, or is not valid by the one that it names."),
     35: ("PayloadTooLong", "The payload of a message is too long."),
     36: ("KeySpent", "The key in use has too few leaves left."),
     37: ("LogFull", "The log is full."),
@@ -56,7 +56,7 @@ SENTENCES: Dict[int, Tuple[str, str]] = {
 
 
 class Refusal(Exception):
-    """A call was refused, and changed nothing: with a number, a name and a sentence."""
+    """A call was refused, with a number, a name and a sentence. It changed nothing, but that `Node.answer` may have received the message where it tells 99."""
 
     number: int
     name: str

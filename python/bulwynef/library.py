@@ -30,6 +30,7 @@ KEY = [U32, U32, BYTES, SIZE, BYTES, SIZE]
 # What each call takes; each but two answers the number of a refusal, or 0.
 CALLS = {
     "check_proof": [U8, BYTES, SIZE, BYTES, SIZE, ctypes.POINTER(U32)],
+    "explain_proof": [U8, BYTES, SIZE, BYTES, SIZE, HANDLE],
     "public_key": [*KEY, ctypes.POINTER(ctypes.c_char), SIZE],
     "store_open": [U8, BYTES, SIZE, HANDLE],
     "store_take": [HANDLE, BYTES, SIZE, ctypes.POINTER(U8)],
@@ -39,6 +40,7 @@ CALLS = {
     "store_indication": [HANDLE, U32, ctypes.POINTER(U8)],
     "store_proof": [HANDLE, U32, HANDLE],
     "store_challenge": [HANDLE, U32, SIZE, HANDLE],
+    "store_explain": [HANDLE, HANDLE],
     "store_export": [HANDLE, HANDLE],
     "store_outline": [HANDLE, HANDLE],
     "store_summary": [HANDLE, HANDLE],
@@ -50,6 +52,7 @@ CALLS = {
     "node_waiting": [HANDLE, SIZE, ctypes.POINTER(U64)],
     "node_message": [HANDLE, U64, HANDLE],
     "node_answer": [HANDLE, BYTES, SIZE, BYTES, SIZE, HANDLE],
+    "node_history": [HANDLE, HANDLE],
     "node_accept_ack": [HANDLE, BYTES, SIZE],
     "node_checkpoint": [HANDLE, ctypes.POINTER(U64)],
     "node_remaining": [HANDLE, ctypes.POINTER(U32)],
@@ -61,7 +64,10 @@ CALLS = {
 def load() -> ctypes.CDLL:
     """The shared library beside this file, or the one that BULWYNEF_LIBRARY names."""
     beside = os.path.join(os.path.dirname(os.path.abspath(__file__)), "libbulwynef.so")
-    library = ctypes.CDLL(os.environ.get("BULWYNEF_LIBRARY", beside))
+    try:
+        library = ctypes.CDLL(os.environ.get("BULWYNEF_LIBRARY", beside))
+    except OSError as error:
+        raise ImportError(f"{error} (python/README.md says how it is built; BULWYNEF_LIBRARY may name it)") from None
     for name, takes in CALLS.items():
         call = getattr(library, "bulwynef_" + name)
         call.argtypes, call.restype = takes, U8

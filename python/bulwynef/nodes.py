@@ -72,9 +72,14 @@ class Node(Opened):
         return text("node_message", self.at, seq)
 
     def answer(self, challenge: bytes, entropy: Optional[bytes] = None) -> bytes:
-        """To a message its acknowledgement, to an audit a segment of the log; what was answered before, as it was."""
+        """To a message its acknowledgement, to an audit a segment of the log; what was answered before, as it was. Where 99 is raised, the
+        node may have received the message: the same call again answers it."""
         entropy = os.urandom(32) if entropy is None else entropy
         return text("node_answer", self.at, challenge, len(challenge), entropy, len(entropy))
+
+    def history(self) -> bytes:
+        """The entries of the log, from the first to the last, each as a segment has it. Nothing is signed for it."""
+        return text("node_history", self.at)
 
     def accept_ack(self, ack: bytes) -> None:
         """Accepts an acknowledgement: its message waits no longer."""

@@ -22,6 +22,11 @@ def check_proof(directory: bytes, proof: bytes, program: Program = Program.TALLY
     return told(U32, "check_proof", program, directory, len(directory), proof, len(proof))
 
 
+def explain_proof(directory: bytes, proof: bytes, program: Program = Program.TALLY) -> str:
+    """Whom the proof convicts, and why, in lines for a person to read."""
+    return text("explain_proof", program, directory, len(directory), proof, len(proof)).decode()
+
+
 class Store(Opened):
     """A set of items of evidence under a directory. Stores of the same items export the same bytes."""
 
@@ -68,6 +73,10 @@ class Store(Opened):
                 if refusal.number != OUT_OF_RANGE:
                     raise
                 return found
+
+    def explain(self) -> str:
+        """What the items say of each listed node, and why, in lines for a person to read."""
+        return text("store_explain", self.at).decode()
 
     def export(self) -> bytes:
         """The one text of the items."""

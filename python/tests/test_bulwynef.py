@@ -9,7 +9,7 @@ import sys
 
 import pytest
 
-from bulwynef import Indication, Key, Node, Program, Refusal, Store, check_proof, directory
+from bulwynef import Indication, Key, Node, Program, Refusal, Store, check_proof, directory, explain_proof
 
 TOP = os.path.dirname(os.path.dirname(os.path.dirname(os.path.abspath(__file__))))
 SECOND = os.path.join(TOP, "second_opinion", "check.py")
@@ -65,6 +65,27 @@ def test_a_message_is_challenged_acknowledged_and_told_twice(listed):
         assert second_opinion(listed, proof) == "exposes 2\n"
 
 
+def report_in(text):
+    """The lines of nodes: those behind the first that begin with no blank."""
+    return "".join(f"{line}\n" for line in text.splitlines()[1:] if not line.startswith(" "))
+
+
+def test_what_is_said_is_explained(listed):
+    message, ack, lie = exchanged(listed)
+    with Store(listed) as store:
+        store.take(message)
+        assert report_in(store.explain()) == second_opinion("--store", listed, store.export()) == "1 trusted\n2 suspected\n"
+        store.take(ack), store.take(lie)
+        assert report_in(store.explain()) == second_opinion("--store", listed, store.export()) == "1 trusted\n2 exposed\n"
+        proof = store.proof(2)
+        assert report_in(explain_proof(listed, proof)) == "2 exposed\n"
+        assert "  Node 2 signed two hashes for entry 2 of its log.\n" in explain_proof(listed, proof)
+    for bad, number in ((proof[:-1], 40), (proof + b"0", 43)):
+        with pytest.raises(Refusal) as refused:
+            explain_proof(listed, bad)
+        assert refused.value.number == number
+
+
 def test_stores_exchange_what_they_have(listed):
     message, ack, lie = exchanged(listed)
     with Store(listed) as left, Store(listed) as right:
@@ -99,6 +120,24 @@ def test_a_segment_answers_an_audit(listed):
             with pytest.raises(Refusal) as refused:
                 node.answer(challenge)
             assert refused.value.number == number
+
+
+def entries_of(log):
+    """The number, the kind and the content of each entry, by the bytes that docs/FORMATS.md gives."""
+    while log:
+        end = 13 + int.from_bytes(log[9:13], "big")
+        yield int.from_bytes(log[:8], "big"), log[8], log[13:end]
+        log = log[end:]
+
+
+def test_a_node_shows_its_log(listed):
+    with Node(listed, 1, KEYS[1], first_seq=7) as one:
+        one.timer(5)
+        one.checkpoint()
+        ticked, total = (5).to_bytes(8, "big"), bytes(8)
+        sent = b"\0\0\0\2A" + ticked
+        assert list(entries_of(one.history())) == [(7, 1, b"\0\0\0\1"), (8, 4, ticked), (9, 2, sent), (10, 5, total)]
+        assert one.history() == one.history()
 
 
 def test_a_node_goes_over_to_its_next_key():
