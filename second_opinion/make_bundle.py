@@ -15,8 +15,6 @@ sys.dont_write_bytecode = True
 import check
 from check import sha256
 
-FLAGS = {"tally": "node_sim check", "relay": "node_sim check --relay", "mailbox": "mailbox_sim check"}
-
 
 def sentences(program, node, verified):
     """What stands in a bundle for people: how to check it, what was verified, and by what."""
@@ -27,7 +25,7 @@ def sentences(program, node, verified):
         "Believe no sentence of this file. Get the directory's sum and the name of the program, which stand below, by another way than",
         "this file, compare, and check the proof by one of these, of which the second is proved:",
         "  python3 check.py BUNDLE",
-        f"  tail -n 2 BUNDLE | {FLAGS[program]}",
+        "  bulwynef check BUNDLE",
         "What was verified:",
         *(f"  {line}" for line in verified),
         f"Made with Python {platform.python_version()} by the check.py that has the SHA-256 value {own}",

@@ -2,7 +2,7 @@
 
 - `crates/tour/stdout` and `examples/explained/`: what proved programs say of the evidence of `examples/`.
 - `crates/mailbox_tour/stdout`: what a proved program says of evidence of nodes that run Mailbox.
-- `examples/README.md`: what `node_sim` writes there of the same files.
+- `examples/README.md`: what `bulwynef` writes there of the same files.
 - `crates/evidence_vectors/stdin`: items and stores, with the answers of implementations that are not ours.
 - `refusals`: an input of `examples/` after one change each, and the refusal that FORMATS has for it.
 """
@@ -96,28 +96,24 @@ def scenes(source, crate, program):
 
 
 def explained():
-    """What `explain store` says of each store of `examples/`."""
+    """What `explain` says of each store of `examples/`."""
     for file in sorted(os.listdir(f"{EXAMPLES}/explained")):
         name, *kind, ending = file.split(".")
         if ending != "txt" or kind not in ([], ["stores"]):
             continue
         told = read(f"examples/explained/{file}").decode()
-        if told.startswith("refused"):
-            continue
         directory, *stores = lines_of(read(f"examples/{name}.txt"))
         yield Case("explained", file, ["status"], [directory, merged(stores)], said_in(told))
 
 
 def page():
-    """What stands on the page of examples behind `node_sim status`, of a file or of two of its lines."""
-    asked = r"^    \$ (?:sed -n '?(\d)[,p;]+(\d)p'? (\S+) \| )?node_sim status( --relay)?(?: < (\w+\.txt))?\n((?:    \d.*\n)+)"
-    for first, second, part, relay, whole, told in re.findall(asked, read("examples/README.md").decode(), re.MULTILINE):
-        file = part or whole
-        if not os.path.isfile(f"{EXAMPLES}/{file}"):
-            continue
-        lines = lines_of(read(f"examples/{file}"))
-        lines = [lines[int(first) - 1], lines[int(second) - 1]] if part else lines
-        yield Case("page", file, ["status", *relay.split()], lines, told.replace("    ", ""))
+    """What stands on the page of examples behind `bulwynef status`, of files that are there."""
+    asked = r"^    \$ bulwynef status( --program relay)? --directory (\S+) (.+)\n((?:    \d.*\n)+)"
+    for relay, directory, stores, told in re.findall(asked, read("examples/README.md").decode(), re.MULTILINE):
+        names = [directory, *stores.split()]
+        if all(os.path.isfile(f"{EXAMPLES}/{name}") for name in names):
+            first, *others = [read(f"examples/{name}") for name in names]
+            yield Case("page", stores, ["status", *(["--relay"] if relay else [])], [first, merged(others)], told.replace("    ", ""))
 
 
 class Vector(NamedTuple):

@@ -1,16 +1,23 @@
 #!/usr/bin/env python3
-"""Sums by which two people see that they have the same sources and the same builds.
+"""Sums by which two people see that they have the same sources, and the same builds.
 
-The sum of the sources is the SHA-256 value of the lines that `sha256sum` writes of the files that git tracks, as they are in the folder,
-in the order of their names' bytes:
+    sums.py             the sums of what is here
+    sums.py compare     the same, and whether they are those of docs/builds.txt; the gate runs it last
+    sums.py write       writes docs/builds.txt anew
 
-    git ls-files -z | LC_ALL=C sort -z | xargs -0 sha256sum | sha256sum
+The sum of the sources is the SHA-256 value of the lines that `sha256sum` writes of the files of crates/, of crates.txt and of HANDLES that
+git tracks, as they are in the folder, in the order of their names' bytes:
 
-Behind it stands what `sha256sum` writes of each program that `rt ci` or `rt run` has left here. Builds of the same sources by the same
-kit were the same bytes wherever they were compared (README.md): so who proved a program can tell others by its sum which one it is.
+    git ls-files -z crates crates.txt HANDLES | LC_ALL=C sort -z | xargs -0 sha256sum | sha256sum
+
+Behind it stands what `sha256sum` writes of each program that `rt ci` or `rt run` has left: as LLVM builds it for x86-64-v2, and as Rattle's
+own compiler does (`.by-rattle`). Other kits, and other sources, give other builds. So docs/builds.txt names both, and `compare` says that it
+compared nothing where one of them is another here; else it ends with 1 where a build differs, or is missing. Last stands checkproof, which
+c/run.py builds, behind the name of the system's compiler: it is compared where it is here, by the same compiler.
 """
 
 import os
+import re
 import subprocess
 import sys
 
@@ -19,31 +26,83 @@ sys.dont_write_bytecode = True
 from check import sha256
 
 TOP = os.path.dirname(os.path.dirname(os.path.abspath(__file__)))
-BUILDS = [f"crates/{name}/out/{name}{ending}" for name in ("node_sim", "mailbox_sim", "explain") for ending in ("", ".by-rattle")]
+STORED = "docs/builds.txt"
+HEAD = "# Written by `second_opinion/sums.py write`; AUDITORS says how it is used.\n"
+SOURCES = ["crates", "crates.txt", "HANDLES"]
+CHECKPROOF = "c/out/checkproof"
 
 
-def sum_of_sources():
-    """The sum, and of how many files it is; none where this is no clone."""
+def said_by(*words):
+    """What a command writes; nothing where it can't be run or fails."""
     try:
-        listed = subprocess.run(["git", "-C", TOP, "ls-files", "-z"], capture_output=True, check=True).stdout
+        return subprocess.run(words, cwd=TOP, capture_output=True, check=True).stdout
     except (OSError, subprocess.CalledProcessError):
-        return None
-    names = sorted(listed.split(b"\0")[:-1])
-    return sha256(*(line_of(name) for name in names)).hex(), len(names)
+        return b""
 
 
-def line_of(name):
+def sum_line(name):
     with open(os.path.join(os.fsencode(TOP), name), "rb") as file:
         return sha256(file.read()).hex().encode() + b"  " + name + b"\n"
 
 
+def made_of():
+    """The lines that say of which kit and of which sources builds are, here."""
+    names = sorted(said_by("git", "ls-files", "-z", *SOURCES).split(b"\0")[:-1])
+    kit = said_by("rt", "version").decode().strip() or "none"
+    return [f"kit {kit}\n", f"sources {sha256(*map(sum_line, names)).hex()} of {len(names)} files\n"]
+
+
+def builds():
+    """A line for each program that was built here."""
+    names = [name for name in sorted(os.listdir(f"{TOP}/crates")) if os.path.isfile(f"{TOP}/crates/{name}/src/main.rt")]
+    built = [f"crates/{name}/out/{name}{ending}" for name in names for ending in ("", ".by-rattle")]
+    return [sum_line(build.encode()).decode() for build in built if os.path.isfile(f"{TOP}/{build}")]
+
+
+def checkproof():
+    """The line of checkproof, behind that of the compiler; none where it was not built here."""
+    if not os.path.isfile(f"{TOP}/{CHECKPROOF}"):
+        return []
+    compiler = said_by("cc", "--version").decode(errors="replace").partition("\n")[0]
+    return [f"cc {compiler}\n", sum_line(CHECKPROOF.encode()).decode()]
+
+
+def stored():
+    """The lines of the stored file that are no comment, those of kit and sources first; none where there is no file."""
+    try:
+        with open(f"{TOP}/{STORED}", encoding="utf-8") as file:
+            return [line for line in file if not line.startswith("#")]
+    except FileNotFoundError:
+        return []
+
+
+def compared(here, told):
+    """Whether the stored builds are those that are here, or are not of this kit and these sources."""
+    if told[:2] != here[:2]:
+        print(f"{STORED} is of another kit or of other sources: nothing is compared" if told else f"there is no {STORED}: nothing is compared")
+        return True
+    compiler = next((line for line in told if line.startswith("cc ")), None)
+    lines = [line for line in told[2:] if line != compiler and (compiler in here or not line.endswith(f" {CHECKPROOF}\n"))]
+    wrong = [line for line in lines if line not in here]
+    for line in wrong:
+        print(f"differs, or is not here: {line}", end="")
+    print(f"{len(lines) - len(wrong)} builds are those of {STORED}, {len(wrong)} are not")
+    return bool(lines) and not wrong
+
+
 def main():
-    found = sum_of_sources()
-    print("%s  %d files of sources" % found if found else "no clone, so no sum of sources")
-    for build in BUILDS:
-        if os.path.isfile(f"{TOP}/{build}"):
-            print(line_of(build.encode()).decode(), end="")
+    word = "".join(sys.argv[1:])
+    if word not in ("", "compare", "write"):
+        sys.exit(__doc__)
+    here = made_of() + builds() + checkproof()
+    print("".join(here), end="")
+    if word == "write":
+        if len(here) == 2 or re.match("kit none", here[0]):
+            sys.exit("nothing is written: no program is built here, or there is no kit")
+        with open(f"{TOP}/{STORED}", "w", encoding="utf-8") as file:
+            file.write(HEAD + "".join(here))
+    return 0 if word != "compare" or compared(here, stored()) else 1
 
 
 if __name__ == "__main__":
-    main()
+    sys.exit(main())

@@ -1,12 +1,12 @@
 #!/usr/bin/env python3
 """Times the commands of node_sim on much evidence.
 
-    commands.py PROGRAM EXAMPLE STORE [EXPLAIN]
+    commands.py PROGRAM EXAMPLE STORE [BULWYNEF]
 
 EXAMPLE is a file whose first line is the directory, as examples/exchange.txt, and STORE a text of many items, as checks/bench/stores makes
 one. Prints the processor time, the time and the greatest memory of `status` on all items in one store, of `merge` of 16, 32 and 64
 stores of 1 MiB (in digits) in one line each, and the time of a union of the 64 as a tree, by one process and more at a time; and first,
-where EXPLAIN is the program `explain`, what it takes for the store that `status` reads, in words and as a page. Wants GNU time
+where BULWYNEF is the program `bulwynef`, what `explain` takes, by one worker, for the store that `status` reads, in words and as a page. Wants GNU time
 (Debian's package time).
 """
 import concurrent.futures
@@ -39,16 +39,28 @@ def shards_of(items, count):
     return [line_of(items[k * each : (k + 1) * each]) for k in range(count)]
 
 
-def timed(program, words, lines):
+def timed(program, words, lines, ends=(0,)):
     """Prints what a command took for the lines, and answers what it wrote."""
     with tempfile.TemporaryFile("w+") as text:
         text.write("\n".join(lines))
         text.seek(0)
         form = "%U + %S s of processor time, %e s, %M KB at most"
-        done = subprocess.run(["/usr/bin/time", "-f", form, program, *words.split()], stdin=text, stdout=subprocess.PIPE, stderr=subprocess.PIPE, check=True)
+        done = subprocess.run(["/usr/bin/time", "-f", form, program, *words.split()], stdin=text, stdout=subprocess.PIPE, stderr=subprocess.PIPE)
+        assert done.returncode in ends, done
         size = text.tell() // 1024
-    print(f"{words}, {len(lines) - 1} stores, {size} KB: {done.stderr.decode().strip()}", flush=True)
+    what = f"{words}, {len(lines) - 1} stores, {size} KB" if lines else words
+    print(f"{what}: {done.stderr.decode().strip().splitlines()[-1]}", flush=True)
     return done.stdout.decode()
+
+
+def explained(program, directory, store, *more):
+    """Prints what `explain` took for the store, in a file of bytes."""
+    with tempfile.TemporaryDirectory() as folder:
+        for name, line in (("directory", directory), ("store", store)):
+            with open(f"{folder}/{name}", "wb") as file:
+                file.write(bytes.fromhex(line))
+        words = f"explain --workers 1 {' '.join(more)} --directory {folder}/directory {folder}/store"
+        timed(program, words, [], (0, 3))
 
 
 def union(program, directory, stores):
@@ -66,15 +78,15 @@ def tree(program, directory, stores, processes):
 
 
 def main():
-    program, example, store, *explain = sys.argv[1:]
+    program, example, store, *others = sys.argv[1:]
     with open(example) as file:
         directory = file.readline().strip()
     with open(store, "rb") as file:
         items = items_of(file.read())
     timed(program, "status", [directory, line_of(items)])
-    for other in explain:
-        timed(other, "store", [directory, line_of(items)])
-        timed(other, "store --html", [directory, line_of(items)])
+    for other in others:
+        explained(other, directory, line_of(items))
+        explained(other, directory, line_of(items), "--html", "-")
     shards = shards_of(items, 64)
     for count in (16, 32, 64):
         whole = timed(program, "merge", [directory, *shards[:count]]).strip()

@@ -1,14 +1,16 @@
 #!/usr/bin/env python3
-"""Runs the built program explain on the texts that run.py makes, nearly valid stores and proofs, and holds it to node_sim.
+"""Runs `bulwynef explain` on the texts that run.py makes, nearly valid stores and proofs, each in a file, and holds it to node_sim. Where a line is
+no text of bytes, or lines are missing, `mailbox_sim explain` reads the lines instead.
 
     checks/fuzz/explain.py [--inputs N] [--seed S] [--jobs J]
 
-Where node_sim refuses an input, explain refuses it with the same number and name, with its place behind them on the one line, and writes
-nothing. Where node_sim answers, explain tells the same: each node with the indication that status gives, or the node that check names; each
-item that a sentence about a store names is looked up in the store, and has the form, the nodes and the hash that the sentence says. The
+Where node_sim refuses an input, it is refused with the same number and name, with its place behind them on the one line, and nothing is
+written. Where node_sim answers, explain tells the same: each node with the indication that status gives, or the node that check names; each
+item that a sentence about a store names is looked up in the store, and has the form and the nodes that the sentence says; and where a
+sentence names a hash, each of its items has a statement of that node, number and hash. Among the payloads are hostile ones (HOSTILE). The
 page of each answer is read by Python's parser: its elements close, each id stands once, each link inside it leads to one, it has no script
-and names no other place. Both ways of explain end within 256 MiB and 60 s. Wants what `rt ci` and `rt run` leave in crates/explain/out and
-crates/node_sim/out.
+and names no other place. Both ways of explain end within 256 MiB and 60 s. Wants what `rt ci` and `rt run` leave in the folders crates/NAME/out of
+bulwynef, mailbox_sim and node_sim.
 """
 
 import argparse
@@ -20,12 +22,13 @@ import re
 import resource
 import subprocess
 import sys
+import tempfile
 
 sys.dont_write_bytecode = True
 
 import run as fuzz
 
-EXPLAIN = f"{fuzz.texts.TOP}/crates/explain/out/explain"
+BULWYNEF, MAILBOX_SIM = [f"{fuzz.texts.TOP}/crates/{name}/out/{name}" for name in ("bulwynef", "mailbox_sim")]
 NODE_SIM = fuzz.BUILDS[0]
 MEMORY, SECONDS = 256 << 20, 60
 VOID = {"meta", "link", "br", "hr", "img", "input", "col"}
@@ -82,6 +85,33 @@ def ended(program, words, data):
     return done.returncode, done.stdout, done.stderr
 
 
+def texts_of(subject, data):
+    """What the lines spell, where they are as many as are wanted, and each is digits; else None."""
+    lines = data.removesuffix(b"\n").split(b"\n")
+    has_count = len(lines) == 2 if subject == "proof" else len(lines) >= 2
+    if not has_count or not all(re.fullmatch(rb"([0-9a-fA-F]{2})*", line) for line in lines):
+        return None
+    return [bytes.fromhex(line.decode()) for line in lines]
+
+
+def explained(subject, relay, data, page):
+    """What is told of the input, as a text or as a page."""
+    found = texts_of(subject, data)
+    if found is None:
+        return ended(MAILBOX_SIM, ["explain", subject, *(["--html"] if page else [])], data)
+    with tempfile.TemporaryDirectory() as folder:
+        names = []
+        for number, text in enumerate(found):
+            names.append(f"{folder}/{number}")
+            begins_like_digits = re.match(rb"[0-9a-fA-F]{8}", text)
+            with open(names[-1], "wb") as it:
+                it.write(text.hex().encode() if begins_like_digits else text)
+        program = ["--program", "relay"] if relay else []
+        words = ["explain", "--workers", "1", *program, "--directory", names[0]]
+        words += ["--proof", names[1]] if subject == "proof" else names[1:]
+        return ended(BULWYNEF, [*words, *(["--html", "-"] if page else [])], b"")
+
+
 def rows_of(text):
     """The lines of nodes in an explanation: behind those of its basis and the heading those that are not indented."""
     return [line for line in text.decode().split("\n")[4:] if line and not line.startswith(" ")]
@@ -113,14 +143,83 @@ NAMED = [
 ]
 
 
+SEND, RECV = 2, 3
+
+
+def message_of(item, at):
+    """The sender, its number and the hash of its SEND entry, of a message in an item; and where it ends."""
+    sender, receiver, seq, before = number(item, at, 4), item[at + 4 : at + 8], number(item, at + 8, 8), item[at + 16 : at + 48]
+    signed = at + 52 + number(item, at + 48, 4)
+    end = signed + 4 + number(item, signed, 4)
+    return (sender, seq, fuzz.texts.entry_hash(before, seq, SEND, receiver + item[signed + 4 : end])), end
+
+
+def quoted(node, content):
+    """What an entry's content quotes."""
+    sender, seq, before, size = number(content, 0, 4), number(content, 4, 8), content[12:44], number(content, 44, 4)
+    return sender, seq, fuzz.texts.entry_hash(before, seq, SEND, fuzz.texts.u32(node) + content[48 + size :])
+
+
+def statements_of_segment(item):
+    """Those of what its entries quote, and that of its last entry."""
+    node, end, count, at = number(item, 1, 4), item[5:37], number(item, 37, 4), 41
+    found, seq = [], 0
+    for _ in range(count):
+        seq, kind, size = number(item, at, 8), item[at + 8], number(item, at + 9, 4)
+        content = item[at + 13 : at + 13 + size]
+        at += 13 + size
+        end = fuzz.texts.entry_hash(end, seq, kind, content)
+        if kind == RECV and len(content) >= 48:
+            found.append(quoted(node, content))
+    return [*found, (node, seq, end)]
+
+
+def statements_of(item):
+    """The node, number and hash of each statement in an item, whether a signature of it is valid or not."""
+    form, node = item[0], number(item, 1, 4)
+    if form == 1:
+        return [(node, number(item, 5, 8), item[13:45])]
+    if form == 2:
+        return statements_of_segment(item)
+    if form == 3:
+        first = (node, number(item, 6, 8), item[14:46])
+        if item[5] == 0:
+            return [first]
+        at = 50 + number(item, 46, 4)
+        return [first, (node, number(item, at, 8), item[at + 8 : at + 40])]
+    sent, end = message_of(item, 1)
+    if form == 4:
+        return [sent]
+    receiver, seq, before = number(item, 5, 4), number(item, end, 8), item[end + 8 : end + 40]
+    signed = item[53 : 53 + number(item, 49, 4)]
+    payload = item[53 + len(signed) + 4 : end]
+    content = item[1:5] + item[9:49] + fuzz.texts.u32(len(signed)) + signed + payload
+    return [sent, (receiver, seq, fuzz.texts.entry_hash(before, seq, RECV, content))]
+
+
+def fault_of_hash(line, node, seq, items):
+    """What is wrong with the items that a sentence names behind a hash, or None."""
+    digest = bytes.fromhex(line[7:71])
+    for place in re.findall(r"item (\d+), ", line):
+        if (int(node), seq, digest) not in statements_of(items[int(place) - 1]):
+            return f"item {place} has no such statement of node {node} and entry {seq}: {line}"
+    return None
+
+
 def fault_of_places(text, data):
     """What is wrong with the items that the sentences about a store name, or None."""
-    items, node = items_of(data), None
+    items, node, seq = items_of(data), None, None
     for line in text.decode().split("\n")[4:]:
         if line and not line.startswith(" "):
             node = line.split()[0]
+        signed = re.match(r"  Node \d+ signed (?:two hashes|a hash) for entry (\d+)", line)
+        seq = int(signed[1]) if signed else seq
+        wrong = fault_of_hash(line, node, seq, items) if line.startswith("  Hash ") else None
+        if wrong:
+            return wrong
+        own = re.sub(r'"(?:[^"\\]|\\.)*"', '""', line)  # without what payloads say
         for pattern, form, nodes in NAMED:
-            for found in re.finditer(pattern, line):
+            for found in re.finditer(pattern, own):
                 groups = {"node": node, **found.groupdict()}
                 place = int(groups["item"])
                 if not 1 <= place <= len(items) or items[place - 1][0] != form:
@@ -137,22 +236,29 @@ def fault_of(words, data):
     """What is wrong with what explain says of the input of `status` or `check`, or None."""
     subject = "store" if words[0] == "status" else "proof"
     relay = words[1:]
-    status, output, errors = ended(NODE_SIM, words, data)
-    text = ended(EXPLAIN, [subject, *relay], data)
-    page = ended(EXPLAIN, [subject, "--html", *relay], data)
+    if subject == "store" and len(data.removesuffix(b"\n").split(b"\n")) > 2:
+        merged = ended(NODE_SIM, ["merge", *relay], data)
+        one = data.split(b"\n")[0] + b"\n" + merged[1]
+        status, output, errors = merged if merged[0] else ended(NODE_SIM, words, one)
+        stores = data if merged[0] else one
+    else:
+        status, output, errors = ended(NODE_SIM, words, data)
+        stores = data
+    text = explained(subject, relay, data, False)
+    page = explained(subject, relay, data, True)
     if status == 1:
         for found in (text, page):
             if found[0] != 1 or found[1] or found[2].count(b"\n") != 1 or not found[2].startswith(errors.strip() + b": "):
                 return f"refused {errors!r}, and {found!r} is told"
         return None
-    if status or text[0] or page[0] or text[2] or page[2]:
+    if status or text[0] not in (0, 3) or page[0] != text[0] or text[2] or page[2]:
         return f"ends {status}, {text[0]} {text[2]!r}, {page[0]} {page[2]!r}"
     wanted = output.decode().split("\n")[:-1]
     if subject == "proof":
         wanted = [line.split()[1] + " exposed" for line in wanted]
     if rows_of(text[1]) != wanted:
         return f"{wanted} and {rows_of(text[1])}"
-    return (fault_of_places(text[1], data) if subject == "store" else None) or fault_of_page(page[1])
+    return (fault_of_places(text[1], stores) if subject == "store" else None) or fault_of_page(page[1])
 
 
 def work(place):

@@ -368,7 +368,7 @@ class Signing:
         if rng.random() < 0.5:
             return message
         sender, receiver, seq, before = message.sender, message.receiver, message.seq, message.before
-        payload = rng.choice([message.payload, b"A" + u64(rng.choice(NUMBERS[8])), b"T" + u64(1), b"", rng.randbytes(rng.randrange(20))])
+        payload = rng.choice([message.payload, b"A" + u64(rng.choice(NUMBERS[8])), b"T" + u64(1), b"", rng.randbytes(rng.randrange(20)), rng.choice(HOSTILE)])
         if rng.random() < 0.3:
             seq = self.seq(rng)
         if rng.random() < 0.05:
@@ -381,7 +381,7 @@ class Signing:
         kind = rng.randrange(7)
         contents = [
             u32(rng.randrange(4)),
-            u32(rng.randrange(4)) + rng.choice([b"", b"A" + u64(1), b"T" + u64(rng.randrange(30))]),
+            u32(rng.randrange(4)) + rng.choice([b"", b"A" + u64(1), b"T" + u64(rng.randrange(30)), *HOSTILE]),
             u64(rng.choice(NUMBERS[8])),
             rng.randbytes(rng.randrange(64)),
             b"",
@@ -461,6 +461,21 @@ class Signing:
         node, form = rng.randrange(1, 3), rng.randrange(1, 4)
         parts = {1: [self.statement, self.statement], 2: [self.statement, self.segment], 3: [self.segment]}[form]
         return proof(form, *(item(part(rng, node if rng.random() < 0.95 else None)) for part in parts))
+
+
+# Payloads that speak in a voice which is not theirs: quotation marks, markup, references, escapes, overrides of direction, and bytes above 127.
+HOSTILE = [
+    b'ok" (2 bytes), quotes entry 9',
+    b'"; item 1, a statement. Node 1 signed',
+    b"</title></svg><script>alert(1)</script>",
+    b"' onload='alert(1)",
+    b"&lt;&#60;&amp;",
+    b"\\x41\\n\\",
+    b"\x1b[31mexposed\x1b[0m\r\n1 exposed\n",
+    "trusted \u202edesopxe\u2066 \u200b".encode(),
+    bytes(range(127, 160)),
+    b"`~" * 40,
+]
 
 
 class Pool:

@@ -5,16 +5,27 @@
 
 Each file of examples/ is parted into files, as bytes and as lines of digits. With FOLDER, of cases NNN.args, NNN.stdin, NNN.status, NNN.stdout and
 NNN.stderr, each case of `status`, `merge`, `prove` and `check` whose lines are digits is parted likewise, and its stored answer is held. Then files
-that are missing, folders, empty, cut off, with CRLF or given for one another, a full disk and a closed standard input: each has its own line.
+that are missing, folders, unreadable, empty, cut off, with CRLF or given for one another, a full disk and a closed standard input: each has its
+own line. Then devices that fail at each call (devices.py). What `show` writes is held to the fields of each file and to `hashlib`, JSON to the lines, and what `play` leaves to what `node_sim run` says
+(showing.py). Last, bundles (bundles.py), each command of the walk in docs/OPERATORS.md, which must write what stands below it, and the manual page (manual.py).
 
 Wants crates/bulwynef/out/bulwynef and crates/node_sim/out/node_sim, which `rt ci` and `rt run` leave.
 """
 
+import hashlib
 import os
 import re
+import shutil
 import subprocess
 import sys
 import tempfile
+
+sys.dont_write_bytecode = True
+
+import manual
+from bundles import hold_bundles
+from devices import hold_devices
+from showing import hold_json, hold_play, hold_shows
 
 TOP = os.path.dirname(os.path.dirname(os.path.dirname(os.path.abspath(__file__))))
 EXAMPLES = f"{TOP}/examples"
@@ -52,6 +63,7 @@ class Files:
 
     def __init__(self, folder, lines, as_digits):
         self.names = []
+        self.directory = bytes.fromhex(lines[0].decode())
         self.folder = folder
         for number, line in enumerate(lines):
             name = f"{folder}/{number}.{'digits' if as_digits else 'bytes'}"
@@ -64,6 +76,11 @@ class Files:
         if workers:
             words += ["--workers", workers]
         return [*words, *node, *self.names[1:]]
+
+    def convicted(self, line, flags):
+        """What `check` writes behind the line that node_sim writes: the program, and the SHA-256 value of the directory."""
+        program = flags[1] if flags else "tally"
+        return line + f"program {program}\ndirectory {hashlib.sha256(self.directory).hexdigest()}\n".encode()
 
 
 def first_refusal(error):
@@ -110,7 +127,7 @@ def hold_prove(name, files, build, flags, workers, node, wanted):
     else:
         hold(f"{name} prove {node}", status == 0 and out == b"", (status, error))
         checked = run([build, "check", *flags, "--directory", files.names[0], target])
-        hold(f"{name} check of the proof of {node}", checked[:2] == (3, f"exposes {node}\n".encode()), checked)
+        hold(f"{name} check of the proof of {node}", checked[:2] == (0, files.convicted(f"exposes {node}\n".encode(), flags)), checked)
         os.remove(target)
 
 
@@ -118,7 +135,7 @@ def hold_check(name, files, build, flags, wanted):
     status, out, error = run(files.words(build, "check", flags))
     code, text, told = wanted
     if code == 0:
-        hold(f"{name} check", (status, out) == (3, text), (status, error))
+        hold(f"{name} check", (status, out) == (0, files.convicted(text, flags)), (status, error))
     else:
         hold(f"{name} check refused", status == 1 and first_refusal(error) == first_refusal(told), (status, error))
 
@@ -211,6 +228,7 @@ def hold_faults(build, folder, directory, store):
     hold_fault("a missing directory", [*status, f"{folder}/none", items], 100, b"/none: ")
     hold_fault("a missing store", [*status, nodes, items, f"{folder}/none"], 100, b"/none: ")
     hold_fault("a folder", [*status, nodes, folder], 100, folder.encode())
+    hold_fault("a store that can't be read", [*status, nodes, "/proc/self/mem"], 100, b"/proc/self/mem: ")
     hold_fault("an empty directory", [*status, write(f"{folder}/e", b""), items], 24, b"/e: ")
     hold_fault("an empty store", [*status, nodes, write(f"{folder}/e", b"")], 40, b"/e, item 0: ")
     hold_fault("a store that is cut off", [*status, nodes, write(f"{folder}/c", store[:-1])], 40, b"/c, item ")
@@ -240,14 +258,81 @@ def hold_faults(build, folder, directory, store):
     hold("no file is left", left == [], left)
 
 
+def hold_explain(build, folder, directory, store):
+    """What `explain` refuses, and that it writes its file whole or not at all; checks/explained holds what it tells."""
+    nodes, items = write(f"{folder}/nodes", directory), write(f"{folder}/items", store)
+    explain, page = [build, "explain", "--directory"], f"{folder}/page"
+    proof = f"{folder}/proof"
+    run([build, "prove", "--directory", nodes, "--output", proof, "2", items])
+    to_page = ["--html", page]
+    hold_fault("explain: a missing store", [*explain, nodes, *to_page, items, f"{folder}/none"], 100, b"/none: ")
+    hold_fault("explain: a store that is cut off", [*explain, nodes, *to_page, write(f"{folder}/c", store[:-1])], 40, b"/c, item ")
+    hold_fault("explain: a proof for a store", [*explain, nodes, *to_page, proof], 60, b"/proof, item 0, byte 16: ")
+    hold_fault("explain: a missing proof", [*explain, nodes, *to_page, "--proof", f"{folder}/none"], 100, b"/none: ")
+    hold_fault("explain: a store for a proof", [*explain, nodes, *to_page, "--proof", items], 41, b"the file is a store")
+    one = read(proof)
+    twice = write(f"{folder}/twice", one[: 5 + int.from_bytes(one[1:5], "big")] + one[1 : 5 + int.from_bytes(one[1:5], "big")])
+    hold_fault("explain: a proof that convicts nobody", [*explain, nodes, *to_page, "--proof", twice], 50, b"/twice: ")
+    hold_fault("explain: a store for the directory", [*explain, items, *to_page], 23, b"the file is a store")
+    hold_fault("explain: a full disk", [*explain, nodes, "--html", "/dev/full", items], 102, b"")
+    hold("explain: no page is left", not os.path.exists(page))
+    text = run([*explain, nodes, items])
+    hold("explain: a text", text[0] == 3 and text[1].startswith(b"Program: Tally\n") and not text[2], text)
+    output = f"{folder}/text"
+    hold("explain: a text in a file", run([*explain, nodes, "--output", output, items]) == (3, b"", b"") and read(output) == text[1])
+    hold("explain: standard input", run([*explain, nodes, "-"], stdin=open(items, "rb")) == text)
+    both = write(f"{folder}/both", directory.hex().encode() + b"\n" + store.hex().encode() + b"\n")
+    hold("explain: two lines in one file", run([*explain, both, both]) == text)
+    for more in (["--proof", proof, items], ["--html", page, "--output", output, items], ["--proof"], ["--json", items]):
+        hold(f"explain: the words {more}", run([*explain, nodes, *more])[0] == 2)
+    left = sorted(set(os.listdir(folder)) - {"nodes", "items", "proof", "c", "twice", "text", "both"})
+    hold("explain: no file is left", left == [], left)
+
+
+# ---- the walk of a page
+
+
+def walk():
+    """The commands of the walk in OPERATORS, each with what is written below it."""
+    page = read(f"{TOP}/docs/OPERATORS.md").decode()
+    section = page[page.index("## A whole walk") :].split("\n## ")[0]
+    for block in re.findall(r"(?:^    .*\n)+", section, re.M):
+        for command in re.findall(r"^    \$ (.*\n(?:^    (?!\$ ).*\n)*)", block, re.M):
+            line, _, below = command.partition("\n")
+            yield line, re.sub(r"^    ", "", below, flags=re.M)
+
+
+def hold_walk(build):
+    with tempfile.TemporaryDirectory() as at:
+        shutil.copytree(EXAMPLES, f"{at}/files")
+        os.mkdir(f"{at}/bin")
+        os.symlink(build, f"{at}/bin/bulwynef")
+        paths = {**os.environ, "PATH": f"{at}/bin:{os.environ['PATH']}"}
+        steps = list(walk())
+        hold("a walk of eight commands", len(steps) == 8, steps)
+        for line, below in steps:
+            done = subprocess.run(["sh", "-c", line], cwd=f"{at}/files", env=paths, capture_output=True, timeout=300)
+            hold(f"the walk: {line}", (done.stdout.decode(), done.stderr) == (below, b""), done)
+
+
 def main():
     for name, text in examples():
         hold_example(name, text)
     lines = read(f"{EXAMPLES}/equivocation.txt").splitlines()
     directory, store = (bytes.fromhex(line.decode()) for line in lines[:2])
     for build in BUILDS:
+        for rows in (hold_faults, hold_explain):
+            with tempfile.TemporaryDirectory() as folder:
+                rows(build, folder, directory, store)
+        for rows in (hold_shows, hold_json, hold_play):
+            with tempfile.TemporaryDirectory() as folder:
+                rows(hold, run, build, folder)
+        hold_bundles(hold, run, build)
         with tempfile.TemporaryDirectory() as folder:
-            hold_faults(build, folder, directory, store)
+            hold_devices(hold, run, build, folder, {"nodes": directory, "items": store, "scenario": read(f"{EXAMPLES}/scenario.txt")})
+        hold_walk(build)
+    found = list(manual.faults(BUILDS[0], write=False))
+    hold("the manual page and the completions", found == [], found)
     if len(sys.argv) > 1:
         for file in sorted(os.listdir(sys.argv[1])):
             if file.endswith(".args"):

@@ -3,13 +3,14 @@
 
     checks/pages/run.py PROGRAM [FOLDER] [--node-sim PROGRAM]
 
-PROGRAM is `explain`; FOLDER is where the pages, their pictures and their prints go (a new one below /tmp if none is given). With
+PROGRAM is `bulwynef`; FOLDER is where the pages, their pictures and their prints go (a new one below /tmp if none is given). With
 `node_sim`, the page of a proof of each node that a store exposes is opened too. It builds nothing. Debian's chromium is installed where
 no browser is there.
 
 A page is held to this: it runs nothing, asks for nothing and links to nothing but itself; it has a language, a title, and what the
 picture shows in tables too; its sentences are those of the text; the entries that are marked in the picture are those that the sentences
-name, each with a shape and a link to its sentence; and in light and in dark each text stands out from its ground.
+name, each with a shape and a link to its sentence; in light and in dark each text stands out from its ground; and a window of 360 pixels
+opens the picture at its first marked entry, with the names of the nodes beside it.
 """
 import argparse, os, re, subprocess, sys, tempfile
 
@@ -74,6 +75,19 @@ FACTS = r'''(() => {
   }
 })()'''
 
+# What is asked of it on a phone: whether the first marked entry is in sight beside the names of the nodes, and how many stops of the tab key
+# a table has.
+NARROW = r'''(() => {
+  const scroll = document.querySelector('.scroll'), names = document.querySelector('.names'), marked = document.querySelector('svg .marked .box');
+  const at = (e) => e.getBoundingClientRect();
+  return {
+    wide: document.documentElement.scrollWidth > document.documentElement.clientWidth,
+    names: !names || Math.abs(at(names).left - at(scroll).left) < 2,
+    marked: !marked || (at(marked).left >= at(names).right - 2 && at(marked).right <= at(scroll).right + 2),
+    stops: Math.max(0, ...[...document.querySelectorAll('.scroll')].map((e) => e.querySelectorAll('a:not([tabindex="-1"]), summary, [tabindex="0"]').length)),
+  };
+})()'''
+
 ALLOWED = set('html head meta title style body header main nav section h1 h2 p ul li a span strong code div details summary dl dt dd pre '
               'table thead tbody tr th td svg g rect path text desc'.split())
 
@@ -98,6 +112,19 @@ def inputs():
 def said(program, text, *words):
     ran = subprocess.run([program, *words], input=text, stdout=subprocess.PIPE)
     need(ran.returncode == 0, program, *words, 'ended with', ran.returncode)
+    return ran.stdout
+
+
+def explained(program, text, what, *words):
+    """What is written of the two lines, each in a file of its own."""
+    with tempfile.TemporaryDirectory() as folder:
+        names = [os.path.join(folder, str(number)) for number in range(2)]
+        for name, line in zip(names, text.split()):
+            with open(name, 'wb') as out:
+                out.write(bytes.fromhex(line.decode()))
+        evidence = ['--proof', names[1]] if what == 'proof' else [names[1]]
+        ran = subprocess.run([program, 'explain', '--directory', names[0], *words, *evidence], stdout=subprocess.PIPE)
+    need(ran.returncode in (0, 3), program, *words, 'ended with', ran.returncode)
     return ran.stdout
 
 
@@ -189,13 +216,24 @@ def hold_colours(name, scheme, facts):
         need(contrast(ink, ground) >= 4.5, name, scheme, text, ink, 'on', ground, round(contrast(ink, ground), 2))
 
 
+def hold_narrow(browser, folder, name, path):
+    """That a phone shows it without being wider than the window, and opens the picture at the first marked entry."""
+    browser.open(path, 'light', 360)
+    facts = browser.value(NARROW)
+    need(not facts['wide'], name, 'is wider than a phone')
+    need(facts['names'], name, 'has its names out of sight on a phone')
+    need(facts['marked'], name, 'opens without its marked entry in sight on a phone')
+    need(facts['stops'] == 0, name, 'has', facts['stops'], 'stops in a picture or a table')
+    browser.picture(os.path.join(folder, f'{name}-phone.png'))
+
+
 def look(browser, program, folder, name, text, what):
     """Opens the page of an input, and gives the text of the same."""
-    page = said(program, text, what, '--html')
+    page = explained(program, text, what, '--html', '-')
     path = os.path.join(folder, name + '.html')
     with open(path, 'wb') as out:
         out.write(page)
-    told = said(program, text, what)
+    told = explained(program, text, what)
     lines = [text.decode()] if what == 'proof' else []
     for scheme in ['light', 'dark']:
         asked, complaints = browser.open(path, scheme)
@@ -206,6 +244,8 @@ def look(browser, program, folder, name, text, what):
         need(facts['lines'] == lines, name, 'has other lines than the input')
         hold_colours(name, scheme, facts)
         browser.picture(os.path.join(folder, f'{name}-{scheme}.png'))
+    hold_narrow(browser, folder, name, path)
+    browser.open(path, 'light')
     need(browser.print(os.path.join(folder, name + '.pdf')) >= 1, name, 'prints on no sheet')
     return told
 

@@ -3,8 +3,9 @@
 
     breadth.py [list]
 
-breadth.txt has a line for each function that is broader: its crate, its name, its arguments and its clauses. The script fails where the
-sources have others: so a broad function is seen when it comes. With `list` it writes what the sources have; the list is to get shorter.
+The runtime and the allocator (`rt`, `alloc`), which each call that needs them is handed, are not counted. breadth.txt has a line for each
+function that is broader: its crate, its name, its arguments and its clauses. The script fails where the sources have others: so a broad
+function is seen when it comes. With `list` it writes what the sources have; the list is to get shorter.
 """
 import re
 import sys
@@ -32,19 +33,24 @@ def behind(text, place, opening, closing):
     raise ValueError(f"no {closing} at {place}")
 
 
-def arguments_of(text):
-    """How many arguments stand in the brackets: what commas part that stand in no other bracket."""
-    depth, parts, seen = 0, 0, False
+def arguments_in(text):
+    """The arguments in the brackets: what commas part that stand in no other bracket."""
+    depth, part, parts = 0, "", []
     for at, sign in enumerate(text):
-        if sign in "([{<":
-            depth += 1
-        elif sign in ")]}" or (sign == ">" and text[at - 1] != "-"):
+        if sign in ")]}" or (sign == ">" and text[at - 1] != "-"):
             depth -= 1
         if sign == "," and depth == 1:
-            parts, seen = parts + seen, False
-        elif depth == 1 and not sign.isspace() and sign != "(":
-            seen = True
-    return parts + seen
+            parts, part = [*parts, part], ""
+        elif depth:
+            part += sign
+        if sign in "([{<":
+            depth += 1
+    return [part for part in [*parts, part] if part.strip()]
+
+
+def arguments_of(text):
+    """How many arguments stand in the brackets, beside the runtime and the allocator."""
+    return sum(not re.match(r"\s*(?:rt|alloc)\s*:", argument) for argument in arguments_in(text))
 
 
 def functions_of(text):

@@ -1,6 +1,7 @@
 #!/usr/bin/env python3
 """Counts the words that were written by hand on each page, and ends with status 1 where a page has more than its budget, has none, or does
-not begin with who reads it and how long that takes.
+not begin with who reads it and how long that takes; and where the table of docs/README.md gives a page other minutes than it says, or sums
+them wrongly.
 
 A word is what stands between blanks and has a letter or a digit. Blocks of code do not count: commands with what they write, formats and
 programs. Nor does what a script makes: it stands between `<!-- made by NAME -->` and `<!-- end -->`. The scripts that make such parts take `Part` from here: each compares what stands on
@@ -13,6 +14,8 @@ from pathlib import Path
 
 TOP = Path(__file__).resolve().parents[2]
 
+# Where pages stand that are written by hand.
+PAGES = ["*.md", "docs/*.md", "checks/**/*.md", "distributed/*.md", "examples/**/*.md", "python/*.md", "c/*.md", "second_opinion/*.md"]
 # Pages, and the words that they have together at most; each other page has OTHER.
 OTHER = 900
 BUDGETS = [
@@ -23,6 +26,7 @@ BUDGETS = [
     (1500, ["docs/DEFINITIONS.md"]),
     (3500, ["docs/DECISIONS.md"]),
     (1500, ["docs/PROVING.md"]),
+    (1250, ["distributed/README.md"]),
     (9000, ["docs/FORMATS.md", "docs/PROGRAMS.md", "docs/OPERATORS.md", "docs/AUDITORS.md", "CONTRIBUTING.md"]),
     (3500, ["docs/BENCHMARKS.md", "docs/GATE.md", "docs/TESTS.md", "examples/README.md"]),
 ]
@@ -30,6 +34,7 @@ BUDGETS = [
 MADE = re.compile(r"<!-- made by [^>]*-->\n.*?<!-- end -->\n", re.S)
 CODE = re.compile(r"^```.*?^```$|^    [^\n]*$", re.M | re.S)
 TIME = re.compile(r"^_.*\b(minutes?|hours?|evening)\b.*_$", re.M)
+NUMBERS = "zero one two three four five six seven eight nine ten eleven twelve thirteen fourteen fifteen sixteen seventeen eighteen nineteen twenty".split()
 
 
 class Part:
@@ -59,6 +64,12 @@ def words_of(text):
     return sum(any(letter.isalnum() for letter in word) for word in CODE.sub("", MADE.sub("", text)).split())
 
 
+def head_of(text):
+    """What a page says of its readers and their time."""
+    found = TIME.search("\n".join(text.splitlines()[:6]))
+    return found[0] if found else ""
+
+
 def faults_of(budget, pages):
     """What is wrong with pages that have a budget together."""
     counts = {}
@@ -69,17 +80,29 @@ def faults_of(budget, pages):
             continue
         text = path.read_text(encoding="utf-8")
         counts[page] = words_of(text)
-        if not TIME.search("\n".join(text.splitlines()[:6])):
+        if not head_of(text):
             yield f"{page}: its first lines do not say, in italics, who reads it and how long that takes"
     if sum(counts.values()) > budget:
         yield f"{', '.join(f'{page} {count}' for page, count in counts.items())}: {sum(counts.values())} words, {budget} at most"
 
 
+def faults_of_the_way_in():
+    """What is wrong with the minutes of docs/README.md: those of whole pages, and the sums."""
+    page = TOP / "docs/README.md"
+    for who, reading, minutes in re.findall(r"^\| (.*?) \| (.*) \| (.*?) \|$", page.read_text(encoding="utf-8"), re.M):
+        parts = [int(part) for part in re.findall(r", (\d+)", reading)]
+        if parts and sum(parts) != sum(map(int, re.findall(r"\d+", minutes))):
+            yield f"docs/README.md: {who}: the parts take {sum(parts)} minutes, and the last column says {minutes}"
+        for link, taken in re.findall(r"\]\(([^)#]+\.md)\), (\d+)", reading):
+            if NUMBERS[int(taken)] not in re.findall(r"\w+", head_of((page.parent / link).read_text(encoding="utf-8"))):
+                yield f"docs/README.md: {link} takes {taken} minutes, and does not say so itself"
+
+
 def main():
     known = {page for _, pages in BUDGETS for page in pages}
-    pages = sorted(path.relative_to(TOP).as_posix() for path in (*TOP.glob("*.md"), *TOP.glob("docs/*.md")))
+    pages = sorted(path.relative_to(TOP).as_posix() for pattern in PAGES for path in TOP.glob(pattern))
     budgets = BUDGETS + [(OTHER, [page]) for page in pages if page not in known]
-    faults = [fault for budget, pages in budgets for fault in faults_of(budget, pages)]
+    faults = [fault for budget, pages in budgets for fault in faults_of(budget, pages)] + list(faults_of_the_way_in())
     print(*faults, sep="\n", end="\n" if faults else "")
     if not faults:
         total = sum(words_of((TOP / page).read_text(encoding="utf-8")) for _, pages in budgets for page in pages)

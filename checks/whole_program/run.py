@@ -3,7 +3,7 @@
 
 What the engine writes for an input is proved over any reader and writer. That `main` hands the real ones to it, prints a refusal and
 ends with the right status is shown here: each run names its input, its words, and what must come out. Both builds are run, that of LLVM
-and that of Rattle's own compiler, where they are there. Wants crates/node_sim/out/node_sim, and beside it mailbox_sim and explain, which `rt ci` and `rt run` leave.
+and that of Rattle's own compiler, where they are there. Wants crates/node_sim/out/node_sim, and beside it mailbox_sim, which `rt ci` and `rt run` leave.
 """
 
 import itertools
@@ -24,6 +24,15 @@ import transfers
 
 BUILDS = [f"{TOP}/crates/node_sim/out/node_sim{ending}" for ending in ("", ".by-rattle")]
 LONGEST_INPUT = 67_108_864
+# Wishes of the users of mailbox_sim, and the moments that they stand for, each with its node.
+MOMENTS = [
+    (b"write 2 see you at 5", [b"2 9760256302452928373", b"2 9583660146118369333"]),
+    (b"leave 2 4", [b"2 9799832789158199300"]),
+    (b"leave 2 2", [b"2 9799832789158199298"]),
+    (b"fetch 2", [b"2 9223372036854775808"]),
+    (b"fetch 3", [b"3 9223372036854775808"]),
+    (b"fetch 4", [b"4 9223372036854775808"]),
+]
 
 
 def statements(store):
@@ -132,12 +141,13 @@ def page(build):
     with tempfile.TemporaryDirectory() as folder:
         shutil.copytree(f"{TOP}/examples", f"{folder}/examples")
         os.symlink(build, f"{folder}/node_sim")
-        os.symlink(beside(build, "explain"), f"{folder}/explain")
+        os.symlink(beside(build, "bulwynef"), f"{folder}/bulwynef")
         words = {**os.environ, "PATH": f"{folder}:{os.environ['PATH']}"}
         for commands, want in sessions():
             done = subprocess.run(["bash", "-c", "\n".join(commands)], cwd=f"{folder}/examples", env=words, capture_output=True)
             got = (done.returncode, done.stdout.decode(), done.stderr.decode())
-            yield f"the page of examples: {commands[-1]}", got, lambda got, want=want: got == (0, want, "")
+            ends = (0, 3, 4) if "bulwynef" in commands[-1] else (0,)
+            yield f"the page of examples: {commands[-1]}", got, lambda got, want=want, ends=ends: got[0] in ends and got[1:] == (want, "")
 
 
 def other_program(build):
@@ -151,6 +161,17 @@ def other_program(build):
         yield f"mailbox_sim: the words {' '.join(words)}", run(sim, words, at_once(example)), lambda got: got[0] == 2 and got[1] == ""
     yield "mailbox_sim: its name", run(sim, ["--help"]), lambda got: "Usage: mailbox_sim" in got[2]
     yield "mailbox_sim: a refusal", run(sim, ["check"], at_once(b"")), lambda got: got == (1, "", "refused 104 LineCount\n")
+    with open(f"{TOP}/crates/mailbox_sim/stdin", "rb") as file:
+        scenario = file.read()
+    said = run(sim, ["run"], at_once(scenario))
+    moments = scenario
+    for words, numbers in MOMENTS:
+        assert words in moments, words
+        moments = moments.replace(words, b"\n".join(b"timer " + number for number in numbers))
+    yield "mailbox_sim: moments in place of wishes", run(sim, ["run"], at_once(moments)), lambda got: got == said and got[0] == 0
+    for line in [b"leave 2 x", b"leave 2 04", b"leave 2 +4", b"fetch 2 3", b"fetch x", b"write 2", b"audit 2\r"]:
+        got = run(sim, ["run"], at_once(scenario + line + b"\n"))
+        yield f"mailbox_sim: {line}", got, lambda got: got == (1, "", "refused 105 BadScenario\n")
 
 
 def scenes():

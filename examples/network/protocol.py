@@ -122,6 +122,11 @@ def in_turn(data):
         yield item
 
 
+def items_of(export):
+    """The items of a store's export, behind its first eight bytes and its count."""
+    return in_turn(export[16:])
+
+
 def entry_hash(prev, seq, kind, content):
     return hashlib.sha256(prev + struct.pack(">QB", seq, kind) + hashlib.sha256(content).digest()).digest()
 

@@ -152,7 +152,7 @@ class Relay:
         if seq not in self.tries:
             self.signatures += 1
         self.tries[seq] = self.tries.get(seq, 0) + 1
-        self.due[seq] = self.age() + min(0.2 * 2 ** self.tries[seq], 4)
+        self.due[seq] = self.age() + min(0.2 * 2 ** min(self.tries[seq], 5), 4)
         self.accept(await self.link.ask(self.ports[receiver], protocol.ANSWER, item, "messages"))
         if self.tries[seq] >= TRIES and seq in self.node.waiting():
             for port in self.told["witnesses"]:

@@ -5,12 +5,12 @@
            [--lose P] [--repeat P] [--reorder P] [--delay S] [--seed N] [--mails N] [--w 4]
 
 Faults: `drops` acknowledges mails and goes on as if they had not come, `modifies` sends something else on, `forks` tells two histories,
-and `silent` answers nothing from a third of the time on, though it goes on to send; `--faults ""` has none. Each epoch has a directory and fresh nodes of its own;
-with --kill a witness is killed in the midst of each and started again. At the end of each epoch both witnesses must export the same
-bytes; each faulty relay must be exposed, or suspected where it is silent, and each other one trusted; and each proof must convince a
-process that has the directory and the proof alone, by the library, and second_opinion/check.py. Ends with 1 where that is not so.
---keep leaves the directory and the export of each epoch as `mailbox_sim status` reads them. Needs the package of python/ (BULWYNEF_LIBRARY may
-name the shared library).
+and `silent` answers nothing from a third of the time on, though it goes on to send; `--faults ""` has none. Each epoch has a directory and
+fresh nodes of its own; with --kill a witness is killed in the midst of each and started again. At the end of each epoch both witnesses must
+export the same bytes; each faulty relay must be exposed, or suspected where it is silent, and each other one trusted; and each proof must
+convince processes that have the directory and the proof alone: the library, second_opinion/check.py and, where it is built, `bulwynef
+check`. Ends with 1 where that is not so. --keep leaves of each epoch the directory and the export as `mailbox_sim status` reads them,
+what is explained of them and, where bulwynef is built, its page. Needs the package of python/ (BULWYNEF_LIBRARY may name the shared library).
 """
 
 import argparse
@@ -20,6 +20,7 @@ import json
 import os
 import signal
 import socket
+import subprocess
 import sys
 import tempfile
 import time
@@ -34,7 +35,7 @@ except ImportError:
 sys.path.insert(0, HERE)
 
 import protocol
-from bulwynef import Key, directory
+from bulwynef import Key, Program, Store, directory
 
 RELAYS, WITNESSES, KEEPER = range(1, 6), 2, 1
 MOST_SECONDS = 1800
@@ -42,8 +43,13 @@ WANTED = {"drops": "exposed", "modifies": "exposed", "forks": "exposed", "silent
 H10, TYPES_OF_W = 6, {1: 1, 2: 2, 4: 3, 8: 4}
 # The keeper signs some four times for a mail, and a key of H10 signs 1,024 times.
 KEYS = {KEEPER: 4}
-CHECK = "import sys; from bulwynef import Program, check_proof; print(check_proof(*map(bytes.fromhex, sys.stdin.read().split()), Program.MAILBOX))"
-SECOND = [os.path.join(TOP, "second_opinion", "check.py"), "--program", "mailbox", "-"]
+CHECK = """
+import sys
+from bulwynef import Program, check_proof
+listed, proof = map(bytes.fromhex, open(sys.argv[1]).read().split())
+print("exposes", check_proof(listed, proof, Program.MAILBOX))
+"""
+BULWYNEF = os.path.join(TOP, "crates", "bulwynef", "out", "bulwynef")
 
 
 def free_ports(count):
@@ -74,12 +80,18 @@ async def started(script, told):
     return process
 
 
-async def said_by(words, given):
-    """What a process writes to what it is given."""
-    pipe = asyncio.subprocess.PIPE
-    process = await asyncio.create_subprocess_exec(sys.executable, *words, stdin=pipe, stdout=pipe, env=environment())
-    said, _ = await process.communicate(given.encode())
+async def said_by(words):
+    """What a process writes."""
+    process = await asyncio.create_subprocess_exec(*words, stdout=asyncio.subprocess.PIPE, env=environment())
+    said, _ = await process.communicate()
     return said.decode().strip()
+
+
+def checkers(path):
+    """The commands that tell whom a proof convicts; the file has the directory and the proof, each in a line of digits."""
+    second = os.path.join(TOP, "second_opinion", "check.py")
+    found = [[sys.executable, "-c", CHECK, path], [sys.executable, second, "--program", "mailbox", path]]
+    return found + [[BULWYNEF, "check", "--program", "mailbox", "--directory", path, path]] * os.path.exists(BULWYNEF)
 
 
 class Epoch:
@@ -181,11 +193,13 @@ class Epoch:
             return ["a witness does not answer"]
         wrong = [] if exports[0] == exports[1] else ["the witnesses export other bytes"]
         proofs = {(node, proof) for report in reports for node, proof in report["proofs"].items()}
+        path = os.path.join(self.folder, f"epoch{self.number}.proof")
         for node, proof in proofs:
-            lines = f"{self.listed.hex()}\n{proof}\n"
-            said = await said_by(["-c", CHECK], lines), await said_by(SECOND, lines)
-            wrong += [] if said == (node, f"exposes {node}") else [f"the proof against {node} does not convince: {said}"]
-        print(f"epoch {self.number}: {len(proofs)} proofs were checked by two other processes each", flush=True)
+            with open(path, "w", encoding="ascii") as file:
+                file.write(f"{self.listed.hex()}\n{proof}\n")
+            said = [await said_by(words) for words in checkers(path)]
+            wrong += [f"the proof against {node} does not convince: {said}"] * any(it.split("\n")[0] != f"exposes {node}" for it in said)
+        print(f"epoch {self.number}: {len(proofs)} proofs were checked by {len(checkers(path))} other processes each", flush=True)
         return [each for report in reports for each in self.differs(report)] + wrong
 
     def sum_up(self, reports, relays):
@@ -202,11 +216,16 @@ class Epoch:
             if told and told["fault_at"] and seen:
                 print(f"epoch {self.number}: {node} {self.words.faults.get(node)}: exposed {min(seen) - told['fault_at']:.1f} s after its fault")
 
-    def keep(self, exports):
-        path = os.path.join(self.words.keep, f"epoch{self.number}.txt")
-        with open(path, "w", encoding="ascii") as file:
-            file.write(f"{self.listed.hex()}\n{exports[0].hex()}\n")
-        print(f"epoch {self.number}: {path}, sha256 of the export {hashlib.sha256(exports[0]).hexdigest()}")
+    def keep(self, export):
+        path = os.path.join(self.words.keep, f"epoch{self.number}")
+        with open(f"{path}.txt", "w", encoding="ascii") as file:
+            file.write(f"{self.listed.hex()}\n{export.hex()}\n")
+        with open(f"{path}.explained.txt", "w", encoding="utf-8") as file, Store(self.listed, Program.MAILBOX) as store:
+            store.load(export)
+            file.write(store.explain())
+        print(f"epoch {self.number}: {path}.txt, sha256 of the export {hashlib.sha256(export).hexdigest()}; why: {path}.explained.txt")
+        if os.path.exists(BULWYNEF) and draw(f"{path}.txt", f"{path}.html"):
+            print(f"epoch {self.number}: its page: {path}.html")
 
     async def run(self):
         try:
@@ -218,10 +237,22 @@ class Epoch:
             await self.end()
         self.sum_up(reports, relays)
         if self.words.keep and exports[0]:
-            self.keep(exports)
+            self.keep(exports[0])
         for each in wrong:
             print(f"epoch {self.number}: {each}")
         return not wrong
+
+
+def draw(lines, page):
+    """Whether the page of the two lines of a file was written: bulwynef ends with 3 where somebody is exposed."""
+    with open(lines, encoding="ascii") as file:
+        files = [f"{lines}.{kind}" for kind in ("directory", "store")]
+        for path, line in zip(files, file):
+            with open(path, "wb") as made:
+                made.write(bytes.fromhex(line))
+    listed, store = files
+    ran = subprocess.run([BULWYNEF, "explain", "--program", "mailbox", "--directory", listed, "--html", page, store])
+    return ran.returncode in (0, 3)
 
 
 def faults_of(text):

@@ -30,8 +30,15 @@ class Witness:
         self.acks, self.asked_last, self.taken, self.refused = {}, set(), 0, 0
         self.began, self.is_over, self.turns = time.monotonic(), False, 0
         if os.path.exists(told["kept"]):
-            with open(told["kept"], "rb") as kept:
-                self.taken = self.store.load(kept.read())
+            self.take_up(told["kept"])
+
+    def take_up(self, path):
+        """Takes up what it wrote down before it died."""
+        with open(path, "rb") as kept:
+            export = kept.read()
+        self.taken = self.store.load(export)
+        for item in protocol.items_of(export):
+            self.notice(item)
 
     # ---- what others ask
 
@@ -68,6 +75,9 @@ class Witness:
     def take(self, item):
         """Takes an item, and keeps in mind what it tells."""
         self.taken += self.store.take(item)
+        self.notice(item)
+
+    def notice(self, item):
         if item[0] == protocol.AUTH:
             self.see(protocol.statement_of(item))
         elif item[0] == protocol.MESSAGE:

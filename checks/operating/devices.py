@@ -1,0 +1,100 @@
+"""Fails each call of `bulwynef` on its files in turn, and holds each run to "refused, and nothing is left" or the right answer.
+
+failing.c, loaded before the C library, fails the call: of each kind of call the first, then the second, and so on, until a run makes no more.
+Wants gcc. The calls of LLVM's build and of the other one are the same.
+"""
+
+import os
+import re
+import subprocess
+
+HERE = os.path.dirname(os.path.abspath(__file__))
+KINDS = ["open", "read", "write", "fsync", "mkdir", "rename"]
+# By the kind of call that fails: the refusals that may be told of it.
+REFUSED = {"open": {100, 102}, "read": {100}, "write": {102}, "fsync": {102}, "mkdir": {102}, "rename": {102}}
+MOST = 200
+
+
+def make_library(folder):
+    library = f"{folder}/failing.so"
+    subprocess.run(["gcc", "-O2", "-shared", "-fPIC", "-o", library, f"{HERE}/failing.c", "-ldl"], check=True)
+    return library
+
+
+class Devices:
+    """Runs of a program in a folder of its own, in which its files stand."""
+
+    def __init__(self, run, build, library, folder, files):
+        self.run, self.build, self.folder, self.told = run, build, folder, f"{folder}.told"
+        self.library, self.files = library, files
+
+    def empty(self):
+        for name in os.listdir(self.folder):
+            subprocess.run(["rm", "-rf", f"{self.folder}/{name}"], check=True)
+        for name, data in self.files.items():
+            with open(f"{self.folder}/{name}", "wb") as it:
+                it.write(data)
+
+    def made(self, words, fails):
+        """What the program answers, what stands in the folder behind it, and whether the call was made that fails."""
+        self.empty()
+        env = {**os.environ, "LD_PRELOAD": self.library, "FAILS": fails, "TOLD": self.told}
+        answer = self.run([self.build, *words], cwd=self.folder, env=env)
+        was_made = os.path.exists(self.told)
+        if was_made:
+            os.remove(self.told)
+        return answer, self.found(), was_made
+
+    def found(self):
+        found = {}
+        for at, _, names in os.walk(self.folder):
+            for name in names:
+                path = os.path.join(at, name)
+                with open(path, "rb") as it:
+                    found[os.path.relpath(path, self.folder)] = it.read()
+        return found
+
+
+def is_refused(kind, answer):
+    status, out, error = answer
+    told = re.match(rb"refused (\d+) \w+", error)
+    return status == 1 and out == b"" and bool(told) and int(told[1]) in REFUSED[kind]
+
+
+def hold_calls(hold, devices, words):
+    """Each call of each kind fails: the run is refused, and what was there stays; or it does without."""
+    right, left, _ = devices.made(words, "none 0")
+    hold(f"{words[0]} on good devices", right[0] in (0, 3), right)
+    for kind in KINDS:
+        for number in range(1, MOST):
+            answer, found, was_made = devices.made(words, f"{kind} {number}")
+            if not was_made:
+                is_so = (answer, found) == (right, left) and (number > 1 or kind not in ("open", "read"))
+                hold(f"{words[0]}: {kind} {number} is not made", is_so, answer)
+                break
+            is_so = (is_refused(kind, answer) and found == devices.files) or (answer, found) == (right, left)
+            hold(f"{words[0]}: {kind} {number} fails", is_so, (answer, sorted(found)))
+    for number in range(1, MOST):
+        answer, found, was_made = devices.made(words, f"interrupted read {number}")
+        hold(f"{words[0]}: read {number} is interrupted", (answer, found) == (right, left), answer)
+        if not was_made:
+            break
+    answer, found, _ = devices.made(words, "short")
+    hold(f"{words[0]} by pieces of seven bytes", (answer, found) == (right, left), answer)
+
+
+def hold_devices(hold, run, build, folder, files):
+    library = make_library(folder)
+    os.mkdir(f"{folder}/there")
+    devices = Devices(run, build, library, f"{folder}/there", {**files, "old": b"what was there"})
+    on = ["--directory", "nodes", "--workers", "2"]
+    for words in (
+        ["status", *on, "items"],
+        ["merge", *on, "--output", "new", "items", "items"],
+        ["merge", *on, "--output", "old", "items"],
+        ["prove", *on, "--output", "new", "2", "items"],
+        ["explain", *on, "--html", "new", "items"],
+        ["show", "items"],
+        ["play", "--workers", "2", "--output", "played", "scenario"],
+    ):
+        hold_calls(hold, devices, words)

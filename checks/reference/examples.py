@@ -1,0 +1,74 @@
+#!/usr/bin/env python3
+"""Holds the files of bytes in examples/ to the lines of digits there: each file is the bytes of one line; and what pages say that `explain` writes
+to what is stored in examples/explained.
+
+    checks/reference/examples.py [write]
+
+The first line of a text is its directory, `nodes.dir` where it is that of most texts, else `NAME.dir`; the others are its stores: `NAME.store`, or
+`NAME.1.store`, `NAME.2.store` and so on. `NAME.proof` is the proof of `NAME.bundle`. With `write` the files are made anew.
+"""
+
+import re
+import sys
+from collections import Counter
+from pathlib import Path
+
+TOP = Path(__file__).resolve().parents[2]
+EXAMPLES = TOP / "examples"
+PAGES = ["README.md", "examples/README.md", "docs/OPERATORS.md"]
+MADE = {".dir", ".store", ".proof"}
+
+
+def texts():
+    """Each text's name, and its lines as bytes."""
+    for path in sorted(EXAMPLES.glob("*.txt")):
+        if path.stem != "scenario":
+            yield path.stem, [bytes.fromhex(line) for line in path.read_text().splitlines()]
+
+
+def wanted():
+    """Each file's name, and its bytes."""
+    common = Counter(lines[0] for _, lines in texts()).most_common(1)[0][0]
+    files = {"nodes.dir": common}
+    for name, (directory, *stores) in texts():
+        if directory != common:
+            files[f"{name}.dir"] = directory
+        for number, store in enumerate(stores, 1):
+            files[f"{name}.store" if len(stores) == 1 else f"{name}.{number}.store"] = store
+    for path in sorted(EXAMPLES.glob("*.bundle")):
+        files[f"{path.stem}.proof"] = bytes.fromhex(path.read_text().splitlines()[-1])
+    return files
+
+
+def told_otherwise():
+    """What pages say that `explain` writes, where none of the stored answers is so."""
+    stored = {path.read_text() for path in (EXAMPLES / "explained").glob("*.txt")}
+    for page in PAGES:
+        told = re.findall(r"^    \$ .*\bexplain .*\n((?:    [^$].*\n)+)", (TOP / page).read_text(), re.M)
+        texts = [re.sub(r"^    ", "", text, flags=re.M) for text in told]
+        yield from (f"{page}: explain writes otherwise: {text.splitlines()[0]} .." for text in texts if text not in stored)
+        if not texts:
+            yield f"{page}: tells nothing of what explain writes"
+
+
+def main():
+    faults = list(told_otherwise())
+    files = wanted()
+    there = {path.name: path for path in EXAMPLES.iterdir() if path.suffix in MADE}
+    if sys.argv[1:] == ["write"]:
+        for path in there.values():
+            path.unlink()
+        for name, data in files.items():
+            (EXAMPLES / name).write_bytes(data)
+        there = {name: EXAMPLES / name for name in files}
+    wrong = sorted(name for name in files.keys() | there.keys() if name not in there or files.get(name) != there[name].read_bytes())
+    for name in wrong:
+        print(f"examples/{name}: is not the bytes of its line: write it anew by the word `write`")
+    print(*faults, sep="\n", end="\n" if faults else "")
+    if not wrong and not faults:
+        print(f"{len(files)} files of examples/ are the bytes of their lines, and {len(PAGES)} pages tell of explain what is stored")
+    return 1 if wrong or faults else 0
+
+
+if __name__ == "__main__":
+    sys.exit(main())
