@@ -1,0 +1,18 @@
+#!/bin/sh
+# run.sh HOSTS K RUN [WORDS..]: asks the evidence of RUN/stores, K shards, on the machines of HOSTS, and writes the lines of all nodes.
+#
+# HOSTS is a --sshloginfile of GNU parallel (Debian's package parallel), one line a machine, as `8/user@machine`. Each machine has this folder and
+# RUN under the same names, and the program bulwynef, which BULWYNEF names. RUN has `nodes`, the directory, `stores`, the names of the stores, one a line, and
+# perhaps `how` (split.sh).
+# A task whose machine fails is done by another, three times at most. Ends with 3 where somebody is exposed, 1 where a task failed for good.
+set -eu
+hosts=$1 count=$2 run=$3
+shift 3
+here=$(cd "$(dirname "$0")" && pwd)
+mkdir -p "$run/parts" "$run/counts" "$run/told"
+rm -f "$run"/told/*
+# parallel ends with the number of tasks that failed, which could be 3.
+on_all() { parallel --will-cite --sshloginfile "$hosts" --retries 3 --env BULWYNEF "$@"; }
+seq "$(sed -n '$=' "$run/stores")" | on_all --joblog "$run/split.log" "$here/split.sh" "$run" "$count" {} || exit 1
+seq 0 $((count - 1)) | on_all --joblog "$run/status.log" "$here/status.sh" "$run" "$count" {} "$@" || exit 1
+exec "$here/report.sh" "$run" "$count"

@@ -1,0 +1,16 @@
+#!/bin/sh
+# slurm.sh K RUN [WORDS..]: the same two steps as arrays of a Slurm cluster (Debian's package slurm-wlm). It waits for their end.
+#
+# RUN is as for run.sh. What a node of the cluster loses is queued again by Slurm (--requeue), and the lines are those of run.sh.
+set -eu
+count=$1 run=$2
+shift 2
+here=$(cd "$(dirname "$0")" && pwd)
+mkdir -p "$run/parts" "$run/counts" "$run/told" "$run/slurm"
+rm -f "$run"/told/*
+stores=$(sed -n '$=' "$run/stores")
+submit() { sbatch --parsable --requeue --output "$run/slurm/%x-%A-%a" "$@"; }
+split=$(submit --job-name split --array "1-$stores" --wrap "exec '$here/split.sh' '$run' $count \$SLURM_ARRAY_TASK_ID") || exit 1
+status=$(submit --job-name status --array "0-$((count - 1))" --dependency "afterok:$split" --kill-on-invalid-dep yes --wait --wrap "exec '$here/status.sh' '$run' $count \$SLURM_ARRAY_TASK_ID $*") || exit 1
+echo "slurm.sh: jobs $split and $status" >&2
+exec "$here/report.sh" "$run" "$count"

@@ -1,0 +1,24 @@
+#!/bin/sh
+# split.sh RUN K N: parts store N of RUN/stores into K shards. It may run twice, and anywhere: what it writes is a function of the store.
+#
+# RUN is a folder that all machines have under this name. Line N of RUN/stores, from 1 on, is the store's file. Its shard k goes to
+# RUN/parts/k/N.k-of-K, and what each shard counts to RUN/counts/N, last: where that stands, all parts of the store stand. RUN/how, where it
+# stands, has the words that say how items are dealt: `--by range --width W`, or `--extract`, for which RUN/nodes is the directory.
+set -eu
+run=$1 count=$2 number=$3
+here=$(dirname "$0")
+store=$(sed -n "${number}p" "$run/stores")
+[ -n "$store" ] || { echo "split.sh: $run/stores has no line $number" >&2; exit 1; }
+how=$(cat "$run/how" 2> /dev/null || true)
+shift 3
+case $how in *--extract*) set -- --directory "$run/nodes" ;; esac
+own=$(mktemp -d "$run/parts/new.XXXXXX")
+trap 'rm -rf "$own"' EXIT
+"${BULWYNEF:-$here/../crates/bulwynef/out/bulwynef}" split --parts "$count" $how "$@" --output "$own/$number" "$store" > "$own/counts"
+k=0
+while [ "$k" -lt "$count" ]; do
+    mkdir -p "$run/parts/$k"
+    mv -f "$own/$number.$k-of-$count" "$run/parts/$k/"
+    k=$((k + 1))
+done
+mv -f "$own/counts" "$run/counts/$number"

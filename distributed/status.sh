@@ -1,0 +1,29 @@
+#!/bin/sh
+# status.sh RUN K k [WORDS..]: asks shard k of K, and writes the lines of its nodes to RUN/told/k; where RUN/how deals by ranges, those of all
+# nodes. It may run twice, and anywhere.
+#
+# RUN/nodes is the directory; WORDS go to `bulwynef status`, as --program relay. Before anything is asked each store's shard k must be
+# there, with as many items as `split` counted: a part that is lost, or of another K, ends the task with 1.
+set -eu
+run=$1 count=$2 k=$3
+shift 3
+here=$(dirname "$0")
+lost() { echo "status.sh: $1" >&2; exit 1; }
+stores=$(sed -n '$=' "$run/stores")
+number=0
+while [ "$number" -lt "$stores" ]; do
+    number=$((number + 1))
+    part=$run/parts/$k/$number.$k-of-$count
+    [ -f "$run/counts/$number" ] || lost "store $number was not split"
+    wanted=$(sed -n "s,^$k/$count ,,p" "$run/counts/$number")
+    [ -n "$wanted" ] || lost "store $number was not split into $count"
+    [ -f "$part" ] || lost "$part is lost"
+    found=$(od -An -j8 -N8 -tu8 --endian=big "$part" | tr -d ' ')
+    [ "$found" = "$wanted" ] || lost "$part has $found items and not $wanted"
+    set -- "$@" "$part"
+done
+case $(cat "$run/how" 2> /dev/null || true) in *range*) ;; *) set -- --part "$k/$count" "$@" ;; esac
+own=$(mktemp "$run/told/new.XXXXXX")
+trap 'rm -f "$own"' EXIT
+"${BULWYNEF:-$here/../crates/bulwynef/out/bulwynef}" status --directory "$run/nodes" "$@" > "$own" || [ $? = 3 ]
+mv -f "$own" "$run/told/$k"
