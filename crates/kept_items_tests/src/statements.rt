@@ -128,7 +128,7 @@ struct Opens {
     openings: [Option<u64>; 4],
 }
 
-fn opens(kept: &KeptItem<Tally>) -> Opens {
+fn openings_of(kept: &KeptItem<Tally>) -> Opens {
     Opens {
         demand: kept.demand().map(|demand| (demand.opening, demand.last)),
         openings: [
@@ -144,7 +144,7 @@ fn all_opens(alloc: Global) -> Result<Vec<Opens>, Fail> {
     let kept = keep_all(alloc)?;
     let mut all = Vec::new(alloc);
     for one in &kept.kept {
-        all.push(opens(one))?;
+        all.push(openings_of(one))?;
     }
     Ok(all)
 }
