@@ -1,7 +1,8 @@
 #!/usr/bin/env bash
 # build.sh FOLDER NAME CRATE..: builds the program of NAME/main.txt, and of the texts beside it, as FOLDER/NAME. It is no crate of
 # the repository: it is proved and built in FOLDER, over copies of the crates that it stands on. Several programs can share a
-# folder. With words in CPUS, as x86-64-v2 x86-64-v3, it builds one program for each of these processors, as FOLDER/NAME-CPU.
+# folder. TEXTS names texts of other programs that it has too, as takes/clocks.txt. With words in CPUS, as x86-64-v2 x86-64-v3, it
+# builds one program for each of these processors, as FOLDER/NAME-CPU.
 set -eu
 work=$1
 name=$2
@@ -14,7 +15,7 @@ for crate in "$@"; do
   grep "^$crate:" ../../crates.txt >> "$work/crates.txt"
 done
 echo "$name: $*" >> "$work/crates.txt"
-for text in "$name"/*.txt; do
+for text in "$name"/*.txt ${TEXTS:-}; do
   cp "$text" "$work/crates/$name/src/$(basename "$text" .txt).rt"
 done
 touch "$work/crates/$name/specs/Lib.antt"
