@@ -9,8 +9,8 @@ ghost use Rattle.bulwynef_c.specs.Handles.{Is, IsStore, IsText, PairRefuses, Say
 
 use crate::handle::Handle;
 use crate::object::Object;
-use crate::of_program::{mailbox_store, relay_store, tally_store};
-use crate::taking::{put, taken, told};
+use crate::of_program::{mailbox_store, of_store, relay_store, tally_store};
+use crate::taking::{put, put_answer, taken, told};
 use byte_calls::{Refusal, stores};
 use evidence::Evidence;
 use evidence_set::Indication;
@@ -118,12 +118,7 @@ fn exported(object: &Object) -> Result<Vec<u8>, Refusal>
     ensures text { IfOk result (λ text. IsStore (λ S p s. text.items ≡ export_of s.items) object.now) }
     ensures refused { IfErr result (λ f. StoreRefuses (λ S p s e. e ≡ Memory) object.now f) }
 {
-    match object {
-        Object::TallyStore(store) => stores::export(store),
-        Object::RelayStore(store) => stores::export(store),
-        Object::MailboxStore(store) => stores::export(store),
-        _ => Err(Refusal::OtherKind),
-    }
+    of_store!(object, store => stores::export(store))
 }
 
 /// `uint8_t bulwynef_store_export(struct bulwynef_handle *store, struct bulwynef_handle *text)`: the one text of the store's items, `PRSTORE2`.
@@ -135,18 +130,7 @@ pub extern "C" fn bulwynef_store_export(alloc: Global, store: &mut Handle, text:
     ensures refused { (result ≡ 0 → ⊥) → text.new.value ≡ text.old.value }
     ensures store { store.new.value ≡ store.old.value }
 {
-    if text.is_open() {
-        return told(Refusal::StillOpen);
-    }
-    let Some(object) = taken(alloc, store) else {
-        return told(Refusal::Closed);
-    };
-    let answer = exported(&object);
-    *store = Handle::of(object);
-    match answer {
-        Ok(bytes) => put(alloc, text, Object::Text(bytes)),
-        Err(refusal) => told(refusal),
-    }
+    put_answer!(alloc, store, text, object => exported(&object))
 }
 
 /// The text of a proof, or that there is none.
@@ -165,12 +149,7 @@ fn proof_of(alloc: Global, object: &Object, node: u32) -> Result<Vec<u8>, Refusa
     ensures convicts { IfOk result (λ text. IsStore (λ S p s. ConvictsBy node text.items p s) object.now) }
     ensures refused { IfErr result (λ f. StoreRefuses (λ S p s e. ProofFails node p s e) object.now f) }
 {
-    match object {
-        Object::TallyStore(store) => convicting(stores::proof(alloc, store, node)?),
-        Object::RelayStore(store) => convicting(stores::proof(alloc, store, node)?),
-        Object::MailboxStore(store) => convicting(stores::proof(alloc, store, node)?),
-        _ => Err(Refusal::OtherKind),
-    }
+    of_store!(object, store => convicting(stores::proof(alloc, store, node)?))
 }
 
 /// `uint8_t bulwynef_store_proof(struct bulwynef_handle *store, uint32_t node, struct bulwynef_handle *text)`: a proof that convicts the node, where the
@@ -188,18 +167,7 @@ pub extern "C" fn bulwynef_store_proof(
     ensures refused { (result ≡ 0 → ⊥) → text.new.value ≡ text.old.value }
     ensures store { store.new.value ≡ store.old.value }
 {
-    if text.is_open() {
-        return told(Refusal::StillOpen);
-    }
-    let Some(object) = taken(alloc, store) else {
-        return told(Refusal::Closed);
-    };
-    let answer = proof_of(alloc, &object, node);
-    *store = Handle::of(object);
-    match answer {
-        Ok(bytes) => put(alloc, text, Object::Text(bytes)),
-        Err(refusal) => told(refusal),
-    }
+    put_answer!(alloc, store, text, object => proof_of(alloc, &object, node))
 }
 
 /// The text of an open challenge.
@@ -207,12 +175,7 @@ fn challenge_of(alloc: Global, object: &Object, node: u32, place: usize) -> Resu
     ensures text { IfOk result (λ text. IsStore (λ S p s. IsUnansweredAt s node place text.items) object.now) }
     ensures refused { IfErr result (λ f. StoreRefuses (λ S p s e. ChallengeFails node place s e) object.now f) }
 {
-    match object {
-        Object::TallyStore(store) => stores::challenge(alloc, store, node, place),
-        Object::RelayStore(store) => stores::challenge(alloc, store, node, place),
-        Object::MailboxStore(store) => stores::challenge(alloc, store, node, place),
-        _ => Err(Refusal::OtherKind),
-    }
+    of_store!(object, store => stores::challenge(alloc, store, node, place))
 }
 
 /// `uint8_t bulwynef_store_challenge(struct bulwynef_handle *store, uint32_t node, size_t place, struct bulwynef_handle *text)`: the
@@ -231,16 +194,5 @@ pub extern "C" fn bulwynef_store_challenge(
     ensures refused { (result ≡ 0 → ⊥) → text.new.value ≡ text.old.value }
     ensures store { store.new.value ≡ store.old.value }
 {
-    if text.is_open() {
-        return told(Refusal::StillOpen);
-    }
-    let Some(object) = taken(alloc, store) else {
-        return told(Refusal::Closed);
-    };
-    let answer = challenge_of(alloc, &object, node, place);
-    *store = Handle::of(object);
-    match answer {
-        Ok(bytes) => put(alloc, text, Object::Text(bytes)),
-        Err(refusal) => told(refusal),
-    }
+    put_answer!(alloc, store, text, object => challenge_of(alloc, &object, node, place))
 }

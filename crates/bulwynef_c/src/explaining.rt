@@ -10,7 +10,7 @@ ghost use Rattle.bulwynef_c.specs.Handles.{Is, IsStore, IsText, Says, StoreRefus
 
 use crate::handle::Handle;
 use crate::object::Object;
-use crate::taking::{put, taken, told};
+use crate::taking::{put, put_answer, taken, told};
 use byte_calls::{Refusal, explaining};
 use mailbox::Mailbox;
 use ref_programs::{Relay, Tally};
@@ -39,18 +39,7 @@ pub extern "C" fn bulwynef_store_explain(alloc: Global, store: &mut Handle, text
     ensures refused { (result ≡ 0 → ⊥) → text.new.value ≡ text.old.value }
     ensures store { store.new.value ≡ store.old.value }
 {
-    if text.is_open() {
-        return told(Refusal::StillOpen);
-    }
-    let Some(object) = taken(alloc, store) else {
-        return told(Refusal::Closed);
-    };
-    let answer = explained(alloc, &object);
-    *store = Handle::of(object);
-    match answer {
-        Ok(bytes) => put(alloc, text, Object::Text(bytes)),
-        Err(refusal) => told(refusal),
-    }
+    put_answer!(alloc, store, text, object => explained(alloc, &object))
 }
 
 /// Whom a proof convicts, and why, where nodes follow the program with this number.

@@ -10,7 +10,7 @@ ghost use Rattle.bulwynef_c.specs.Handles.{Both, Is, IsNode, IsText, NodeBecomes
 
 use crate::handle::Handle;
 use crate::object::Object;
-use crate::taking::{put, taken, told};
+use crate::taking::{put, put_answer, taken, told};
 use byte_calls::{Refusal, nodes};
 use item_forms::Item;
 use mailbox::Mailbox;
@@ -83,18 +83,7 @@ pub extern "C" fn bulwynef_node_message(
     ensures refused { (result ≡ 0 → ⊥) → text.new.value ≡ text.old.value }
     ensures node { node.new.value ≡ node.old.value }
 {
-    if text.is_open() {
-        return told(Refusal::StillOpen);
-    }
-    let Some(object) = taken(alloc, node) else {
-        return told(Refusal::Closed);
-    };
-    let answer = message_text(alloc, &object, seq);
-    *node = Handle::of(object);
-    match answer {
-        Ok(bytes) => put(alloc, text, Object::Text(bytes)),
-        Err(refusal) => told(refusal),
-    }
+    put_answer!(alloc, node, text, object => message_text(alloc, &object, seq))
 }
 
 fn log_of(alloc: Global, object: &Object) -> Result<Vec<u8>, Refusal>
@@ -119,18 +108,7 @@ pub extern "C" fn bulwynef_node_history(alloc: Global, node: &mut Handle, text: 
     ensures refused { (result ≡ 0 → ⊥) → text.new.value ≡ text.old.value }
     ensures node { node.new.value ≡ node.old.value }
 {
-    if text.is_open() {
-        return told(Refusal::StillOpen);
-    }
-    let Some(object) = taken(alloc, node) else {
-        return told(Refusal::Closed);
-    };
-    let answer = log_of(alloc, &object);
-    *node = Handle::of(object);
-    match answer {
-        Ok(bytes) => put(alloc, text, Object::Text(bytes)),
-        Err(refusal) => told(refusal),
-    }
+    put_answer!(alloc, node, text, object => log_of(alloc, &object))
 }
 
 fn reply(

@@ -11,6 +11,20 @@ use indexed_store::IndexedStore;
 use mailbox::Mailbox;
 use ref_programs::{Relay, Tally};
 
+/// What is done alike with a store, whichever program its nodes follow; no other object has it done.
+macro_rules! of_store {
+    ($object:expr, $store:ident => $done:expr) => {
+        match $object {
+            Object::TallyStore($store) => $done,
+            Object::RelayStore($store) => $done,
+            Object::MailboxStore($store) => $done,
+            _ => Err(Refusal::OtherKind),
+        }
+    };
+}
+
+pub(crate) use of_store;
+
 /// The store, where it is one of Tally.
 pub(crate) fn tally_store(object: &Object) -> Result<&IndexedStore<Tally>, Refusal>
     ensures store { IfOk result (λ s. object.now ≡ kind.TallyStore s.now) }

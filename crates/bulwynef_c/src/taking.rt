@@ -44,6 +44,26 @@ pub(crate) fn put(alloc: Global, handle: &mut Handle, object: Object) -> u8
     }
 }
 
+/// Puts the text that is answered of what lies behind a handle where it is wanted, and what was behind the handle back.
+macro_rules! put_answer {
+    ($alloc:expr, $handle:expr, $text:expr, $object:ident => $answer:expr) => {{
+        if $text.is_open() {
+            return told(Refusal::StillOpen);
+        }
+        let Some($object) = taken($alloc, $handle) else {
+            return told(Refusal::Closed);
+        };
+        let answer = $answer;
+        *$handle = Handle::of($object);
+        match answer {
+            Ok(bytes) => put($alloc, $text, Object::Text(bytes)),
+            Err(refusal) => told(refusal),
+        }
+    }};
+}
+
+pub(crate) use put_answer;
+
 /// `void bulwynef_close(struct bulwynef_handle *handle)`: whatever lies behind the handle is let go; a closed one stays closed.
 #[unsafe(no_mangle)]
 pub extern "C" fn bulwynef_close(alloc: Global, handle: &mut Handle)

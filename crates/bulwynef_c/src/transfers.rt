@@ -12,7 +12,8 @@ ghost use Rattle.bulwynef_c.specs.Handles.{Both, Is, IsStore, IsText, Says, Stor
 
 use crate::handle::Handle;
 use crate::object::Object;
-use crate::taking::{put, taken, told};
+use crate::of_program::of_store;
+use crate::taking::{put, put_answer, taken, told};
 use byte_calls::{Refusal, transfers};
 use mailbox::Mailbox;
 use ref_programs::{Relay, Tally};
@@ -22,12 +23,7 @@ fn outlined(alloc: Global, object: &Object) -> Result<Vec<u8>, Refusal>
     ensures text { IfOk result (λ text. IsStore (λ S p s. text.items ≡ outline_text (outline_of s.items)) object.now) }
     ensures refused { IfErr result (λ f. StoreRefuses (λ S p s e. e ≡ Memory) object.now f) }
 {
-    match object {
-        Object::TallyStore(store) => transfers::outline(alloc, store),
-        Object::RelayStore(store) => transfers::outline(alloc, store),
-        Object::MailboxStore(store) => transfers::outline(alloc, store),
-        _ => Err(Refusal::OtherKind),
-    }
+    of_store!(object, store => transfers::outline(alloc, store))
 }
 
 /// `uint8_t bulwynef_store_outline(struct bulwynef_handle *store, struct bulwynef_handle *text)`: the store's outline: the digest of
@@ -40,30 +36,14 @@ pub extern "C" fn bulwynef_store_outline(alloc: Global, store: &mut Handle, text
     ensures refused { (result ≡ 0 → ⊥) → text.new.value ≡ text.old.value }
     ensures store { store.new.value ≡ store.old.value }
 {
-    if text.is_open() {
-        return told(Refusal::StillOpen);
-    }
-    let Some(object) = taken(alloc, store) else {
-        return told(Refusal::Closed);
-    };
-    let answer = outlined(alloc, &object);
-    *store = Handle::of(object);
-    match answer {
-        Ok(bytes) => put(alloc, text, Object::Text(bytes)),
-        Err(refusal) => told(refusal),
-    }
+    put_answer!(alloc, store, text, object => outlined(alloc, &object))
 }
 
 fn summed(alloc: Global, object: &Object) -> Result<Vec<u8>, Refusal>
     ensures text { IfOk result (λ text. IsStore (λ S p s. text.items ≡ summary_text (whole_summary s.items)) object.now) }
     ensures refused { IfErr result (λ f. StoreRefuses (λ S p s e. e ≡ Memory) object.now f) }
 {
-    match object {
-        Object::TallyStore(store) => transfers::summary(alloc, store),
-        Object::RelayStore(store) => transfers::summary(alloc, store),
-        Object::MailboxStore(store) => transfers::summary(alloc, store),
-        _ => Err(Refusal::OtherKind),
-    }
+    of_store!(object, store => transfers::summary(alloc, store))
 }
 
 /// `uint8_t bulwynef_store_summary(struct bulwynef_handle *store, struct bulwynef_handle *text)`: the summary that lists all of the
@@ -76,30 +56,14 @@ pub extern "C" fn bulwynef_store_summary(alloc: Global, store: &mut Handle, text
     ensures refused { (result ≡ 0 → ⊥) → text.new.value ≡ text.old.value }
     ensures store { store.new.value ≡ store.old.value }
 {
-    if text.is_open() {
-        return told(Refusal::StillOpen);
-    }
-    let Some(object) = taken(alloc, store) else {
-        return told(Refusal::Closed);
-    };
-    let answer = summed(alloc, &object);
-    *store = Handle::of(object);
-    match answer {
-        Ok(bytes) => put(alloc, text, Object::Text(bytes)),
-        Err(refusal) => told(refusal),
-    }
+    put_answer!(alloc, store, text, object => summed(alloc, &object))
 }
 
 fn shortened_by(alloc: Global, object: &Object, outline: &[u8]) -> Result<Vec<u8>, Refusal>
     ensures text { IfOk result (λ text. IsStore (λ S p s. shortened s.items outline.now ≡ Ok text.items) object.now) }
     ensures refused { IfErr result (λ f. StoreRefuses (λ S p s e. Fails Memory e (shortened s.items outline.now)) object.now f) }
 {
-    match object {
-        Object::TallyStore(store) => transfers::short_summary(alloc, store, outline),
-        Object::RelayStore(store) => transfers::short_summary(alloc, store, outline),
-        Object::MailboxStore(store) => transfers::short_summary(alloc, store, outline),
-        _ => Err(Refusal::OtherKind),
-    }
+    of_store!(object, store => transfers::short_summary(alloc, store, outline))
 }
 
 /// `uint8_t bulwynef_store_short_summary(struct bulwynef_handle *store, const uint8_t *outline, size_t outline_len, struct
@@ -117,30 +81,14 @@ pub extern "C" fn bulwynef_store_short_summary(
     ensures refused { (result ≡ 0 → ⊥) → text.new.value ≡ text.old.value }
     ensures store { store.new.value ≡ store.old.value }
 {
-    if text.is_open() {
-        return told(Refusal::StillOpen);
-    }
-    let Some(object) = taken(alloc, store) else {
-        return told(Refusal::Closed);
-    };
-    let answer = shortened_by(alloc, &object, outline);
-    *store = Handle::of(object);
-    match answer {
-        Ok(bytes) => put(alloc, text, Object::Text(bytes)),
-        Err(refusal) => told(refusal),
-    }
+    put_answer!(alloc, store, text, object => shortened_by(alloc, &object, outline))
 }
 
 fn packed_by(alloc: Global, object: &Object, summary: &[u8]) -> Result<Vec<u8>, Refusal>
     ensures text { IfOk result (λ text. IsStore (λ S p s. packed s.items summary.now ≡ Ok text.items) object.now) }
     ensures refused { IfErr result (λ f. StoreRefuses (λ S p s e. Fails Memory e (packed s.items summary.now)) object.now f) }
 {
-    match object {
-        Object::TallyStore(store) => transfers::pack(alloc, store, summary),
-        Object::RelayStore(store) => transfers::pack(alloc, store, summary),
-        Object::MailboxStore(store) => transfers::pack(alloc, store, summary),
-        _ => Err(Refusal::OtherKind),
-    }
+    of_store!(object, store => transfers::pack(alloc, store, summary))
 }
 
 /// `uint8_t bulwynef_store_pack(struct bulwynef_handle *store, const uint8_t *summary, size_t summary_len, struct
@@ -158,18 +106,7 @@ pub extern "C" fn bulwynef_store_pack(
     ensures refused { (result ≡ 0 → ⊥) → text.new.value ≡ text.old.value }
     ensures store { store.new.value ≡ store.old.value }
 {
-    if text.is_open() {
-        return told(Refusal::StillOpen);
-    }
-    let Some(object) = taken(alloc, store) else {
-        return told(Refusal::Closed);
-    };
-    let answer = packed_by(alloc, &object, summary);
-    *store = Handle::of(object);
-    match answer {
-        Ok(bytes) => put(alloc, text, Object::Text(bytes)),
-        Err(refusal) => told(refusal),
-    }
+    put_answer!(alloc, store, text, object => packed_by(alloc, &object, summary))
 }
 
 fn apply_to(alloc: Global, object: &mut Object, pack: &[u8]) -> Result<u64, Refusal>
