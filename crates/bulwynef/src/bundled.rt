@@ -1,7 +1,7 @@
 //! Bundles: what `bundle` makes of files, and what `check` says of a file that is one.
 
 use crate::opening::{Begun, NamedFiles, open};
-use crate::programs::{ForProgram, name_of, with_program};
+use crate::programs::{name_of, with_program};
 use crate::running::{output_of, run};
 use crate::unbundled::{Refused, fault_of};
 use crate::words::Request;
@@ -11,14 +11,12 @@ use bundling::{MakeFault, TextFault, judge, judge_in_json, make};
 use commands::device::{CountedReader, Sink};
 use commands::fault::Fault;
 use commands::input::read_input;
-use explaining::{Followed, Voice};
 use operating::asking::Ending;
 use operating::files::{Limits, MOST_READS};
 use operating::reading::read_said;
 use operating::refusal::{Refusal, TextForm};
-use replay_verifier::Program;
 use sha2::{Digest, Sha256};
-use std::alloc::{AllocError, Global};
+use std::alloc::AllocError;
 use std::io::{self, Read};
 use std::sync::Wait;
 use std::thread::Threads;
@@ -81,53 +79,15 @@ fn own_sentence(rt: &HostRuntime) -> Result<String, AllocError> {
     format!(in rt.alloc(); "# Made by the bulwynef whose file has the SHA-256 value {sum}\n")
 }
 
-/// What a bundle is made of, beside the program.
-#[derive(Drop)]
-struct Making<'a> {
-    alloc: Global,
-    name: &'a str,
-    directory: &'a [u8],
-    proof: &'a [u8],
-    own: &'a [u8],
-}
-
-impl ForProgram for Making<'_> {
-    type Given = Result<Vec<u8>, MakeFault>;
-
-    fn done<P: Program + Copy + Send + Sync + Drop, V: Voice>(
-        self,
-        followed: Followed<'_, P, V>,
-    ) -> Result<Vec<u8>, MakeFault>
-    where
-        P::State: Send,
-    {
-        let name = self.name.as_bytes();
-        make(
-            self.alloc,
-            followed.program,
-            name,
-            self.directory,
-            self.proof,
-            self.own,
-        )
-    }
-}
-
 fn made(
     rt: &HostRuntime,
     name: &str,
     directory: &[u8],
     proof: &[u8],
 ) -> Result<Vec<u8>, MakeFault> {
-    let own = own_sentence(rt)?;
-    let making = Making {
-        alloc: rt.alloc(),
-        name,
-        directory,
-        proof,
-        own: own.as_bytes(),
-    };
-    with_program(name, making)
+    let (alloc, own) = (rt.alloc(), own_sentence(rt)?);
+    let (spelling, own) = (name.as_bytes(), own.as_bytes());
+    with_program!(name, followed => make(alloc, followed.program, spelling, directory, proof, own))
 }
 
 /// Makes a bundle of a directory and a proof in files, where the proof convicts a node, and writes it.
@@ -150,34 +110,6 @@ pub fn bundle<'a>(rt: &'a HostRuntime, request: &'a Request) -> Result<Ending, R
 
 // ---- judging
 
-/// What a bundle is judged by, beside the program.
-#[derive(Drop)]
-struct Judging<'a> {
-    alloc: Global,
-    style: Style,
-    name: &'a str,
-    directory: &'a [u8],
-    bundle: &'a OpenBundle<'a>,
-}
-
-impl ForProgram for Judging<'_> {
-    type Given = Result<Vec<u8>, TextFault>;
-
-    fn done<P: Program + Copy + Send + Sync + Drop, V: Voice>(
-        self,
-        followed: Followed<'_, P, V>,
-    ) -> Result<Vec<u8>, TextFault>
-    where
-        P::State: Send,
-    {
-        let (alloc, program, name) = (self.alloc, followed.program, self.name.as_bytes());
-        match self.style {
-            Style::Lines => judge(alloc, program, name, self.directory, self.bundle),
-            Style::Json => judge_in_json(alloc, program, name, self.directory, self.bundle),
-        }
-    }
-}
-
 /// What is said of a bundle under a directory and the program of this name, in the style that was asked for.
 fn judged(
     rt: &HostRuntime,
@@ -186,14 +118,15 @@ fn judged(
     directory: &[u8],
     bundle: &OpenBundle,
 ) -> Result<Vec<u8>, TextFault> {
-    let judging = Judging {
-        alloc: rt.alloc(),
-        style: request.style,
-        name,
-        directory,
-        bundle,
-    };
-    with_program(name, judging)
+    let (alloc, spelling) = (rt.alloc(), name.as_bytes());
+    match request.style {
+        Style::Lines => {
+            with_program!(name, followed => judge(alloc, followed.program, spelling, directory, bundle))
+        }
+        Style::Json => {
+            with_program!(name, followed => judge_in_json(alloc, followed.program, spelling, directory, bundle))
+        }
+    }
 }
 
 /// The program that was asked for, or else the bundle's.

@@ -1,36 +1,34 @@
-//! The programs that nodes may run, in one table. A user's own is one line more, its name in the list above it, and a crate.
+//! The programs that nodes may run, in one table. A user's own is one row more, its name in the list above it, and a crate.
 
-use explaining::{Followed, PlainVoice, Voice};
-use mailbox::Mailbox;
-use mailbox_voice::MailVoice;
-use ref_programs::{Relay, Tally};
-use replay_verifier::Program;
+use explaining::Followed;
 
 /// The names of the programs: that of the first is taken where none is said. Each is of `a` to `z`, `0` to `9` and `_`, as bundles want it.
 pub const NAMES: [&str; 3] = ["tally", "relay", "mailbox"];
 
-/// The program of a name, and what tells people of it.
-pub fn with_program<T: ForProgram>(name: &str, task: T) -> T::Given {
-    match name {
-        "relay" => task.done(followed(&Relay, "Relay", &PlainVoice)),
-        "mailbox" => task.done(followed(&Mailbox, "Mailbox", &MailVoice)),
-        _ => task.done(followed(&Tally, "Tally", &PlainVoice)),
-    }
+/// Does the same with what nodes are to follow, whichever program a name means: each row has a program, its name for people, and its voice.
+macro_rules! with_program {
+    ($name:expr, $followed:ident => $done:expr) => {
+        match $name {
+            "relay" => {
+                let $followed =
+                    $crate::programs::followed(&ref_programs::Relay, "Relay", &explaining::PlainVoice);
+                $done
+            }
+            "mailbox" => {
+                let $followed =
+                    $crate::programs::followed(&mailbox::Mailbox, "Mailbox", &mailbox_voice::MailVoice);
+                $done
+            }
+            _ => {
+                let $followed =
+                    $crate::programs::followed(&ref_programs::Tally, "Tally", &explaining::PlainVoice);
+                $done
+            }
+        }
+    };
 }
 
-/// What is done in the same way, whichever program the nodes run.
-pub trait ForProgram {
-    /// What it gives.
-    type Given;
-
-    /// Does it, of nodes that are to follow this.
-    fn done<P: Program + Copy + Send + Sync + Drop, V: Voice>(
-        self,
-        followed: Followed<'_, P, V>,
-    ) -> Self::Given
-    where
-        P::State: Send;
-}
+pub(crate) use with_program;
 
 /// What is followed: the program, its name for people, and its voice.
 pub fn followed<'a, P, V>(program: &'a P, name: &'a str, voice: &'a V) -> Followed<'a, P, V> {

@@ -5,14 +5,12 @@ ghost use Rattle.parallel_checking.specs.declared.limits.TheConstants.{MOST_WORK
 
 use crate::explaining_files::stores::Explaining;
 use crate::opening::{Begun, NamedFiles};
-use crate::programs::followed;
+use crate::programs::with_program;
 use crate::progress::Progress;
 use crate::words::{Request, Task};
 use crate::writing::Output;
 use crate::{explained, splitting};
-use explaining::{Followed, PlainVoice, Voice};
-use mailbox::Mailbox;
-use mailbox_voice::MailVoice;
+use explaining::{Followed, Voice};
 use operating::asking::{Ending, Reading};
 use operating::check::Convicting;
 use operating::files::Limits;
@@ -21,7 +19,6 @@ use operating::status::Reporting;
 use operating::watching::StoreWatcher;
 use operating::{check, combine, merge, play, prove, show, status};
 use parallel_checking::MOST_WORKERS;
-use ref_programs::{Relay, Tally};
 use replay_verifier::Program;
 use std::io::{IsTerminal, Stderr};
 use std::sync::Wait;
@@ -50,11 +47,7 @@ pub fn run<'a, H: Threads + Wait + Sync>(
         request,
         begun,
     };
-    match request.program {
-        "relay" => run_with(running, followed(&Relay, "Relay", &PlainVoice)),
-        "mailbox" => run_with(running, followed(&Mailbox, "Mailbox", &MailVoice)),
-        _ => run_with(running, followed(&Tally, "Tally", &PlainVoice)),
-    }
+    with_program!(request.program, followed => run_with(running, followed))
 }
 
 /// How many workers there are: as many as were asked for, or as there are processors, and never more than [`MOST_WORKERS`].
