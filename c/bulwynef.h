@@ -87,10 +87,14 @@ uint8_t bulwynef_store_import(struct bulwynef_handle *store, const uint8_t *text
 /* Adds the items of another store, all or none. 112 it is under another directory. The other store is as it was, always. */
 uint8_t bulwynef_store_merge(struct bulwynef_handle *store, struct bulwynef_handle *other, uint64_t *added);
 
-/* 1 where each item of the other store is in the store, else 0. */
+/* 1 where each item of the other store is in the store, else 0.
+
+       if (bulwynef_store_includes(&mine, &theirs, &includes) == 0 && includes) bulwynef_close(&theirs); */
 uint8_t bulwynef_store_includes(struct bulwynef_handle *store, struct bulwynef_handle *other, uint8_t *includes);
 
-/* What the items say of a node: BULWYNEF_TRUSTED, _SUSPECTED or _EXPOSED. 44 it is not listed. */
+/* What the items say of a node: BULWYNEF_TRUSTED, _SUSPECTED or _EXPOSED. 44 it is not listed.
+
+       if (bulwynef_store_indication(&store, node, &said) == 0 && said == BULWYNEF_EXPOSED) hand_on_a_proof(node); */
 uint8_t bulwynef_store_indication(struct bulwynef_handle *store, uint32_t node, uint8_t *indication);
 
 /* A proof that convicts the node. 44 it is not listed, 115 the items do not expose it.
@@ -114,10 +118,14 @@ uint8_t bulwynef_store_proof(struct bulwynef_handle *store, uint32_t node, struc
 uint8_t bulwynef_store_challenge(struct bulwynef_handle *store, uint32_t node, size_t place, struct bulwynef_handle *text);
 
 /* What the items say of each listed node, in ascending order, and why, for a person to read: a line for the whole, and of each node the
-   line `NODE trusted`, `NODE suspected` or `NODE exposed` and sentences, each in a line behind two blanks. */
+   line `NODE trusted`, `NODE suspected` or `NODE exposed` and sentences, each in a line behind two blanks.
+
+       if (bulwynef_store_explain(&store, &text) == 0) { print(&text); bulwynef_close(&text); } */
 uint8_t bulwynef_store_explain(struct bulwynef_handle *store, struct bulwynef_handle *text);
 
-/* The one text of the items: stores of the same items have equal exports. */
+/* The one text of the items: stores of the same items have equal exports.
+
+       if (bulwynef_store_export(&store, &text) == 0) { keep_for_import(&text); bulwynef_close(&text); } */
 uint8_t bulwynef_store_export(struct bulwynef_handle *store, struct bulwynef_handle *text);
 
 /* ---- what stores give one another: an outline, a summary against it, and a pack of what the summary does not name
@@ -130,7 +138,9 @@ uint8_t bulwynef_store_export(struct bulwynef_handle *store, struct bulwynef_han
 /* The outline of a store, of some 8 KB: the digest of the items in each of 256 buckets. */
 uint8_t bulwynef_store_outline(struct bulwynef_handle *store, struct bulwynef_handle *text);
 
-/* A summary that lists the digest of each item, 32 bytes each, for whoever has no outline. */
+/* A summary that lists the digest of each item, 32 bytes each, for whoever has no outline.
+
+       if (bulwynef_store_summary(&theirs, &text) == 0) { ask_for_a_pack(&text); bulwynef_close(&text); } */
 uint8_t bulwynef_store_summary(struct bulwynef_handle *store, struct bulwynef_handle *text);
 
 /* A summary against an outline: the digests of the items in the buckets that differ. 40, 43, 60 of the outline's text. */
@@ -179,20 +189,28 @@ uint8_t bulwynef_node_answer(struct bulwynef_handle *node, const uint8_t *challe
                              size_t entropy_len, struct bulwynef_handle *text);
 
 /* The entries of its log, from the first to the last, each as a segment has it: number, kind, and content behind its length
-   (docs/FORMATS.md). Nothing is signed for it: whoever is to believe the log asks for it by an audit. */
+   (docs/FORMATS.md). Nothing is signed for it: whoever is to believe the log asks for it by an audit.
+
+       if (bulwynef_node_history(&node, &text) == 0) { look_at(&text); bulwynef_close(&text); } */
 uint8_t bulwynef_node_history(struct bulwynef_handle *node, struct bulwynef_handle *text);
 
 /* Accepts an acknowledgement, an item of tag 5: its message waits no longer. 40 to 43, 41 also of another item; 38 it is of no message
    that was sent, or not valid for it. */
 uint8_t bulwynef_node_accept_ack(struct bulwynef_handle *node, const uint8_t *ack, size_t ack_len);
 
-/* Logs a checkpoint, from which an audit can begin, and tells its number. 37. */
+/* Logs a checkpoint, from which an audit can begin, and tells its number. 37.
+
+       if (bulwynef_node_checkpoint(&node, &seq) == 37) begin_the_next_epoch(); */
 uint8_t bulwynef_node_checkpoint(struct bulwynef_handle *node, uint64_t *seq);
 
-/* How many statements the key in use still signs. */
+/* How many statements the key in use still signs.
+
+       if (bulwynef_node_remaining(&node, &leaves) == 0 && leaves < 2) take_the_next_key(); */
 uint8_t bulwynef_node_remaining(struct bulwynef_handle *node, uint32_t *leaves);
 
-/* Signs by another of the node's keys from now on. As bulwynef_public_key refuses the key; 31 it is none of the node's, or was used. */
+/* Signs by another of the node's keys from now on. As bulwynef_public_key refuses the key; 31 it is none of the node's, or was used.
+
+       bulwynef_node_next_key(&node, BULWYNEF_H10, BULWYNEF_W8, key_id, 16, seed, 32); */
 uint8_t bulwynef_node_next_key(struct bulwynef_handle *node, uint32_t lms_type, uint32_t ots_type, const uint8_t *key_id,
                                size_t key_id_len, const uint8_t *seed, size_t seed_len);
 
