@@ -84,7 +84,9 @@ uint8_t bulwynef_store_take(struct bulwynef_handle *store, const uint8_t *item, 
 /* Adds the items of a store's export, all or none, and tells how many are new. 40 to 49, 60, 61. */
 uint8_t bulwynef_store_import(struct bulwynef_handle *store, const uint8_t *text, size_t text_len, uint64_t *added);
 
-/* Adds the items of another store, all or none. 112 it is under another directory. The other store is as it was, always. */
+/* Adds the items of another store, all or none. 112 it is under another directory. The other store is as it was, always.
+
+       if (bulwynef_store_merge(&mine, &theirs, &added) == 0) bulwynef_close(&theirs); */
 uint8_t bulwynef_store_merge(struct bulwynef_handle *store, struct bulwynef_handle *other, uint64_t *added);
 
 /* 1 where each item of the other store is in the store, else 0.
