@@ -40,13 +40,24 @@ def wanted():
     return files
 
 
+def name_of(words, proved):
+    """The name of what these words ask of: the one store that they name, or the proof that the page makes; none where they name neither."""
+    stores = re.findall(r"(\w+)\.store\b", words)
+    proofs = [proved[proof] for proof in re.findall(r"\S+\.proof\b", words) if proof in proved]
+    return (stores + proofs)[0] if len(stores + proofs) == 1 else None
+
+
 def told_otherwise():
     """What pages say that `explain` writes, where none of the stored answers is so."""
-    stored = {path.read_text() for path in (EXAMPLES / "explained").glob("*.txt")}
+    stored = {path.stem: path.read_text() for path in (EXAMPLES / "explained").glob("*.txt")}
     for page in PAGES:
-        told = re.findall(r"^    \$ .*\bexplain .*\n((?:    [^$].*\n)+)", (TOP / page).read_text(), re.M)
-        texts = [re.sub(r"^    ", "", text, flags=re.M) for text in told]
-        yield from (f"{page}: explain writes otherwise: {text.splitlines()[0]} .." for text in texts if text not in stored)
+        text = (TOP / page).read_text()
+        proved = {proof: f"{store}.proof{node}" for proof, node, store in re.findall(r"--output (\S+\.proof) (\d+) (\w+)\.store", text)}
+        told = re.findall(r"^    \$ .*\bexplain (.*)\n((?:    [^$].*\n)+)", text, re.M)
+        texts = [(name_of(words, proved), re.sub(r"^    ", "", said, flags=re.M)) for words, said in told]
+        for name, said in texts:
+            if said not in ([stored[name]] if name in stored else stored.values()):
+                yield f"{page}: explain writes otherwise: {name or said.splitlines()[0]} .."
         if not texts:
             yield f"{page}: tells nothing of what explain writes"
 
