@@ -3,7 +3,7 @@ use Rattle.std.proofs.Common.{◌≡◌, ◌≤◌, ◌==◌, ℕ, Bool, true, f
 use Rattle.std.specs.List.{onto_first, slice_split}
 use Rattle.bundles.specs.declared.fault.BundleFault.TheVariants.{BadBundle}
 use Rattle.bundles.specs.Grammar.{lines_of, nothing_left}
-use Rattle.bundles.proofs.Cuts.{some_parts}
+use Rattle.outcome.proofs.Cuts.{some_parts}
 
 one_behind : (n : ℕ) (parts : List (List ℕ)) → 1 ≤ length parts → nothing_left n ([] ∷ parts) ≡ Err (BadBundle n)
 one_behind n [] h = absurd (omega arith)

@@ -4,7 +4,7 @@ use Rattle.std.proofs.Math.Seq.{take-append_seam}
 use Rattle.bundles.specs.Grammar.{Reached, lines_of, sentences_from, with_sentence}
 use Rattle.bundles.specs.Spelling.{ended, is_sentence}
 use Rattle.bundles.specs.within.Cursors.{AreInFront, IsBehindSentence, IsLine, IsNext}
-use Rattle.bundles.proofs.Cuts.{some_parts}
+use Rattle.outcome.proofs.Cuts.{some_parts}
 
 abbrev pair : List ℕ → Reached → List ℕ × Reached
 pair t p = (t, p)

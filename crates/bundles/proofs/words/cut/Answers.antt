@@ -1,5 +1,6 @@
 use Rattle.std.proofs.Common.{◌==◌, ◌∙◌, sym}
-use Rattle.bundles.proofs.Cuts.{cut_at, rejoined, uncut}
+use Rattle.outcome.proofs.Cuts.{cut_at, uncut}
+use Rattle.bundles.proofs.Cuts.{rejoined}
 use Rattle.bundles.proofs.words.cut.Goals as goal
 
 pub returns-in-Some-clause-parts : goal.returns-in-Some-clause-parts

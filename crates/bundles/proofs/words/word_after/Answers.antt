@@ -1,4 +1,5 @@
-use Rattle.bundles.proofs.Cuts.{other_word, some_parts, three_or_more}
+use Rattle.outcome.proofs.Cuts.{some_parts}
+use Rattle.bundles.proofs.Cuts.{other_word, three_or_more}
 use Rattle.bundles.proofs.words.word_after.Goals as goal
 use Rattle.bundles.proofs.words.word_after.Goals.{in_default-via-in-None+else-eq, in_default-via-in_default}
 

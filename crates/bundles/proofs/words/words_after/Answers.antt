@@ -1,4 +1,5 @@
-use Rattle.bundles.proofs.Cuts.{four_or_more, other_words, some_parts}
+use Rattle.outcome.proofs.Cuts.{some_parts}
+use Rattle.bundles.proofs.Cuts.{four_or_more, other_words}
 use Rattle.bundles.proofs.words.words_after.Goals as goal
 use Rattle.bundles.proofs.words.words_after.Goals.{in_default-via-in-None+else-eq, in_default-via-in_default}
 

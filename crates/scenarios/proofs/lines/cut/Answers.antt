@@ -1,5 +1,5 @@
 use Rattle.std.proofs.Common.{◌==◌, ◌∙◌, sym}
-use Rattle.scenarios.proofs.Parts.{cut_at, uncut}
+use Rattle.outcome.proofs.Cuts.{cut_at, uncut}
 use Rattle.scenarios.proofs.lines.cut.Goals as goal
 
 pub returns-in-Some-clause-parts : goal.returns-in-Some-clause-parts

@@ -1,4 +1,5 @@
-use Rattle.scenarios.proofs.Parts.{some_parts, too_many}
+use Rattle.outcome.proofs.Cuts.{some_parts}
+use Rattle.scenarios.proofs.Parts.{too_many}
 use Rattle.scenarios.proofs.lines.words_of.Goals as goal
 
 pub returns-in_default-Some : goal.returns-in_default-Some

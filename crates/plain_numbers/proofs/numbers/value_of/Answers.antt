@@ -1,7 +1,7 @@
 use Rattle.std.proofs.Common.{◌∙◌, List, ℕ, sym, subst}
 use Rattle.std.specs.Str.Parse.{ParsesUnsigned}
-use Rattle.bundles.proofs.Digits.{no_text, read_plain, unplain}
-use Rattle.bundles.proofs.numbers.value_of.Goals as goal
+use Rattle.plain_numbers.proofs.Digits.{no_text, read_plain, unplain}
+use Rattle.plain_numbers.proofs.numbers.value_of.Goals as goal
 
 pub returns-then-not-is_plain : goal.returns-then-not-is_plain
 returns-then-not-is_plain c = unplain c.args.word.now (sym c.is_plain.ensures ∙ c.if-not-is_plain.true)

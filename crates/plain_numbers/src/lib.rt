@@ -1,0 +1,6 @@
+//! Numbers in decimal digits, as the house's texts have them: without a sign, and without a zero in front.
+#![tactic(auto)]
+
+pub use numbers::value_of;
+
+mod numbers;
