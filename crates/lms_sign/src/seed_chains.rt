@@ -14,31 +14,13 @@ use crate::types::OtsType;
 /// Stands in the place of a step's number where the start of a chain is made of the seed.
 const D_SECRET: u16 = 0xff;
 
-/// Opens the chains of `leaves` leaves from leaf `q` on, one leaf after the other, before their starts are made.
-fn open_seeds(
-    ots: OtsType,
-    id: &[u8; 16],
-    seed: &[u8; 32],
-    q: u32,
-    leaves: u32,
-    chains: &mut [OpenChain],
-)
-    requires few { q + leaves ≤ 2 ^ 32 }
-    requires len { length chains.old ≡ leaves * chain_count ots }
-    ensures len { length chains.new ≡ length chains.old }
-    ensures room { All HasRoom chains.new }
-    ensures each { (j i : ℕ) (d : OpenChain) → j < leaves → i < chain_count ots → slice_index_or chains.new (j * chain_count ots + i) d ≡ from_seed id.now seed.now (q + j) i }
-{
-    let count = usize::from(ots.chain_count());
-    for k in 0..chains.len() {
-        let leaf = q + (k / count) as u32;
-        chains[k] = OpenChain {
-            place: chain_place(id, leaf, (k % count) as u16),
-            step: D_SECRET,
-            left: 1,
-            value: *seed,
-        };
-    }
+/// What the one-time keys of a tree are made of (appendix A).
+#[derive(Drop)]
+pub(crate) struct OneTimeKeys {
+    pub(crate) ots_type: OtsType,
+    /// I, the identifier.
+    pub(crate) id: [u8; 16],
+    pub(crate) seed: [u8; 32],
 }
 
 /// Begins the chains again: each is at step 0, and takes as many steps as told for it.
@@ -54,31 +36,51 @@ fn restart(chains: &mut [OpenChain], steps: &[u8])
     }
 }
 
-/// Writes a value of each chain of `leaves` leaves from leaf `q` on, one leaf after the other: the value of chain `k` of
-/// them all is `steps[k]` steps from its start. The chains of all these leaves run together.
-// The array takes a frame of its own, and none of a caller's (docs/DECISIONS.md, "Large frames").
-#[inline(never)]
-pub(crate) fn values_from_seed(
-    ots: OtsType,
-    id: &[u8; 16],
-    seed: &[u8; 32],
-    q: u32,
-    leaves: u32,
-    steps: &[u8],
-    values: &mut [[u8; 32]],
-)
-    requires few { q + leaves ≤ 2 ^ 32 }
-    requires most { leaves * chain_count ots ≤ MOST_CHAINS }
-    requires steps { length steps.now ≡ leaves * chain_count ots }
-    requires values { length values.old ≡ leaves * chain_count ots }
-    ensures len { length values.new ≡ leaves * chain_count ots }
-    ensures each { (j i : ℕ) → j < leaves → i < chain_count ots → slice_index_or values.new (j * chain_count ots + i) [] ≡ chain_at id.now seed.now (q + j) i (slice_index steps.now (j * chain_count ots + i)) }
-{
-    let mut chains = [NO_CHAIN; MOST_CHAINS];
-    let chains = &mut chains[..steps.len()];
-    open_seeds(ots, id, seed, q, leaves, chains);
-    run_all(chains);
-    restart(chains, steps);
-    run_all(chains);
-    write_values(chains, values);
+impl OneTimeKeys {
+    /// Opens the chains of `leaves` leaves from leaf `q` on, one leaf after the other, before their starts are made.
+    fn open_chains(&self, q: u32, leaves: u32, chains: &mut [OpenChain])
+        requires few { q + leaves ≤ 2 ^ 32 }
+        requires len { length chains.old ≡ leaves * chain_count self.now.ots_type }
+        ensures len { length chains.new ≡ length chains.old }
+        ensures room { All HasRoom chains.new }
+        ensures each { (j i : ℕ) (d : OpenChain) → j < leaves → i < chain_count self.now.ots_type → slice_index_or chains.new (j * chain_count self.now.ots_type + i) d ≡ from_seed self.now.id self.now.seed (q + j) i }
+    {
+        let count = usize::from(self.ots_type.chain_count());
+        for k in 0..chains.len() {
+            let leaf = q + (k / count) as u32;
+            chains[k] = OpenChain {
+                place: chain_place(&self.id, leaf, (k % count) as u16),
+                step: D_SECRET,
+                left: 1,
+                value: self.seed,
+            };
+        }
+    }
+
+    /// Writes a value of each chain of `leaves` leaves from leaf `q` on, one leaf after the other: the value of chain `k`
+    /// of them all is `steps[k]` steps from its start. The chains of all these leaves run together.
+    // The array takes a frame of its own, and none of a caller's (docs/DECISIONS.md, "Large frames").
+    #[inline(never)]
+    pub(crate) fn write_chain_values(
+        &self,
+        q: u32,
+        leaves: u32,
+        steps: &[u8],
+        values: &mut [[u8; 32]],
+    )
+        requires few { q + leaves ≤ 2 ^ 32 }
+        requires most { leaves * chain_count self.now.ots_type ≤ MOST_CHAINS }
+        requires steps { length steps.now ≡ leaves * chain_count self.now.ots_type }
+        requires values { length values.old ≡ leaves * chain_count self.now.ots_type }
+        ensures len { length values.new ≡ leaves * chain_count self.now.ots_type }
+        ensures each { (j i : ℕ) → j < leaves → i < chain_count self.now.ots_type → slice_index_or values.new (j * chain_count self.now.ots_type + i) [] ≡ chain_at self.now.id self.now.seed (q + j) i (slice_index steps.now (j * chain_count self.now.ots_type + i)) }
+    {
+        let mut chains = [NO_CHAIN; MOST_CHAINS];
+        let chains = &mut chains[..steps.len()];
+        self.open_chains(q, leaves, chains);
+        run_all(chains);
+        restart(chains, steps);
+        run_all(chains);
+        write_values(chains, values);
+    }
 }

@@ -7,7 +7,7 @@ ghost use Rattle.lms_sign.specs.Signing.{chain_values, joined, sibling};
 
 use crate::chain_order::MOST_CHAINS;
 use crate::coefficients::coefficient;
-use crate::seed_chains::values_from_seed;
+use crate::seed_chains::OneTimeKeys;
 use crate::text::put;
 use crate::types::OtsType;
 
@@ -40,22 +40,20 @@ fn put_hashes(out: &mut [u8], place: usize, hashes: &[[u8; 32]])
 pub(crate) fn put_chain_values(
     out: &mut [u8],
     place: usize,
-    ots: OtsType,
-    id: &[u8; 16],
-    seed: &[u8; 32],
+    keys: &OneTimeKeys,
     q: u32,
     text: &[u8; 34],
 )
-    requires { place + 32 * chain_count ots ≤ length out.old }
-    ensures { take (place + 32 * chain_count ots) out.new ≡ take place out.old ++ chain_values ots id.now seed.now q text.now }
+    requires { place + 32 * chain_count keys.now.ots_type ≤ length out.old }
+    ensures { take (place + 32 * chain_count keys.now.ots_type) out.new ≡ take place out.old ++ chain_values keys.now.ots_type keys.now.id keys.now.seed q text.now }
 {
-    let count = usize::from(ots.chain_count());
+    let count = usize::from(keys.ots_type.chain_count());
     let mut steps = [0u8; MOST_CHAINS];
     let steps = &mut steps[..count];
-    write_steps(text, ots, steps);
+    write_steps(text, keys.ots_type, steps);
     let mut values = [[0u8; 32]; MOST_CHAINS];
     let values = &mut values[..count];
-    values_from_seed(ots, id, seed, q, 1, steps, values);
+    keys.write_chain_values(q, 1, steps, values);
     put_hashes(out, place, values);
 }
 
