@@ -150,21 +150,45 @@ none_noted held clashes up = record {
   found = λ p has. absurd (omega (arith, has.1));
 }
 
-pub one_more : (held : List Authenticator) (points old mid new : List Clash) (q : Clash) → AreNoted held points old mid → IsStrictlySortedBy by_node new
-    → ((p : Clash) → Contains mid p → HasUpTo new p) → ((p : Clash) → Contains new p → Contains mid p ⊎ IsClash held p) → (IsClash held q → HasUpTo new q)
-    → ((p : Clash) → Contains (points ++ q ∷ []) p → Contains points p ⊎ (q ≡ p)) → AreNoted held (points ++ q ∷ []) old new
-one_more held points old mid new q noted up kept only found cases = record {
+-- a list of one point
+the_one : (q p : Clash) → Contains (q ∷ []) p → q ≡ p
+the_one q p (zero, inside, at) = at
+the_one q p (suc i, inside, at) = absurd (omega (arith, inside))
+
+-- one point, where nothing is in conflict
+pub nothing_there : (held : List Authenticator) (clashes : List Clash) (q : Clash) → IsStrictlySortedBy by_node clashes → (IsClash held q → ⊥) → AreNoted held (q ∷ []) clashes clashes
+nothing_there held clashes q up absent = record {
   ascending = up;
+  kept = λ p has. (p, has, refl, omega arith);
+  only = λ p has. inl has;
+  found = λ p has clash. absurd (absent (subst (IsClash held) (sym (the_one q p has)) clash));
+}
+
+-- one point, where statements are
+pub clash_there : (held : List Authenticator) (old new : List Clash) (q : Clash) → IsStrictlySortedBy by_node new → ((p : Clash) → Contains old p → HasUpTo new p)
+    → ((p : Clash) → Contains new p → Contains old p ⊎ (p ≡ q)) → HasUpTo new q → IsClash held q → AreNoted held (q ∷ []) old new
+clash_there held old new q up kept only has clash = record {
+  ascending = up;
+  kept = kept;
+  only = λ p h. ⊎_elim (λ earlier. inl earlier) (λ (is : p ≡ q). inr (subst (IsClash held) (sym is) clash)) (only p h);
+  found = λ p h _. subst (HasUpTo new) (the_one q p h) has;
+}
+
+-- one point more
+pub one_more : (held : List Authenticator) (points old mid new : List Clash) (q : Clash) → AreNoted held points old mid → AreNoted held (q ∷ []) mid new
+    → ((p : Clash) → Contains (points ++ q ∷ []) p → Contains points p ⊎ (q ≡ p)) → AreNoted held (points ++ q ∷ []) old new
+one_more held points old mid new q noted more cases = record {
+  ascending = more.ascending;
   kept = λ p has. again p (noted.kept p has);
-  only = λ p has. ⊎_elim (λ in_mid. noted.only p in_mid) (λ clash. inr clash) (only p has);
+  only = λ p has. ⊎_elim (λ in_mid. noted.only p in_mid) (λ clash. inr clash) (more.only p has);
   found = λ p has clash. ⊎_elim
       (λ earlier. again p (noted.found p earlier clash))
-      (λ (is : q ≡ p). subst (HasUpTo new) is (found (subst (IsClash held) (sym is) clash)))
+      (λ (is : q ≡ p). more.found p (0, omega arith, is) clash)
       (cases p has);
 }
   where
     again : (p : Clash) → HasUpTo mid p → HasUpTo new p
-    again p (r, in_mid, own, le) = up_to new r p own le (kept r in_mid)
+    again p (r, in_mid, own, le) = up_to new r p own le (more.kept r in_mid)
 
 -- ---- a set with more statements
 

@@ -13,7 +13,7 @@ use Rattle.std.proofs.lemmas.List.Sorted.{Contains-permutation, IsPermutation-re
 use Rattle.std.proofs.lemmas.Map.Views.{Contains-from_any, list_any-from_Contains}
 use Rattle.authenticators.specs.declared.authenticator.Authenticator.{Authenticator}
 use Rattle.authenticators.specs.StatementSet.{by_fields, IsAscending, IsUnion}
-use Rattle.authenticators.specs.within.Joins.{AreAbove, AreFrom, IsPlaceOf, is_held, with_moved}
+use Rattle.authenticators.specs.within.Joins.{AreAbove, IsPlaceOf, IsPut, is_held, with_moved}
 use Rattle.authenticators.proofs.AscendingLists.{absent, cons_has, in_cons, members-insert, searchable, sorted-insert}
 use Rattle.authenticators.proofs.StatementSets.{by_fields_total, equal_same}
 use Rattle.authenticators.proofs.StatementUnions.{IsUnionWithRest, union_more}
@@ -137,12 +137,6 @@ place_whole held moved x place is above = record {
         subst (λ (y : Authenticator). by_fields y x ≡ Greater) (sym there) (above_from x (get_or (reverse moved) (k - length held) d) (above (get_or (reverse moved) (k - length held) d) has))
 
 -- ---- a statement that is put
-
--- What holds once a statement is put.
-pub record IsPut (held moved : List Authenticator) (x : Authenticator) (held' moved' : List Authenticator) : Type 0 where
-  pub ascending : IsAscending (with_moved held' moved')
-  pub added : (y : Authenticator) → Contains (with_moved held' moved') y ↔ (Contains (with_moved held moved) y ⊎ (y ≡ x))
-  pub from : AreFrom x moved'
 
 -- one that is held
 pub put_held : (held moved : List Authenticator) (x : Authenticator) → IsAscending (with_moved held moved) → AreAbove x moved → Contains held x → IsPut held moved x held moved

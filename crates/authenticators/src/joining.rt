@@ -1,10 +1,11 @@
 //! Many statements put into a set at once.
 
-ghost use Rattle.std.specs.Prelude.{◌≡◌, ◌↔◌, ◌+◌, ◌<◌, ◌≤◌, ◌⊎◌, [], ◌++◌, Contains, IfErr, IfOk, OnErr, OnOk, Ok, drop, false, not, reverse, take, vec_capacity, vec_len};
+ghost use Rattle.std.specs.Prelude.{◌≡◌, ◌↔◌, ◌+◌, ◌<◌, ◌≤◌, [], ◌++◌, Contains, IfErr, IfOk, OnErr, OnOk, drop, not, reverse, take, vec_capacity, vec_len};
 ghost use Rattle.std.specs.List.{filter};
 ghost use Rattle.authenticators.specs.declared.authenticator.Authenticator.{Authenticator as Statement};
 ghost use Rattle.authenticators.specs.StatementSet.{IsAscending, IsUnion};
-ghost use Rattle.authenticators.specs.within.Joins.{AreAbove, AreFrom, IsPlaceOf, is_held, with_moved};
+ghost use Rattle.authenticators.specs.within.Inserted.{HasInserted};
+ghost use Rattle.authenticators.specs.within.Joins.{AreAbove, IsPlaceOf, IsPut, is_held, with_moved};
 ghost use Rattle.authenticators.specs.within.Noted.{AreClashesOf};
 
 use crate::authenticator::Authenticator;
@@ -103,12 +104,7 @@ pub(crate) fn insert_one(
 ) -> Result<bool, InsertRefused>
     requires ascending { IsAscending held.old.items }
     requires clashes { AreClashesOf held.old.items clashes.old.items }
-    ensures told { IfOk result (λ new. (new ≡ false) ↔ Contains held.old.items authenticator) }
-    ensures held { Contains held.old.items authenticator → result ≡ Ok false }
-    ensures added { OnOk result ((x : Statement) → Contains held.new.items x ↔ (Contains held.old.items x ⊎ (x ≡ authenticator))) }
-    ensures given_back { IfErr result (λ refused. refused.0 ≡ authenticator) }
-    ensures unchanged { OnErr result (held.new.items ≡ held.old.items) }
-    ensures ascending { IsAscending held.new.items }
+    ensures inserted { HasInserted held.old.items held.new.items authenticator result }
     ensures clashes { AreClashesOf held.new.items clashes.new.items }
 {
     if is_held(held, &authenticator) {
@@ -158,9 +154,7 @@ fn put(held: &mut Vec<Authenticator>, statement: Authenticator, moved: &mut Vec<
     requires ascending { IsAscending (with_moved held.old.items moved.old.items) }
     requires below { AreAbove statement moved.old.items }
     requires room { vec_len held.old + vec_len moved.old < vec_capacity moved.old }
-    ensures ascending { IsAscending (with_moved held.new.items moved.new.items) }
-    ensures added { (x : Statement) → Contains (with_moved held.new.items moved.new.items) x ↔ (Contains (with_moved held.old.items moved.old.items) x ⊎ (x ≡ statement)) }
-    ensures from { AreFrom statement moved.new.items }
+    ensures put { IsPut held.old.items moved.old.items statement held.new.items moved.new.items }
     ensures len { vec_len held.new + vec_len moved.new ≤ vec_len held.old + vec_len moved.old + 1 }
     ensures held_capacity { vec_capacity held.new ≡ vec_capacity held.old }
     ensures moved_capacity { vec_capacity moved.new ≡ vec_capacity moved.old }

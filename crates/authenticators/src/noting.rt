@@ -1,6 +1,6 @@
 //! Noting the numbers at which statements are in conflict.
 
-ghost use Rattle.std.specs.Prelude.{◌≡◌, ◌⊎◌, ◌+◌, ◌<◌, ◌≤◌, IfNone, IfOk, IfSome, IsTrue, false, length, map, vec_capacity, vec_len};
+ghost use Rattle.std.specs.Prelude.{◌≡◌, ◌⊎◌, ◌+◌, ◌<◌, ◌≤◌, [], ◌∷◌, IfNone, IfOk, IfSome, IsTrue, false, length, map, vec_capacity, vec_len};
 ghost use Rattle.std.specs.List.{Contains};
 ghost use Rattle.std.specs.List.Sorted.{IsBinarySearchResult, IsSearchInRange, IsStrictlySortedBy};
 ghost use Rattle.std.specs.Ordering.{nat_cmp};
@@ -96,10 +96,7 @@ fn note(held: &[Authenticator], clashes: &mut Vec<Clash>, clash: Clash)
     requires held { IsAscending held.now }
     requires ascending { IsStrictlySortedBy by_node clashes.old.items }
     requires room { vec_len clashes.old < vec_capacity clashes.old }
-    ensures ascending { IsStrictlySortedBy by_node clashes.new.items }
-    ensures kept { (p : TheClash) → Contains clashes.old.items p → HasUpTo clashes.new.items p }
-    ensures only { (p : TheClash) → Contains clashes.new.items p → Contains clashes.old.items p ⊎ IsClash held.now p }
-    ensures found { IsClash held.now clash → HasUpTo clashes.new.items clash }
+    ensures noted { AreNoted held.now (clash ∷ []) clashes.old.items clashes.new.items }
     ensures len { vec_len clashes.new ≤ vec_len clashes.old + 1 }
     ensures capacity { vec_capacity clashes.new ≡ vec_capacity clashes.old }
 {

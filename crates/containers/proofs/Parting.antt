@@ -15,7 +15,7 @@ use Rattle.containers.specs.declared.progress.Progress.{Progress}
 use Rattle.containers.specs.CheckedItems.{fields_of}
 use Rattle.containers.specs.Refusals.{IsBehindFront, IsOfItems, Refuses, fault_at}
 use Rattle.containers.specs.Stages.{State, len_of, reads_on, go_on}
-use Rattle.containers.specs.within.Going.{EndsOn, GoesOn, IsOneMore, IsRead, LeadsAlike, LeadsOrReads, Leaves, TakesItem, at_end}
+use Rattle.containers.specs.within.Going.{EndsOn, GoesOn, IsItemRefusal, IsOneMore, IsRead, IsRefusal, LeadsAlike, LeadsOrReads, Leaves, TakesItem, at_end}
 use Rattle.containers.specs.Rest.{Reads}
 use Rattle.containers.specs.within.Parts.{IsCut, IsHeldOn, IsLength, IsOver, IsPart, IsTaken, IsWhole}
 use Rattle.containers.specs.within.Resting.{IsResting, Rests}
@@ -265,15 +265,27 @@ module _ {P : Type 0} (magic : List ℕ) (reads : Reads) (n : ℕ) (old : Progre
   fronts_ok (Err f) t = tt
 
 -- the same bytes, otherwise parted, are refused alike
-module _ (magic : List ℕ) (reads : Reads) (s : State Fields) (rest mid after : List ℕ) (joined : mid ++ after ≡ s.held ++ rest) where
-  pub refused_ok : (r : Result Left ImportFault) → IfErr r (λ f. (m : List ℕ) → Refuses f (go_on m reads (held_as s mid) after)) → IfErr r (λ f. Refuses f (go_on magic reads s rest))
-  refused_ok (Ok x) h = tt
-  refused_ok (Err f) h = subst (Refuses f) (sym (parted_alike magic reads s.left s.last s.items s.held rest mid after joined)) (h magic)
+pub refusal_ok : {P : Type 0} (magic : List ℕ) (reads : Reads) (old mid : Progress P) (rest after : List ℕ) (r : Result Left ImportFault) → IfErr r (λ f. IsItemRefusal reads mid after f)
+    → seen mid ≡ held_as (seen old) (seen mid).held → mid.body.items ≡ old.body.items → (seen mid).held ++ after ≡ (seen old).held ++ rest → IfErr r (λ f. IsRefusal magic reads old rest f)
+refusal_ok magic reads old mid rest after (Ok x) h same body joined = tt
+refusal_ok magic reads old mid rest after (Err f) h same body joined =
+    let alike : (r : Reads) → go_on magic r (seen old) rest ≡ go_on magic r (seen mid) after =
+    λ r. parted_alike magic r old.left (seen old).last (seen old).items (seen old).held rest (seen mid).held after joined ∙ ap (λ (s : State Fields). go_on magic r s after) (sym same) in
+    record {
+      refused = subst (λ (r : Result (State Fields) ImportFault). Refuses f r) (sym (alike reads)) (h.refused magic);
+      memory = λ none memory. subst (λ (r : Result (State Fields) ImportFault). IsBehindFront (at_end r)) (sym (alike reads)) (h.memory (body ∙ none) memory magic);
+      of_items = λ memory. on_of_items (λ r. go_on magic r (seen old) rest) (λ r. go_on magic r (seen mid) after) alike (h.of_items magic);
+    }
 
-module _ (magic : List ℕ) (s : State Fields) (rest mid after : List ℕ) (joined : mid ++ after ≡ s.held ++ rest) where
-  pub of_items_ok : (r : Result Left ImportFault) → IfErr r (λ f. (m : List ℕ) → IsOfItems (λ r. go_on m r (held_as s mid) after)) → IfErr r (λ f. f.cause ≡ cause.Memory → IsOfItems (λ r. go_on magic r s rest))
-  of_items_ok (Ok x) h = tt
-  of_items_ok (Err f) h = λ memory. on_of_items (λ r. go_on magic r s rest) (λ r. go_on magic r (held_as s mid) after) (λ r. parted_alike magic r s.left s.last s.items s.held rest mid after joined) (h magic)
+-- where something of a body is held
+pub refusal_of_pieces : {P : Type 0} (reads : Reads) (old : Progress P) (rest : List ℕ) (r : Result Left ImportFault) → 0 < length old.body.items
+    → IfErr r (λ f. (magic : List ℕ) → Refuses f (go_on magic reads (seen old) rest)) → IfErr r (λ f. (magic : List ℕ) → IsOfItems (λ r. go_on magic r (seen old) rest)) → IfErr r (λ f. IsItemRefusal reads old rest f)
+refusal_of_pieces reads old rest (Ok x) some refused of_items = tt
+refusal_of_pieces reads old rest (Err f) some refused of_items = record {
+  refused = refused;
+  memory = λ none. let no : length old.body.items ≡ 0 = ap length none in absurd (omega (arith, some, no));
+  of_items = of_items;
+}
 
 -- ---- many parts
 

@@ -8,7 +8,8 @@ use Rattle.containers.specs.declared.fault.Cause.{Cause}
 use Rattle.containers.specs.declared.part.Left.{Left}
 use Rattle.containers.specs.declared.part.Left.TheVariants as left
 use Rattle.containers.specs.declared.progress.Progress.{Progress}
-use Rattle.containers.specs.Refusals.{IsOfChecking, IsOfItems}
+use Rattle.containers.specs.declared.fault.Cause.TheVariants as cause
+use Rattle.containers.specs.Refusals.{IsBehindFront, IsOfChecking, IsOfItems, Refuses}
 use Rattle.containers.specs.declared.fault.ImportFault.{ImportFault}
 use Rattle.containers.specs.Container.{Faulty, as_fault}
 use Rattle.containers.specs.Stages.{State, begun, closed, go_on}
@@ -66,6 +67,27 @@ pub record EndsOn {P : Type 0} (magic : List ℕ) (reads : Reads) (old : Progres
 abbrev pub LeadsAlike : {P : Type 0} → List ℕ → Progress P → List ℕ → Progress P → List ℕ → Type 0
 LeadsAlike magic old rest new behind = (reads : Reads) → go_on magic reads (seen old) rest ≡ go_on magic reads (seen new) behind
 
+-- A part of the header was read: the reading goes on from there with fewer bytes, whatever the items are.
+pub record GoesAlike {P : Type 0} (magic : List ℕ) (old : Progress P) (rest : List ℕ) (new : Progress P) (behind : List ℕ) : Type 0 where
+  pub alike : LeadsAlike magic old rest new behind
+  pub stands : Stands magic new
+  pub falls : length behind < length rest
+
 -- The bytes lead alike whatever the items are; or they have an item, so that no fault stands whatever the items are.
 abbrev pub LeadsOrReads : {P : Type 0} → List ℕ → Progress P → List ℕ → Progress P → List ℕ → Type 0
 LeadsOrReads magic old rest new behind = LeadsAlike magic old rest new behind ⊎ IsOfItems (λ reads. go_on magic reads (seen old) rest)
+
+-- ---- refusals
+
+-- The fault is the expected one. Memory may run out in its place, but not where a fault stands whatever the items are; and where
+-- nothing of a body is held, not before the first item was read.
+pub record IsRefusal {P : Type 0} (magic : List ℕ) (reads : Reads) (old : Progress P) (rest : List ℕ) (f : ImportFault) : Type 0 where
+  pub refused : Refuses f (go_on magic reads (seen old) rest)
+  pub memory : old.body.items ≡ [] → f.cause ≡ cause.Memory → IsBehindFront (at_end (go_on magic reads (seen old) rest))
+  pub of_items : f.cause ≡ cause.Memory → IsOfItems (λ r. go_on magic r (seen old) rest)
+
+-- The same of an item whose length is there, in any container: what is wrong with it hangs on how items are read.
+pub record IsItemRefusal {P : Type 0} (reads : Reads) (old : Progress P) (rest : List ℕ) (f : ImportFault) : Type 0 where
+  pub refused : (magic : List ℕ) → Refuses f (go_on magic reads (seen old) rest)
+  pub memory : old.body.items ≡ [] → f.cause ≡ cause.Memory → (magic : List ℕ) → IsBehindFront (at_end (go_on magic reads (seen old) rest))
+  pub of_items : (magic : List ℕ) → IsOfItems (λ r. go_on magic r (seen old) rest)

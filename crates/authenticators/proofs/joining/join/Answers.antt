@@ -2,17 +2,15 @@ use Rattle.std.proofs.Common.{◌≡◌, ◌+◌, ◌≤◌, vec_capacity, vec_l
 use Rattle.authenticators.specs.declared.authenticator.Authenticator.{Authenticator}
 use Rattle.authenticators.specs.StatementSet.{IsUnion}
 use Rattle.authenticators.specs.within.Joins.{with_moved}
-use Rattle.authenticators.proofs.StatementJoins.{IsPut, joining_more}
+use Rattle.authenticators.proofs.StatementJoins.{joining_more}
 use Rattle.authenticators.proofs.StatementUnions.{union_all}
 use Rattle.authenticators.proofs.joining.join.Goals as goal
 
 pub loop-statement-preserved : goal.loop-statement-preserved
 loop-statement-preserved c =
     let before = c.loop-statement.invariant in
-    let put : IsPut c.loop-statement.held.items c.loop-statement.moved.items c.in-Some.statement c.put.new.held.items c.put.new.moved.items =
-    record { ascending = c.put.ensures.ascending; added = c.put.ensures.added; from = c.put.ensures.from } in
     record {
-      joining = joining_more _ _ _ _ _ _ _ _ _ before.joining c.in-Some.ensures.items put;
+      joining = joining_more _ _ _ _ _ _ _ _ _ before.joining c.in-Some.ensures.items c.put.ensures.put;
       room = omega (arith, before.room, c.in-Some.ensures.cases, c.put.ensures.len, c.put.ensures.held_capacity);
       moving = omega (arith, before.moving, c.in-Some.ensures.cases, c.put.ensures.len, c.put.ensures.moved_capacity);
     }

@@ -28,7 +28,7 @@ loop-point-preserved c =
     let longer : take (k + 1) points ≡ take k points ++ q ∷ [] = take_more points k q c.loop-point-test.true ∙ ap (λ (y : Clash). take k points ++ y ∷ []) (sym c.point-item.is) in
     record {
       noted = subst (λ (l : List Clash). AreNoted c.args.held.now l c.args.clashes.now.items c.note.new.clashes.items) (sym longer)
-          (one_more c.args.held.now (take k points) c.args.clashes.now.items c.loop-point.clashes.items c.note.new.clashes.items q before.noted c.note.ensures.ascending c.note.ensures.kept c.note.ensures.only c.note.ensures.found (λ p has. Contains-push_cases (take k points) q p has));
+          (one_more c.args.held.now (take k points) c.args.clashes.now.items c.loop-point.clashes.items c.note.new.clashes.items q before.noted c.note.ensures.noted (λ p has. Contains-push_cases (take k points) q p has));
       len = omega (arith, before.len, c.note.ensures.len);
       capacity = c.note.ensures.capacity ∙ before.capacity;
     }

@@ -15,22 +15,12 @@ joined len body rest text after none front back =
 pub returns-in_err-keep_item-clause-refused : goal.returns-in_err-keep_item-clause-refused
 returns-in_err-keep_item-clause-refused g c =
     let p = err_from_is_err_and c.from_residual.result c.from_residual.ensures.1 in
-    rw (p.1, p.2) (wrong (checked_of c.args.directory.now) c.args.left c.args.len c.args.self.now c.args.rest.now c.split_at.result.0.now c.split_at.result.1.now c.requires.stage.0 c.requires.stage.1 c.requires.front c.split_at.ensures.front_len
-    (joined c.args.len c.args.self.now.body.items c.args.rest.now c.split_at.result.0.now c.split_at.result.1.now c.requires.none c.split_at.ensures.front c.split_at.ensures.back)
-    c.in_err-keep_item.field-0.0 c.in_err-keep_item.ensures.refused)
-
-pub returns-in_err-keep_item-clause-memory : goal.returns-in_err-keep_item-clause-memory
-returns-in_err-keep_item-clause-memory g c =
-    let p = err_from_is_err_and c.from_residual.result c.from_residual.ensures.1 in
-    rw (p.1, p.2) (λ memory. behind_all (checked_of c.args.directory.now) c.args.left c.args.len c.args.self.now c.args.rest.now c.split_at.result.0.now c.split_at.result.1.now c.requires.stage.0 c.requires.stage.1 c.requires.front c.split_at.ensures.front_len
-    (joined c.args.len c.args.self.now.body.items c.args.rest.now c.split_at.result.0.now c.split_at.result.1.now c.requires.none c.split_at.ensures.front c.split_at.ensures.back)
-    (c.in_err-keep_item.ensures.memory memory))
-
-pub returns-in_err-keep_item-clause-of_items : goal.returns-in_err-keep_item-clause-of_items
-returns-in_err-keep_item-clause-of_items g c =
-    let p = err_from_is_err_and c.from_residual.result c.from_residual.ensures.1 in
-    rw p.1 (of_items (checked_of c.args.directory.now) c.args.left c.args.len c.args.self.now c.args.rest.now c.split_at.result.0.now c.split_at.result.1.now c.requires.stage.0 c.requires.stage.1 c.requires.front c.split_at.ensures.front_len
-    (joined c.args.len c.args.self.now.body.items c.args.rest.now c.split_at.result.0.now c.split_at.result.1.now c.requires.none c.split_at.ensures.front c.split_at.ensures.back))
+    let whole = joined c.args.len c.args.self.now.body.items c.args.rest.now c.split_at.result.0.now c.split_at.result.1.now c.requires.none c.split_at.ensures.front c.split_at.ensures.back in
+    rw (p.1, p.2) (record {
+      refused = wrong (checked_of c.args.directory.now) c.args.left c.args.len c.args.self.now c.args.rest.now c.split_at.result.0.now c.split_at.result.1.now c.requires.stage.0 c.requires.stage.1 c.requires.front c.split_at.ensures.front_len whole c.in_err-keep_item.field-0.0 c.in_err-keep_item.ensures.refused;
+      memory = λ none memory. behind_all (checked_of c.args.directory.now) c.args.left c.args.len c.args.self.now c.args.rest.now c.split_at.result.0.now c.split_at.result.1.now c.requires.stage.0 c.requires.stage.1 c.requires.front c.split_at.ensures.front_len whole (c.in_err-keep_item.ensures.memory memory);
+      of_items = of_items (checked_of c.args.directory.now) c.args.left c.args.len c.args.self.now c.args.rest.now c.split_at.result.0.now c.split_at.result.1.now c.requires.stage.0 c.requires.stage.1 c.requires.front c.split_at.ensures.front_len whole;
+    })
 
 pub returns-clause-taken : goal.returns-clause-taken
 returns-clause-taken g c =
