@@ -1,5 +1,5 @@
 -- A binary search for an acknowledgement of a message.
-use Rattle.std.proofs.Common.{◌≡◌, ℕ, ◌<◌, ◌≤◌, List, [], ◌∷◌, length, get_or, Result, Ok, Err, is_ok, Some, refl, sym, ap, subst, ◌∙◌, ⊎_elim, arith}
+use Rattle.std.proofs.Common.{◌≡◌, ℕ, ◌<◌, ◌≤◌, List, length, get_or, Result, Ok, Err, is_ok, Some, refl, sym, ap, subst, ◌∙◌, ⊎_elim, arith}
 use Rattle.std.specs.Prelude.{◌↔◌, IsTrue, slice_get}
 use Rattle.std.specs.List.Sorted.{IsBinarySearchResult, IsNonDecreasingBy, IsSearchInRange}
 use Rattle.std.specs.Ordering.{ordering_index}
@@ -16,10 +16,7 @@ use Rattle.node_tables.specs.Places.{IsAcknowledged, IsOrder}
 use Rattle.node_tables.specs.within.Placing.{group_order_by}
 use Rattle.node_tables.proofs.Places.{contains_at}
 use Rattle.node_tables.proofs.RowLists.{named_at, same_length}
-
-some_of : {X : Type 0} (xs : List X) (j : ℕ) → j < length xs → X
-some_of [] j inside = absurd (omega (arith, inside))
-some_of (x ∷ xs) j inside = x
+use Rattle.node_tables.proofs.Sendings.{some_of}
 
 -- what is below an ordering that is `Less` is `Less`, and what is above one that is `Greater` is `Greater`
 does_not_fall : (o p : Ordering) → (p ≡ Less → o ≡ Less) → (o ≡ Greater → p ≡ Greater) → ordering_index o ≤ ordering_index p

@@ -1,6 +1,6 @@
 -- A statement that was said already contradicts no segment, where it did not before.
-use Rattle.std.proofs.Common.{◌≡◌, Bool, true, false, List, Option, Some, None, refl, sym, ap, subst, ◌∙◌}
-use Rattle.std.specs.Prelude.{◌&&◌, ◌==◌}
+use Rattle.std.proofs.Common.{◌≡◌, true, false, List, Option, Some, None, refl, sym, ap, subst, ◌∙◌}
+use Rattle.std.specs.Prelude.{◌==◌}
 use Rattle.std.specs.List.{Contains}
 use Rattle.std.specs.Str.{bytes_eq}
 use Rattle.std.proofs.lemmas.Bool.Decides.{Decides-eqb}
@@ -18,6 +18,7 @@ use Rattle.node_tables.specs.declared.table.Table.{Table}
 use Rattle.node_tables.specs.Rows.{stated_at}
 use Rattle.node_tables.specs.Tables.{IsTold, IsUpToDate, denied_by, denies_at}
 use Rattle.node_tables.specs.within.Bringing.{AreUndenied, again_at, again_by}
+use Rattle.node_tables.proofs.Bools.{and_both}
 use Rattle.node_tables.proofs.Told.{says_held}
 
 -- statements of one number and one hash contradict the same
@@ -32,16 +33,11 @@ denied_alike : (a b : Authenticator) → b.seq ≡ a.seq → b.hash ≡ a.hash �
 denied_alike a b seq hash None = refl
 denied_alike a b seq hash (Some c) = denies_alike a b seq hash c.item.fields
 
-both : (x y : Bool) → (x && y) ≡ true → (x ≡ true) × (y ≡ true)
-both true true h = (refl, refl)
-both true false h = absurd cc
-both false y h = absurd cc
-
 -- what the test means
 again_means : (o : Option Authenticator) (a : Authenticator) → again_by o a ≡ true → (b : Authenticator) × (o ≡ Some b) × (b.seq ≡ a.seq) × (b.hash ≡ a.hash)
 again_means None a h = absurd cc
 again_means (Some b) a h =
-    let t = both (b.seq == a.seq) (bytes_eq b.hash a.hash) h in
+    let t = and_both (b.seq == a.seq) (bytes_eq b.hash a.hash) h in
     (b, refl, (Decides-eqb b.seq a.seq).0 t.0, (bytes_eq-Decides b.hash a.hash).0 t.1)
 
 module _ (items : List Checked) (rows : List Row) (spans : List Span) (a : Authenticator) (quiet : AreUndenied items rows spans) where

@@ -1,5 +1,5 @@
 -- Places that ascend by the spellings of their items.
-use Rattle.std.proofs.Common.{◌≡◌, ℕ, ◌<◌, ◌≤◌, Bool, true, false, cond, not, List, [], ◌∷◌, ◌++◌, length, get_or, Option, Some, map, refl, sym, ap, subst, ◌∙◌, arith}
+use Rattle.std.proofs.Common.{◌≡◌, ℕ, ◌<◌, ◌≤◌, Bool, true, false, cond, List, [], ◌∷◌, ◌++◌, length, get_or, Option, Some, map, refl, sym, ap, subst, ◌∙◌, arith}
 use Rattle.std.specs.Prelude.{◌↔◌, ◌⊎◌, Ok, Err, slice_get}
 use Rattle.std.specs.List.{Contains, filter, insert}
 use Rattle.std.specs.List.Sorted.{IsBinarySearchResult}
@@ -11,10 +11,9 @@ use Rattle.item_forms.proofs.ItemOrders.{by_bytes_exact}
 use Rattle.evidence_item.specs.Checking.{Checked}
 use Rattle.kept_evidence.specs.Kept.{by_item}
 use Rattle.kept_evidence.proofs.Orders.{by_item_total}
-use Rattle.kept_items.specs.declared.reach.Demand.{Demand}
 use Rattle.node_tables.specs.declared.unanswered.Unanswered.{Unanswered}
 use Rattle.node_tables.specs.Places.{ArePlacesOf, AreAsked, AscendBySpelling, IsThere, RiseByDemand, demand_by, demand_key, item_order_by}
-use Rattle.node_tables.specs.within.Placing.{IsNewAmong, answered_by, answers_at}
+use Rattle.node_tables.specs.within.Placing.{IsNewAmong}
 use Rattle.node_tables.proofs.Grown.{still_at}
 use Rattle.node_tables.proofs.RowLists.{insert_names, named_at, same_length}
 use Rattle.node_tables.proofs.Searching.{IsGap, found_row, gap_found}
@@ -78,27 +77,24 @@ asked_less items u v asked spelled same fewer = record {
 
 -- ---- some of them are taken away
 
-module _ (items : List Checked) (n : ℕ) where
-  abbrev stays : Option Checked → Bool
-  stays o = not (answered_by o (slice_get items n))
-
+module _ (items : List Checked) (stays : Option Checked → Bool) where
   one_filtered : (b d : Bool) (p : ℕ) (c : Checked) (ps : List ℕ) (cs : List Checked) → b ≡ d → slice_get items p ≡ Some c → ArePlacesOf items ps cs → ArePlacesOf items (cond b (p ∷ ps) ps) (cond d (c ∷ cs) cs)
   one_filtered true true p c ps cs e at is = ap (λ (o : Option Checked). o ∷ map (slice_get items) ps) at ∙ ap (λ (l : List (Option Checked)). Some c ∷ l) is
   one_filtered true false p c ps cs e at is = absurd cc
   one_filtered false true p c ps cs e at is = absurd cc
   one_filtered false false p c ps cs e at is = is
 
-  filtered : (ps : List ℕ) (cs : List Checked) → ArePlacesOf items ps cs → ArePlacesOf items (filter (λ i. not (answers_at items i n)) ps) (filter (λ (c : Checked). stays (Some c)) cs)
+  filtered : (ps : List ℕ) (cs : List Checked) → ArePlacesOf items ps cs → ArePlacesOf items (filter (λ i. stays (slice_get items i)) ps) (filter (λ (c : Checked). stays (Some c)) cs)
   filtered [] [] is = refl
   filtered [] (c ∷ cs) is = absurd cc
   filtered (p ∷ ps) [] is = absurd cc
   filtered (p ∷ ps) (c ∷ cs) is =
       let parts = cons_same (slice_get items p) (Some c) (map (slice_get items) ps) (map Some cs) is in
-      one_filtered (not (answers_at items p n)) (stays (Some c)) p c _ _ (ap stays parts.0) parts.0 (filtered ps cs parts.1)
+      one_filtered (stays (slice_get items p)) (stays (Some c)) p c _ _ (ap stays parts.0) parts.0 (filtered ps cs parts.1)
 
-  -- What the item does not answer ascends as before.
-  pub asked_closed : (old new : List ℕ) → new ≡ filter (λ i. not (answers_at items i n)) old → AscendBySpelling items old → AscendBySpelling items new
-  asked_closed old new is asked = subst (AscendBySpelling items) (sym is) (record {
+  -- Some of the places ascend as all did.
+  pub asked_filtered : (old new : List ℕ) → new ≡ filter (λ i. stays (slice_get items i)) old → AscendBySpelling items old → AscendBySpelling items new
+  asked_filtered old new is asked = subst (AscendBySpelling items) (sym is) (record {
     named = filter (λ (c : Checked). stays (Some c)) asked.named;
     names = filtered old asked.named asked.names;
     ascending = IsStrictlySortedBy-filter by_item (λ (c : Checked). stays (Some c)) asked.named asked.ascending;

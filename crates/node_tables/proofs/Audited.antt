@@ -1,7 +1,7 @@
 -- What a segment takes of the open audit challenges.
-use Rattle.std.proofs.Common.{◌≡◌, ℕ, ◌+◌, ◌<◌, ◌≤◌, Bool, true, false, not, List, take, length, get_or, Option, Some, None, Result, Ok, Err, refl, sym, ap, subst, ◌∙◌, ⊎_elim, arith}
+use Rattle.std.proofs.Common.{◌≡◌, ℕ, ◌+◌, ◌<◌, ◌≤◌, Bool, true, false, not, List, take, length, get_or, Option, Some, None, Ok, Err, refl, sym, ap, subst, ◌∙◌, ⊎_elim, arith}
 use Rattle.std.specs.Prelude.{◌||◌, slice_get}
-use Rattle.std.specs.List.{Contains, filter, list_any, remove_range}
+use Rattle.std.specs.List.{Contains, filter, remove_range}
 use Rattle.std.specs.List.Sorted.{IsBinarySearchResult}
 use Rattle.std.specs.Ordering.{is_eq, ordering_reverse}
 use Rattle.std.specs.declared.cmp.Ordering.{Ordering}
@@ -11,7 +11,6 @@ use Rattle.std.proofs.lemmas.List.{get_or_default}
 use Rattle.std.proofs.lemmas.List.Elements.{Contains-get_or}
 use Rattle.std.proofs.lemmas.List.Folds.{list_any_more}
 use Rattle.std.proofs.lemmas.List.Kept.{IsNonDecreasingBy-filter}
-use Rattle.std.proofs.lemmas.Option.{same_Some}
 use Rattle.authenticators.proofs.AscendingLists.{below_at}
 use Rattle.item_forms.proofs.ItemOrders.{by_bytes_exact}
 use Rattle.item_forms.specs.declared.forms.AuditChallenge.{AuditChallenge}
@@ -29,15 +28,16 @@ use Rattle.kept_items.specs.declared.reach.Reach.{Reach}
 use Rattle.kept_items.specs.Keeping.{AnswersAreWithinReach, OpeningsAreNamed, demand, demand_of, opening, opening_at, reach}
 use Rattle.kept_items.specs.Positions.{positions}
 use Rattle.node_tables.specs.declared.unanswered.Unanswered.{Unanswered}
-use Rattle.node_tables.specs.Places.{AreAsked, AscendBySpelling, IsThere, RiseByDemand, demand_by, item_order_by, key_at}
-use Rattle.node_tables.specs.within.Asking.{is_like, is_like_one, is_opened}
+use Rattle.node_tables.specs.Places.{AreAsked, AscendBySpelling, IsThere, RiseByDemand, asked_room, demand_by, item_order_by, key_at}
+use Rattle.node_tables.specs.within.Asking.{TakesAudits, is_like, is_like_one, is_opened}
 use Rattle.node_tables.specs.within.Sendings.{audited_by, told_audit}
 use Rattle.node_tables.proofs.Demands.{opened_by}
-use Rattle.node_tables.proofs.Receipts.{asked_filtered, both_filters}
+use Rattle.node_tables.proofs.Bools.{false_by, turned}
+use Rattle.node_tables.proofs.Receipts.{both_filters}
 use Rattle.node_tables.proofs.RowLists.{named_at, same_length}
 use Rattle.node_tables.proofs.Searching.{IsGap, found_row, gap_found}
-use Rattle.node_tables.proofs.Asked.{by_place}
-use Rattle.node_tables.proofs.Sendings.{all_stay, equal_is, removed, some_of}
+use Rattle.node_tables.proofs.Asked.{asked_filtered, by_place}
+use Rattle.node_tables.proofs.Sendings.{all_stay, equal_is, removed}
 
 -- ---- items of one spelling
 
@@ -148,10 +148,6 @@ module _ (items : List Checked) (gone : List ℕ) where
 pub still_answered : (items : List Checked) (p : Option Checked) (places : List ℕ) (n e : ℕ) → n < length places → audited_by (slice_get items (get_or places n e)) p ≡ true → (d : ℕ) → audited_by (slice_get items (get_or places n d)) p ≡ true
 still_answered items p places n e inside h d = subst (λ i. audited_by (slice_get items i) p ≡ true) (get_or_default places n e d inside) h
 
-turned : (b : Bool) → not b ≡ true → b ≡ false
-turned true h = absurd cc
-turned false h = refl
-
 either : (a b : Bool) → (a ≡ true → b ≡ true) → (a || b) ≡ b
 either true b h = sym (h refl)
 either false b h = refl
@@ -183,27 +179,24 @@ module _ (items : List Checked) (answer : ℕ) (u v : Unanswered) (opening last 
       absurd (cc (like_one, not_so))
   still_among i false is in_u at not_so = subst (λ (l : List ℕ). Contains l i) (sym audits) (passes (λ (k : ℕ). not (is_opened items opening last k)) u.audits.items i in_u (ap not is))
 
-  pub opened_asked : AreAsked items v
-  opened_asked = record {
-    spelled = asked_filtered items (λ o. not (is_like_one items near o)) u.places.items v.places.items places asked.spelled;
-    rising = subst (RiseByDemand items) (sym audits) (IsNonDecreasingBy-filter (key_at items) (λ (i : ℕ). not (is_opened items opening last i)) u.audits.items asked.rising);
-    there = λ i in_v. asked.there i (stays_open i in_v).0;
-    audits = λ i d in_v is.
-        let was = stays_asked i in_v in
-        let in_u = asked.audits i d was.0 is in
-        still_among i (is_opened items opening last i) refl in_u (asked.there i in_u) was.1;
+  pub opened : (b : Bool) → asked_room u ≤ asked_room v → TakesAudits items answer (λ d. (d.opening ≡ opening) × (d.last ≤ last)) b u v
+  opened b room = record {
+    asked = record {
+      spelled = asked_filtered items (λ o. not (is_like_one items near o)) u.places.items v.places.items places asked.spelled;
+      rising = subst (RiseByDemand items) (sym audits) (IsNonDecreasingBy-filter (key_at items) (λ (i : ℕ). not (is_opened items opening last i)) u.audits.items asked.rising);
+      there = λ i in_v. asked.there i (stays_open i in_v).0;
+      audits = λ i d in_v is.
+          let was = stays_asked i in_v in
+          let in_u = asked.audits i d was.0 is in
+          still_among i (is_opened items opening last i) refl in_u (asked.there i in_u) was.1;
+    };
+    rest = ap (λ (l : List ℕ). filter (λ i. not (p i)) l) places ∙ weaker p q u.places.items (λ i h.
+        let (k, in_near, like) = some_passes (λ (m : ℕ). is_like (slice_get items i) (slice_get items m)) near h in
+        audited_like (slice_get items i) (slice_get items k) (slice_get items answer) like (answered k in_near));
+    fewer = λ i in_v. (stays_open i in_v).0;
+    done = λ told i d in_v is h. let yes = opened_by items i d is opening last h.0 h.1 in let no = (stays_open i in_v).1 in cc (yes, no);
+    room = room;
   }
-
-  pub opened_rest : filter (λ i. not (p i)) v.places.items ≡ filter (λ i. not (p i)) u.places.items
-  opened_rest = ap (λ (l : List ℕ). filter (λ i. not (p i)) l) places ∙ weaker p q u.places.items (λ i h.
-      let (k, in_near, like) = some_passes (λ (m : ℕ). is_like (slice_get items i) (slice_get items m)) near h in
-      audited_like (slice_get items i) (slice_get items k) (slice_get items answer) like (answered k in_near))
-
-  pub opened_fewer : (i : ℕ) → Contains v.audits.items i → Contains u.audits.items i
-  opened_fewer i in_v = (stays_open i in_v).0
-
-  pub opened_done : (i : ℕ) (d : Demand) → Contains v.audits.items i → demand_by (slice_get items i) ≡ Some d → d.opening ≡ opening → d.last ≤ last → ⊥
-  opened_done i d in_v is same most = let yes = opened_by items i d is opening last same most in let no = (stays_open i in_v).1 in cc (yes, no)
 
 -- ---- all that the segment answers
 
@@ -236,10 +229,6 @@ module _ (items : List Checked) (answer : ℕ) (y : Checked) (here : slice_get i
   by_item_at : (o : Option Checked) → (b : Bool) → audited_by o (slice_get items answer) ≡ b → b ≡ true → (c : Checked) × (o ≡ Some c) × (told_audit c.item.fields y.item.fields ≡ true)
   by_item_at None b is h = absurd (cc (is, h))
   by_item_at (Some c) b is h = (c, refl, sym (ap (audited_by (Some c)) here) ∙ is ∙ h)
-
-  false_by : (b : Bool) → (b ≡ true → ⊥) → b ≡ false
-  false_by true h = absurd (h refl)
-  false_by false h = refl
 
   none_by : (o : Option Checked) → reach y.item.fields ≡ None → audited_by o (Some y) ≡ false
   none_by None none = refl

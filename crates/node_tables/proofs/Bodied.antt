@@ -1,6 +1,6 @@
 -- What comes to a table with an item, beside its statements.
-use Rattle.std.proofs.Common.{◌≡◌, ℕ, Bool, true, false, not, List, Option, Some, None, refl, sym, ap, subst, ◌∙◌, ◌⊎◌, inl, inr, ⊎_elim}
-use Rattle.std.specs.Prelude.{◌↔◌, ◌&&◌, slice_get, slice_set}
+use Rattle.std.proofs.Common.{◌≡◌, ℕ, ◌-◌, true, false, not, List, Option, Some, None, refl, sym, ap, subst, ◌∙◌, ◌⊎◌, inl, inr, ⊎_elim, arith}
+use Rattle.std.specs.Prelude.{◌↔◌, slice_get}
 use Rattle.std.specs.List.{Contains, filter}
 use Rattle.std.proofs.lemmas.Bool.Decides.{Decides-eqb}
 use Rattle.std.proofs.lemmas.Option.{same_Some}
@@ -16,18 +16,15 @@ use Rattle.kept_items.specs.Keeping.{subject}
 use Rattle.kept_evidence.proofs.Members.{passes, passing}
 use Rattle.node_tables.specs.declared.table.Table.{Table}
 use Rattle.node_tables.specs.Places.{IsAgainstAt, IsOpenAt}
-use Rattle.node_tables.specs.Steps.{AllTables, AscendByNode, EachBecomes}
 use Rattle.node_tables.specs.Tables.{IsSegmentAt, Stands}
 use Rattle.node_tables.specs.within.Bringing.{SegmentStep}
-use Rattle.node_tables.specs.within.Placing.{AreAgainst, BodyStep, IsAckAt, answered_by, answers_at, is_ack}
+use Rattle.node_tables.specs.within.Coming.{BodyCame, BodyPut, IsBodyDue}
+use Rattle.node_tables.specs.within.Placing.{BodyStep, IsAckAt, answered_by, answers_at, is_ack, subject_by}
 use Rattle.item_forms.specs.declared.forms.AckItem.{AckItem}
-use Rattle.node_tables.proofs.Places.{contains_at}
-use Rattle.node_tables.proofs.Stepping.{becomes_set, distinct}
+use Rattle.node_tables.proofs.Received.{told_receipts}
+use Rattle.node_tables.proofs.Reserved.{rooms_here, rooms_still}
 use Rattle.node_tables.proofs.Answerers.{answer_of, answered_means, answerer}
-
-turned : (b : Bool) → not b ≡ true → b ≡ false
-turned true h = absurd cc
-turned false h = refl
+use Rattle.node_tables.proofs.Bools.{both, false_by, open_so, turned}
 
 -- What `retain` leaves are those that the item does not answer.
 pub closed : (items : List Checked) (n : ℕ) (old new : List ℕ) → new ≡ filter (λ i. not (answers_at items i n)) old → (i : ℕ) → Contains new i ↔ (Contains old i × (answers_at items i n ≡ false))
@@ -58,15 +55,11 @@ ack_no_segment j (form.Audit c) h s = s
 ack_no_segment j (form.Send m) h s = s
 ack_no_segment j (form.Ack a) h s = s
 
-first_of : (a b : Bool) → (a && b) ≡ true → a ≡ true
-first_of true b h = refl
-first_of false b h = absurd cc
-
 -- what is no challenge against the node is not open
 not_open : (items : List Checked) (j n : ℕ) (c : Checked) → slice_get items n ≡ Some c → is_against j c.item.fields ≡ false → IsOpenAt items j n → ⊥
 not_open items j n c here never (d, at, h) =
     let same : d ≡ c = same_Some d c (sym at ∙ here) in
-    let yes : is_against j c.item.fields ≡ true = subst (λ (k : Checked). is_against j k.item.fields ≡ true) same (first_of (is_against j d.item.fields) (not (is_answered items d.item.fields)) h) in
+    let yes : is_against j c.item.fields ≡ true = subst (λ (k : Checked). is_against j k.item.fields ≡ true) same (both (is_against j d.item.fields) (is_answered items d.item.fields) h).0 in
     cc (never, yes)
 
 module _ (items : List Checked) (n : ℕ) (t u : Table) where
@@ -134,16 +127,6 @@ not_answered_by j (Some d) p c is h = ap (answered_by (Some d)) is ∙ no_answer
 against_no_segment : (j k : ℕ) (x : Fields) → is_against j x ≡ true → IsSegmentOf k x → ⊥
 against_no_segment j k x h s = let never = not_against_segment j k x s in cc (never, h)
 
-open_so : (a b : Bool) → a ≡ true → b ≡ false → (a && not b) ≡ true
-open_so true false h e = refl
-open_so true true h e = absurd cc
-open_so false b h e = absurd cc
-
-answered_not : (a b : Bool) → (a && not b) ≡ true → b ≡ false
-answered_not true true h = absurd cc
-answered_not true false h = refl
-answered_not false b h = absurd cc
-
 module _ (items : List Checked) (n : ℕ) (t : Table) (c : Checked) (here : slice_get items n ≡ Some c) (against : is_against t.node c.item.fields ≡ true) where
   nothing_answered : (i : ℕ) → answers_at items i n ≡ false
   nothing_answered i = not_answered_by t.node (slice_get items i) (slice_get items n) c here against
@@ -165,7 +148,7 @@ module _ (items : List Checked) (n : ℕ) (t : Table) (c : Checked) (here : slic
       λ has. inl (has, nothing_answered i),
       λ h. ⊎_elim (λ old. old.0) (λ (e : (i ≡ n) × IsOpenAt items t.node n).
           let same : e.1.0 ≡ c = same_Some e.1.0 c (sym e.1.1 ∙ here) in
-          let not_so : is_answered items c.item.fields ≡ false = subst (λ (k : Checked). is_answered items k.item.fields ≡ false) same (answered_not (is_against t.node e.1.0.item.fields) (is_answered items e.1.0.item.fields) e.1.2) in
+          let not_so : is_answered items c.item.fields ≡ false = subst (λ (k : Checked). is_answered items k.item.fields ≡ false) same (both (is_against t.node e.1.0.item.fields) (is_answered items e.1.0.item.fields) e.1.2).1 in
           absurd (cc (answered, not_so))) h,
     );
   }
@@ -199,12 +182,7 @@ against_subject j (form.Audit c) h = ap Some ((Decides-eqb c.node j).0 h)
 against_subject j (form.Send m) h = ap Some ((Decides-eqb m.to j).0 h)
 against_subject j (form.Ack a) h = absurd cc
 
-false_by : (b : Bool) → (b ≡ true → ⊥) → b ≡ false
-false_by true h = absurd (h refl)
-false_by false h = refl
-
--- Nothing comes to the table of another node.
-pub body_still : (items : List Checked) (n : ℕ) (t : Table) (c : Checked) → slice_get items n ≡ Some c → (subject c.item.fields ≡ Some t.node → ⊥) → ((i : ℕ) → Contains t.unanswered.places.items i → IsAgainstAt items t.node i) → BodyStep items n t t
+body_still : (items : List Checked) (n : ℕ) (t : Table) (c : Checked) → slice_get items n ≡ Some c → (subject c.item.fields ≡ Some t.node → ⊥) → ((i : ℕ) → Contains t.unanswered.places.items i → IsAgainstAt items t.node i) → BodyStep items n t t
 body_still items n t c here other against = record {
   node = refl;
   rows = refl;
@@ -223,21 +201,31 @@ body_still items n t c here other against = record {
           other (of_item means.1 means.3 (answer_of t.node means.0.item.fields means.1.item.fields (answerer t.node means.0.item.fields means.1 (subst (λ (k : Checked). is_against t.node k.item.fields ≡ true) same asked.2) means.4)))),
     ),
     λ h. ⊎_elim (λ old. old.0) (λ (e : (i ≡ n) × IsOpenAt items t.node n).
-        absurd (other (of_item e.1.0 e.1.1 (against_subject t.node e.1.0.item.fields (first_of (is_against t.node e.1.0.item.fields) (not (is_answered items e.1.0.item.fields)) e.1.2))))) h,
+        absurd (other (of_item e.1.0 e.1.1 (against_subject t.node e.1.0.item.fields (both (is_against t.node e.1.0.item.fields) (is_answered items e.1.0.item.fields) e.1.2).0)))) h,
   );
 }
   where
     of_item : (d : Checked) → slice_get items n ≡ Some d → subject d.item.fields ≡ Some t.node → subject c.item.fields ≡ Some t.node
     of_item d at h = subst (λ (k : Checked). subject k.item.fields ≡ Some t.node) (same_Some d c (sym at ∙ here)) h
 
-module _ (items : List Checked) (n : ℕ) (tables : List Table) (c : Checked) (here : slice_get items n ≡ Some c) (against : AllTables (AreAgainst items) tables) where
-  -- where no table is of its node, nothing changes
-  pub bodies_still : ((t : Table) → Contains tables t → subject c.item.fields ≡ Some t.node → ⊥) → EachBecomes (BodyStep items n) tables tables
-  bodies_still none i u at = (u, at, body_still items n u c here (none u (contains_at tables i u at)) (against i u at))
+-- Nothing comes to the table of another node.
+pub body_elsewhere : (items : List Checked) (n : ℕ) (c : Checked) (t : Table) → slice_get items n ≡ Some c → IsBodyDue items n t → (subject c.item.fields ≡ Some t.node → ⊥) → BodyCame items n t t
+body_elsewhere items n c t here due other = record {
+  kept = due.others.kept;
+  step = body_still items n t c here other due.others.against;
+  rooms = rooms_still (subject_by (slice_get items n)) t (λ own. other (sym (ap subject_by here) ∙ own));
+}
 
-  pub body_at : (i : ℕ) (t u : Table) → AscendByNode tables → slice_get tables i ≡ Some t → subject c.item.fields ≡ Some t.node → BodyStep items n t u → EachBecomes (BodyStep items n) tables (slice_set tables i u)
-  body_at i t u up at own step = becomes_set (BodyStep items n) tables i t u at step (λ j v there other.
-      body_still items n v c here (λ same. other (distinct tables j i v t up there at (same_Some v.node t.node (sym same ∙ own)))) (against j v there))
+-- Where it was put, its promise is taken back.
+pub put_back : (items : List Checked) (n m : ℕ) (c : Checked) (t u : Table) → slice_get items n ≡ Some c → subject c.item.fields ≡ Some t.node → BodyPut items n t u → m ≡ u.bodies - 1 → BodyCame items n t (record u { bodies = m })
+put_back items n m c t u here own put is =
+    let v : Table = record u { bodies = m } in
+    let less : m ≡ t.bodies - 1 = omega (arith, is, put.counts.bodies) in
+    record {
+      kept = record { told = told_receipts items u v refl refl refl refl put.kept.told.receipts put.kept.told; asked = put.kept.asked };
+      step = record { node = put.step.node; rows = put.step.rows; receipts = put.step.receipts; stands = put.step.stands; unanswered = put.step.unanswered };
+      rooms = rooms_here (subject_by (slice_get items n)) t v (ap subject_by here ∙ own) (record { span_room = put.rooms.span_room; open_room = put.rooms.open_room }) put.counts.promised less;
+    }
 
 -- what is a segment of the subject is one of its node
 of_subject : (j : ℕ) (y : Fields) → is_segment y ≡ true → subject y ≡ Some j → IsSegmentOf j y

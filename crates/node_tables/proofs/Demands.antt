@@ -1,5 +1,5 @@
 -- Audit challenges in the order of their demands.
-use Rattle.std.proofs.Common.{◌≡◌, ℕ, ◌+◌, ◌*◌, ◌-◌, ◌<◌, ◌≤◌, Bool, true, false, leb, ltb, not, List, drop, take, length, get_or, insert, Option, Some, None, refl, sym, ap, subst, ◌∙◌, ⊎_elim, arith}
+use Rattle.std.proofs.Common.{◌≡◌, ℕ, ◌+◌, ◌*◌, ◌-◌, ◌<◌, ◌≤◌, Bool, true, false, leb, ltb, not, List, drop, take, length, get_or, insert, Option, Some, refl, sym, ap, subst, ◌∙◌, ⊎_elim, arith}
 use Rattle.std.specs.Prelude.{◌^◌, ◌&&◌, slice_get}
 use Rattle.std.specs.List.{Contains, filter, list_any, remove_range}
 use Rattle.std.specs.List.Sorted.{IsPartitionPoint, IsPartitionedBy}
@@ -20,7 +20,7 @@ use Rattle.kept_items.specs.declared.reach.Demand.{Demand}
 use Rattle.kept_items.specs.Keeping.{demand, demand_of}
 use Rattle.node_tables.specs.declared.span.Span.{Span}
 use Rattle.node_tables.specs.Places.{RiseByDemand, demand_by, demand_key, key_at}
-use Rattle.node_tables.specs.Tables.{AreSpans, shown_by, shows_at}
+use Rattle.node_tables.specs.Tables.{AreSpans, shown_by}
 use Rattle.node_tables.specs.within.Asking.{is_opened, is_under, is_within}
 use Rattle.node_tables.specs.within.Placing.{answers_at}
 use Rattle.node_tables.proofs.Answerers.{answered_means}

@@ -7,6 +7,7 @@ pub mod Audited
 pub mod Beside
 pub mod Between
 pub mod Bodied
+pub mod Bools
 pub mod Demands
 pub mod Edges
 pub mod Grown

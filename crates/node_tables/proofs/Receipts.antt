@@ -1,5 +1,5 @@
 -- What a segment answers: send challenges by the messages that it quotes, and audit challenges.
-use Rattle.std.proofs.Common.{◌≡◌, ℕ, zero, suc, ◌+◌, ◌-◌, ◌<◌, ◌≤◌, Bool, true, false, cond, not, List, [], ◌∷◌, length, map, Option, Some, None, refl, sym, ap, subst, ◌∙◌, ◌⊎◌, inl, inr, ⊎_elim, arith}
+use Rattle.std.proofs.Common.{◌≡◌, ℕ, zero, suc, ◌+◌, ◌-◌, ◌<◌, ◌≤◌, Bool, true, false, cond, not, List, [], ◌∷◌, length, Option, Some, None, refl, sym, ap, subst, ◌∙◌, ◌⊎◌, inl, inr, ⊎_elim, arith}
 use Rattle.std.specs.Prelude.{◌==◌, ◌&&◌, ◌||◌, slice_get}
 use Rattle.kept_evidence.proofs.Members.{passing}
 use Rattle.std.specs.List.{Contains, filter}
@@ -7,7 +7,6 @@ use Rattle.std.specs.Ordering.{is_eq}
 use Rattle.std.proofs.lemmas.Bool.{cases_lt}
 use Rattle.std.proofs.lemmas.Bool.Decides.{Decides-eqb}
 use Rattle.std.proofs.lemmas.Option.{same_Some}
-use Rattle.std.proofs.lemmas.List.Kept.{IsStrictlySortedBy-filter}
 use Rattle.log_chain.specs.declared.entry.Entry.{Entry}
 use Rattle.authenticators.specs.declared.authenticator.Authenticator.{Authenticator}
 use Rattle.commitment.specs.declared.message.Message.{Message}
@@ -21,18 +20,16 @@ use Rattle.evidence_item.specs.Checking.{Checked, is_segment}
 use Rattle.evidence_item.specs.Statements.{says}
 use Rattle.evidence_set.specs.Challenges.{is_of_number}
 use Rattle.evidence_set.proofs.Joins.{same_test}
-use Rattle.kept_evidence.specs.Kept.{by_item}
 use Rattle.kept_evidence.specs.Telling.{IsSegmentOf, found_quotes, is_told_receipt, quote_with, told_answers, told_quote, told_receipt, told_send}
 use Rattle.kept_items.specs.Positions.{in_segment, positions, quote_at, quote_by, stated_in}
 use Rattle.node_tables.specs.declared.sending.Sending.{Sending}
-use Rattle.node_tables.specs.Places.{ArePlacesOf, AscendBySpelling}
 use Rattle.node_tables.specs.Receipts.{receipt_in, received}
 use Rattle.node_tables.specs.Tables.{IsSegmentAt}
 use Rattle.node_tables.specs.within.Placing.{answered_by, answers_at}
 use Rattle.node_tables.specs.within.Sendings.{audited_by, is_among, is_at, is_received, sending_cmp, told_audit}
-use Rattle.node_tables.proofs.Asked.{cons_same}
+use Rattle.node_tables.proofs.Bools.{and_both, or_rest}
 use Rattle.node_tables.proofs.Received.{received_from}
-use Rattle.node_tables.proofs.Sendings.{same_sending}
+use Rattle.node_tables.proofs.Sendings.{all_stay, same_sending}
 
 -- ---- tests
 
@@ -48,17 +45,9 @@ or_second : (a b : Bool) → b ≡ true → (a || b) ≡ true
 or_second true b h = refl
 or_second false b h = h
 
-or_rest : (a b c : Bool) → a ≡ false → b ≡ c → (a || b) ≡ c
-or_rest true b c h k = absurd cc
-or_rest false b c h k = k
-
 or_no_rest : (a b c : Bool) → b ≡ false → a ≡ c → (a || b) ≡ c
 or_no_rest true b c h k = k
 or_no_rest false b c h k = h ∙ k
-
-and_both : (a b : Bool) → (a && b) ≡ true → (a ≡ true) × (b ≡ true)
-and_both true b h = (refl, h)
-and_both false b h = absurd cc
 
 both_and : (a b : Bool) → a ≡ true → b ≡ true → (a && b) ≡ true
 both_and true b h k = k
@@ -257,33 +246,6 @@ both_filters p q (x ∷ xs) = by_head (p x) (both_filters p q xs)
     by_head true rest = rest
     by_head false rest = ap (λ l. cond (not (q x)) (x ∷ l) l) rest
 
-pub all_stay : {X : Type 0} (xs : List X) → xs ≡ filter (λ (x : X). not false) xs
-all_stay [] = refl
-all_stay (x ∷ xs) = ap (λ l. x ∷ l) (all_stay xs)
-
-module _ (items : List Checked) (stays : Option Checked → Bool) where
-  one_filtered : (b d : Bool) (p : ℕ) (c : Checked) (ps : List ℕ) (cs : List Checked) → b ≡ d → slice_get items p ≡ Some c → ArePlacesOf items ps cs → ArePlacesOf items (cond b (p ∷ ps) ps) (cond d (c ∷ cs) cs)
-  one_filtered true true p c ps cs e at is = ap (λ (o : Option Checked). o ∷ map (slice_get items) ps) at ∙ ap (λ (l : List (Option Checked)). Some c ∷ l) is
-  one_filtered true false p c ps cs e at is = absurd cc
-  one_filtered false true p c ps cs e at is = absurd cc
-  one_filtered false false p c ps cs e at is = is
-
-  filtered : (ps : List ℕ) (cs : List Checked) → ArePlacesOf items ps cs → ArePlacesOf items (filter (λ i. stays (slice_get items i)) ps) (filter (λ (c : Checked). stays (Some c)) cs)
-  filtered [] [] is = refl
-  filtered [] (c ∷ cs) is = absurd cc
-  filtered (p ∷ ps) [] is = absurd cc
-  filtered (p ∷ ps) (c ∷ cs) is =
-      let parts = cons_same (slice_get items p) (Some c) (map (slice_get items) ps) (map Some cs) is in
-      one_filtered (stays (slice_get items p)) (stays (Some c)) p c _ _ (ap stays parts.0) parts.0 (filtered ps cs parts.1)
-
-  -- Some of the places ascend as all did.
-  pub asked_filtered : (old new : List ℕ) → new ≡ filter (λ i. stays (slice_get items i)) old → AscendBySpelling items old → AscendBySpelling items new
-  asked_filtered old new is asked = subst (AscendBySpelling items) (sym is) (record {
-    named = filter (λ (c : Checked). stays (Some c)) asked.named;
-    names = filtered old asked.named asked.names;
-    ascending = IsStrictlySortedBy-filter by_item (λ (c : Checked). stays (Some c)) asked.named asked.ascending;
-  })
-
 module _ (items : List Checked) where
   -- what one entry more takes
   pub one_more : (j : ℕ) (d : Checked) (n : ℕ) (old mid new : List ℕ)
@@ -326,7 +288,7 @@ pub among_is : (items : List Checked) (r : Option Sending) (s : Sending) (old ne
 among_is items r s old new names is = subst (λ (t : Option Sending). new ≡ filter (λ i. not (is_among t (slice_get items i))) old) (sym names) is
 
 pub among_nothing : (items : List Checked) (r : Option Sending) (old : List ℕ) → r ≡ None → old ≡ filter (λ i. not (is_among r (slice_get items i))) old
-among_nothing items r old none = subst (λ (t : Option Sending). old ≡ filter (λ i. not (is_among t (slice_get items i))) old) (sym none) (all_stay old)
+among_nothing items r old none = subst (λ (t : Option Sending). old ≡ filter (λ i. not (is_among t (slice_get items i))) old) (sym none) (all_stay (λ (i : ℕ). false) old (λ k d lt. refl))
 
 -- ---- receipts, by their positions
 

@@ -24,7 +24,7 @@ use Rattle.node_tables.specs.declared.table.Table.{Table}
 use Rattle.node_tables.specs.Indexed.{AreReceipts}
 use Rattle.node_tables.specs.Receipts.{AscendBySending, IsReceived, by_sending, receipt_at, receipt_by, receipt_in, received}
 use Rattle.node_tables.specs.Rows.{AreRowsOf, stated_at, stated_by}
-use Rattle.node_tables.specs.Steps.{AllTables, EachBecomes, room}
+use Rattle.node_tables.specs.Steps.{room}
 use Rattle.node_tables.specs.Tables.{IsSpan, IsTold, IsUpToDate, Says}
 use Rattle.node_tables.specs.within.Bringing.{ReceiptStep, RowStep, StatementStep, StatementsStep}
 use Rattle.node_tables.specs.within.Placing.{AreOtherReceipts, BodyStep}
@@ -105,7 +105,7 @@ some_item (Some c) k s h = (c, refl)
 
 -- ---- steps
 
-some_of : (o : Option Authenticator) → IsSome o → (a : Authenticator) × (o ≡ Some a)
+pub some_of : (o : Option Authenticator) → IsSome o → (a : Authenticator) × (o ≡ Some a)
 some_of None h = absurd cc
 some_of (Some a) h = (a, refl)
 
@@ -193,16 +193,9 @@ receipts_now items n k x t u here all before step s = subst (λ j. Contains u.re
         inr (p, omega (arith, lt, all), at, from)
     by_place m p is from false e = inl ((before s).1 ((m, p, (λ same. let yes = (Decides-eqb m n).1 same in cc (yes, e)), is), from))
 
-pub all_receipts_now : (items : List Checked) (n k : ℕ) (x : Checked) → slice_get items n ≡ Some x → k ≡ positions x.item.fields → (old new : List Table) → EachBecomes (StatementsStep items n k) old new → AllTables (AreOtherReceipts items n) old → AllTables (AreReceipts items) new
-all_receipts_now items n k x here all old new each before i u at =
-    let (t, in_old, step) = each i u at in
-    receipts_now items n k x t u here all (before i t in_old) step
-
 -- What an item is beside its statements changes none.
-pub receipts_still : (items : List Checked) (n : ℕ) (old new : List Table) → EachBecomes (BodyStep items n) old new → AllTables (AreReceipts items) old → AllTables (AreReceipts items) new
-receipts_still items n old new each before i u at s =
-    let (t, in_old, step) = each i u at in
-    subst (λ j. Contains u.receipts.items s ↔ (IsReceived items s × (s.from ≡ j))) (sym step.node) (subst (λ r. Contains r.items s ↔ (IsReceived items s × (s.from ≡ t.node))) (sym step.receipts) (before i t in_old s))
+pub receipts_still : (items : List Checked) (n : ℕ) (t u : Table) → BodyStep items n t u → AreReceipts items t → AreReceipts items u
+receipts_still items n t u step before s = subst (λ j. Contains u.receipts.items s ↔ (IsReceived items s × (s.from ≡ j))) (sym step.node) (subst (λ r. Contains r.items s ↔ (IsReceived items s × (s.from ≡ t.node))) (sym step.receipts) (before s))
 
 -- The receipts of the items before are those of the items at other places than the last.
 pub receipts_before : (items : List Checked) (x : Checked) (t : Table) → AreReceipts items t → AreOtherReceipts (items ++ x ∷ []) (length items) t

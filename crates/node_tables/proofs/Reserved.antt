@@ -1,11 +1,10 @@
 -- Room for the statements of an item, and for what it is beside them; promises, and taking them back.
-use Rattle.std.proofs.Common.{◌≡◌, ◌≢◌, ℕ, zero, suc, ◌+◌, ◌-◌, ◌≤◌, ◌==◌, min, Bool, true, false, List, [], ◌∷◌, ◌++◌, get_or, Option, Some, None, Result, Ok, Err, refl, sym, ap, subst, ◌∙◌, ⊎_elim, arith}
-use Rattle.std.specs.Prelude.{◌<◌, if◌then◌else◌, OnErr, OnOk, slice_get, slice_set}
+use Rattle.std.proofs.Common.{◌≡◌, ◌≢◌, ℕ, ◌+◌, ◌-◌, ◌≤◌, ◌==◌, min, Bool, true, false, List, [], ◌∷◌, ◌++◌, get_or, Option, Some, None, Result, Ok, Err, refl, sym, ap, subst, ◌∙◌, ⊎_elim, arith}
+use Rattle.std.specs.Prelude.{OnErr, OnOk, slice_get, slice_set}
 use Rattle.std.specs.List.{Contains}
 use Rattle.std.proofs.lemmas.Bool.{cases_lt}
 use Rattle.std.proofs.lemmas.Bool.Decides.{Decides-eqb}
-use Rattle.std.proofs.lemmas.Option.{get_or_from_slice_get, same_Some}
-use Rattle.authenticators.specs.declared.authenticator.Authenticator.{Authenticator}
+use Rattle.std.proofs.lemmas.Option.{same_Some}
 use Rattle.evidence_item.specs.Checking.{Checked}
 use Rattle.kept_items.specs.Keeping.{subject}
 use Rattle.kept_items.specs.Positions.{positions, stated}
@@ -15,13 +14,12 @@ use Rattle.node_tables.specs.declared.sending.Sending.{Sending}
 use Rattle.node_tables.specs.declared.table.Table.{Table}
 use Rattle.node_tables.specs.Places.{asked_room, bodies, is_subject, open_room, span_room}
 use Rattle.node_tables.specs.Rows.{stated_by}
-use Rattle.node_tables.specs.Rooms.{AreMany, AreReady, HasRoomFor, HasRoomForAll, IsReady, IsReleased, IsRoomier, ItemRooms, KeepsPromises, bodies_of, rows_of, sum_of}
+use Rattle.node_tables.specs.Rooms.{AreAllReleased, AreBack, AreMany, AreReady, HasRoomFor, HasRoomForAll, IsReady, IsReleased, IsRoomier, ItemRooms, KeepsPromises, Promises, TakesBack, bodies_of, rows_of, sum_of}
 use Rattle.node_tables.specs.Steps.{AscendByNode, EachBecomes, position_of, room, wanted}
-use Rattle.node_tables.specs.within.Bringing.{StatementsStep, TakenBack, one_of}
-use Rattle.node_tables.specs.within.Placing.{BodyRooms, BodyRoomsOf, BodyStep, subject_by}
-use Rattle.node_tables.specs.within.Promising.{ArePromised, AreReleased, IsBodyPromised, IsBodyPromisedHere, IsBodyReleased, IsBodyTakenBackHere, IsPositionPromised, IsPositionReleased, IsPromised, IsPromisedHere, IsTakenBack, IsTakenBackHere, one_for}
-use Rattle.node_tables.proofs.Places.{contains_at}
-use Rattle.node_tables.proofs.Stepping.{becomes_set, distinct}
+use Rattle.node_tables.specs.within.Coming.{BodyCame, StatementsCame}
+use Rattle.node_tables.specs.within.Placing.{BodyRooms, BodyRoomsOf, subject_by}
+use Rattle.node_tables.specs.within.Promising.{nothing, one_at, one_for}
+use Rattle.node_tables.proofs.Stepping.{as_read, to_none, to_one, wanted_then}
 
 pub roomier_still : (t : Table) → IsRoomier t t
 roomier_still t = record { node = refl; rows = refl; receipts = refl; spans = refl; unanswered = refl; audits = refl; exposure = refl; room = omega arith; span_room = omega arith; open_room = omega arith }
@@ -40,30 +38,8 @@ roomier_then t u v a b = record {
   open_room = omega (arith, a.open_room, b.open_room);
 }
 
-pub each_roomier : (tables : List Table) → EachBecomes IsRoomier tables tables
-each_roomier tables i u at = (u, at, roomier_still u)
-
-pub each_then : (P Q R : Table → Table → Type 0) → ((t u v : Table) → P t u → Q u v → R t v) → (old mid new : List Table) → EachBecomes P old mid → EachBecomes Q mid new → EachBecomes R old new
-each_then P Q R both old mid new first second i v at =
-    let (u, in_mid, q) = second i v at in
-    let (t, in_old, p) = first i u in_mid in
-    (t, in_old, both t u v p q)
-
 pub each_so : (P Q : Table → Table → Type 0) → ((t u : Table) → P t u → Q t u) → (old new : List Table) → EachBecomes P old new → EachBecomes Q old new
 each_so P Q so old new each i u at = let (t, in_old, p) = each i u at in (t, in_old, so t u p)
-
-pub set_roomier : (tables : List Table) (i : ℕ) (t d u : Table) → slice_get tables i ≡ Some t → IsRoomier (get_or tables i d) u → EachBecomes IsRoomier tables (slice_set tables i u)
-set_roomier tables i t d u at step = becomes_set IsRoomier tables i t u at (subst (λ (x : Table). IsRoomier x u) (get_or_from_slice_get tables i t d at) step) (λ j v there other. roomier_still v)
-
--- what holds of the one table that is rewritten, and of the others as they are
-pub set_each : (R : Table → Table → Type 0) (tables : List Table) (i : ℕ) (t d u : Table) → AscendByNode tables → slice_get tables i ≡ Some t → (IsAt : Table → Table → Type 0) → IsAt (get_or tables i d) u
-    → (IsAt t u → R t u) → ((v : Table) → v.node ≢ t.node → R v v) → EachBecomes R tables (slice_set tables i u)
-set_each R tables i t d u up at IsAt step here others =
-    becomes_set R tables i t u at (here (subst (λ (z : Table). IsAt z u) (get_or_from_slice_get tables i t d at) step))
-    (λ k v there other. others v (λ same. other (distinct tables k i v t up there at same)))
-
-pub all_same : (R : Table → Table → Type 0) (tables : List Table) → ((t : Table) → Contains tables t → R t t) → EachBecomes R tables tables
-all_same R tables still i u at = (u, at, still u (contains_at tables i u at))
 
 pub on_ok : {A E : Type 0} (r : Result A E) (P Q : Type 0) → OnOk r P → (P → Q) → OnOk r Q
 on_ok (Ok a) P Q h f = f h
@@ -77,167 +53,122 @@ pub on_err : {A E : Type 0} (r : Result A E) (P Q : Type 0) → OnErr r P → (P
 on_err (Ok a) P Q h f = tt
 on_err (Err e) P Q h f = f h
 
--- ---- one statement
+-- ---- how many there are of each node
 
-if_one : (b : Bool) → (1 ≤ (if b then 1 else 0)) → b ≡ true
-if_one true h = refl
-if_one false h = absurd (omega (arith, h))
+pub one_here : (j : ℕ) → one_for j j ≡ 1
+one_here j = let e : (j == j) ≡ true = (Decides-eqb j j).1 refl in rw e refl
 
-one_here : (i j : ℕ) → i ≡ j → one_for i j ≡ 1
-one_here i j same = let e : (j == i) ≡ true = (Decides-eqb j i).1 (sym same) in rw e refl
-
-one_elsewhere : (i j : ℕ) → i ≢ j → one_for i j ≡ 0
-one_elsewhere i j other = by_case (j == i) refl
+pub one_elsewhere : (j i : ℕ) → i ≢ j → one_for j i ≡ 0
+one_elsewhere j i other = by_case (j == i) refl
   where
-    by_case : (b : Bool) → (j == i) ≡ b → one_for i j ≡ 0
+    by_case : (b : Bool) → (j == i) ≡ b → one_for j i ≡ 0
     by_case true e = absurd (other (sym ((Decides-eqb j i).0 e)))
     by_case false e = rw e refl
 
-promised_still : (j : ℕ) (t : Table) → t.node ≢ j → IsPromised j t t
-promised_still j t other =
-    let none = one_elsewhere t.node j other in
-    record { roomier = roomier_still t; more = omega (arith, none); kept = λ h. absurd (omega (arith, none, h)); bodies = refl }
-
-pub none_promised : (j : ℕ) (tables : List Table) → ((t : Table) → Contains tables t → t.node ≢ j) → EachBecomes (IsPromised j) tables tables
-none_promised j tables none = all_same (IsPromised j) tables (λ t has. promised_still j t (none t has))
-
-pub set_promised : (j : ℕ) (tables : List Table) (i : ℕ) (t d u : Table) → AscendByNode tables → slice_get tables i ≡ Some t → t.node ≡ j → IsPromisedHere (get_or tables i d) u → EachBecomes (IsPromised j) tables (slice_set tables i u)
-set_promised j tables i t d u up at own step = set_each (IsPromised j) tables i t d u up at IsPromisedHere step
-    (λ here. let one = one_here t.node j own in record { roomier = here.roomier; more = omega (arith, one, here.more); kept = λ h. here.kept; bodies = here.bodies })
-    (λ v other. promised_still j v (λ same. other (same ∙ sym own)))
-
-pub set_kept : (tables : List Table) (i : ℕ) (t d u : Table) → AscendByNode tables → slice_get tables i ≡ Some t → KeepsPromises (get_or tables i d) u → EachBecomes KeepsPromises tables (slice_set tables i u)
-set_kept tables i t d u up at step = set_each KeepsPromises tables i t d u up at KeepsPromises step (λ here. here) (λ v other. record { promised = refl; bodies = refl })
-
-taken_still : (j : ℕ) (t : Table) → t.node ≢ j → IsTakenBack j t t
-taken_still j t other = let none = one_elsewhere t.node j other in record { roomier = roomier_still t; less = omega (arith, none); bodies = refl }
-
-pub none_taken_back : (j : ℕ) (tables : List Table) → ((t : Table) → Contains tables t → t.node ≢ j) → EachBecomes (IsTakenBack j) tables tables
-none_taken_back j tables none = all_same (IsTakenBack j) tables (λ t has. taken_still j t (none t has))
-
-pub set_taken_back : (j : ℕ) (tables : List Table) (i : ℕ) (t d u : Table) → AscendByNode tables → slice_get tables i ≡ Some t → t.node ≡ j → IsTakenBackHere (get_or tables i d) u → EachBecomes (IsTakenBack j) tables (slice_set tables i u)
-set_taken_back j tables i t d u up at own step = set_each (IsTakenBack j) tables i t d u up at IsTakenBackHere step
-    (λ here. let one = one_here t.node j own in record { roomier = here.roomier; less = omega (arith, one, here.less); bodies = here.bodies })
-    (λ v other. taken_still j v (λ same. other (same ∙ sym own)))
-
--- ---- the statements of an item
-
--- one position more
-wanted_next : (g : ℕ → Option Authenticator) (k j : ℕ) → wanted g (k + 1) j ≡ wanted g k j + one_of j (g k)
-wanted_next g k j = let next : k + 1 ≡ suc k = omega arith in ap (λ n. wanted g n j) next ∙ by_statement (g k) refl
-  where
-    if_more : (b : Bool) (m : ℕ) → (if b then m + 1 else m) ≡ m + (if b then 1 else 0)
-    if_more true m = refl
-    if_more false m = omega arith
-
-    by_statement : (o : Option Authenticator) → g k ≡ o → wanted g (suc k) j ≡ wanted g k j + one_of j o
-    by_statement None e = rw e (omega arith)
-    by_statement (Some a) e = rw e (if_more (a.node == j) (wanted g k j))
-
-module _ (x : Checked) where
-  pub none_yet : (t : Table) → ArePromised x zero t t
-  none_yet t = record { roomier = roomier_still t; more = omega arith; kept = λ h. absurd (omega (arith, h)); bodies = refl }
-
-  pub none_released : (t : Table) → AreReleased x zero t t
-  none_released t = record { roomier = roomier_still t; less = omega arith; bodies = refl }
-
-  -- of a position without a statement
-  pub position_of_none : (k : ℕ) (t : Table) → stated x k ≡ None → IsPositionPromised x k t t
-  position_of_none k t none =
-      let e : one_of t.node (stated x k) ≡ 0 = ap (one_of t.node) none in
-      record { roomier = roomier_still t; more = omega (arith, e); kept = λ h. absurd (omega (arith, e, h)); bodies = refl }
-
-  pub released_none : (k : ℕ) (t : Table) → stated x k ≡ None → IsPositionReleased x k t t
-  released_none k t none = let e : one_of t.node (stated x k) ≡ 0 = ap (one_of t.node) none in record { roomier = roomier_still t; less = omega (arith, e); bodies = refl }
-
-  -- of one with a statement
-  pub position_of_some : (k : ℕ) (a : Authenticator) → stated x k ≡ Some a → (t u : Table) → IsPromised a.node t u → IsPositionPromised x k t u
-  position_of_some k a is t u h =
-      let e : one_of t.node (stated x k) ≡ one_for t.node a.node = ap (one_of t.node) is in
-      record { roomier = h.roomier; more = omega (arith, e, h.more); kept = λ le. h.kept (omega (arith, e, le)); bodies = h.bodies }
-
-  pub released_some : (k : ℕ) (a : Authenticator) → stated x k ≡ Some a → (t u : Table) → IsTakenBack a.node t u → IsPositionReleased x k t u
-  released_some k a is t u h =
-      let e : one_of t.node (stated x k) ≡ one_for t.node a.node = ap (one_of t.node) is in
-      record { roomier = h.roomier; less = omega (arith, e, h.less); bodies = h.bodies }
-
-  -- one position behind the others
-  pub promise_more : (k : ℕ) (t u v : Table) → ArePromised x k t u → IsPositionPromised x k u v → ArePromised x (k + 1) t v
-  promise_more k t u v before step =
-      let next = wanted_next (stated x) k t.node in
-      let same : one_of u.node (stated x k) ≡ one_of t.node (stated x k) = ap (λ n. one_of n (stated x k)) before.roomier.node in
-      record {
-        roomier = roomier_then t u v before.roomier step.roomier;
-        more = omega (arith, next, same, before.more, step.more);
-        kept = λ h. ⊎_elim
-            (λ (lt : 0 < one_of t.node (stated x k)). let kept = step.kept (omega (arith, same, lt)) in omega (arith, next, same, before.more, step.more, kept))
-            (λ (le : one_of t.node (stated x k) ≤ 0). let kept = before.kept (omega (arith, next, h, le)) in omega (arith, next, le, kept, step.roomier.room))
-            (cases_lt 0 (one_of t.node (stated x k)));
-        bodies = step.bodies ∙ before.bodies;
-      }
-
-  pub release_more : (k : ℕ) (t u v : Table) → AreReleased x k t u → IsPositionReleased x k u v → AreReleased x (k + 1) t v
-  release_more k t u v before step =
-      let next = wanted_next (stated x) k t.node in
-      let same : one_of u.node (stated x k) ≡ one_of t.node (stated x k) = ap (λ n. one_of n (stated x k)) before.roomier.node in
-      record {
-        roomier = roomier_then t u v before.roomier step.roomier;
-        less = omega (arith, next, same, before.less, step.less);
-        bodies = step.bodies ∙ before.bodies;
-      }
-
-  -- what was promised and then taken back is as before
-  pub promised_back : (k : ℕ) (t u v : Table) → ArePromised x k t u → AreReleased x k u v → KeepsPromises t v
-  promised_back k t u v before back =
-      let same : wanted (stated x) k u.node ≡ wanted (stated x) k t.node = ap (wanted (stated x) k) before.roomier.node in
-      record { promised = omega (arith, same, before.more, back.less); bodies = back.bodies ∙ before.bodies }
-
-  -- where nothing was promised, what was before is taken back
-  pub kept_released : (k : ℕ) (t u v : Table) → IsRoomier t u → KeepsPromises t u → AreReleased x k u v → AreReleased x k t v
-  kept_released k t u v roomier kept back =
-      let same : wanted (stated x) k u.node ≡ wanted (stated x) k t.node = ap (wanted (stated x) k) roomier.node in
-      record { roomier = roomier_then t u v roomier back.roomier; less = omega (arith, same, kept.promised, back.less); bodies = back.bodies ∙ kept.bodies }
-
--- ---- the body
-
-subject_is : (o : Option ℕ) (j : ℕ) → o ≡ Some j → bodies o j ≡ 1
+pub subject_is : (o : Option ℕ) (j : ℕ) → o ≡ Some j → bodies o j ≡ 1
 subject_is o j is = let e : is_subject j o ≡ true = ap (is_subject j) is ∙ (Decides-eqb j j).1 refl in rw e refl
 
 is_of_subject : (o : Option ℕ) (j : ℕ) → is_subject j o ≡ true → o ≡ Some j
 is_of_subject None j h = absurd cc
 is_of_subject (Some k) j h = ap (λ n. Some n) ((Decides-eqb k j).0 h)
 
-subject_not : (o : Option ℕ) (j : ℕ) → (o ≡ Some j → ⊥) → bodies o j ≡ 0
+pub subject_not : (o : Option ℕ) (j : ℕ) → (o ≡ Some j → ⊥) → bodies o j ≡ 0
 subject_not o j other = by_case (is_subject j o) refl
   where
     by_case : (b : Bool) → is_subject j o ≡ b → bodies o j ≡ 0
     by_case true e = absurd (other (is_of_subject o j e))
     by_case false e = rw e refl
 
-module _ (x : Checked) where
-  body_still : (t : Table) → (subject x.item.fields ≡ Some t.node → ⊥) → IsBodyPromised x t t
-  body_still t other =
-      let none = subject_not (subject x.item.fields) t.node other in
-      record { roomier = roomier_still t; promised = refl; more = omega (arith, none); spans = λ h. absurd (omega (arith, none, h)); unanswered = λ h. absurd (omega (arith, none, h)) }
+-- ---- to the tables of one node
 
-  pub none_body : (tables : List Table) → ((t : Table) → Contains tables t → subject x.item.fields ≡ Some t.node → ⊥) → EachBecomes (IsBodyPromised x) tables tables
-  none_body tables none = all_same (IsBodyPromised x) tables (λ t has. body_still t (none t has))
+pub promises_still : (w b : ℕ → ℕ) (t : Table) → w t.node ≡ 0 → b t.node ≡ 0 → Promises w b t t
+promises_still w b t rows own = record { roomier = roomier_still t; statements = omega (arith, rows); rows = λ h. absurd (omega (arith, rows, h)); bodies = omega (arith, own); spans = λ h. absurd (omega (arith, own, h)); unanswered = λ h. absurd (omega (arith, own, h)) }
 
-  pub set_body : (tables : List Table) (i : ℕ) (t d u : Table) → AscendByNode tables → slice_get tables i ≡ Some t → subject x.item.fields ≡ Some t.node → IsBodyPromisedHere (get_or tables i d) u → EachBecomes (IsBodyPromised x) tables (slice_set tables i u)
-  set_body tables i t d u up at own step = set_each (IsBodyPromised x) tables i t d u up at IsBodyPromisedHere step
-      (λ here. let one = subject_is (subject x.item.fields) t.node own in record { roomier = here.roomier; promised = here.promised; more = omega (arith, one, here.more); spans = λ h. here.spans; unanswered = λ h. here.unanswered })
-      (λ v other. body_still v (λ same. other (same_Some v.node t.node (sym same ∙ own))))
+pub back_still : (w b : ℕ → ℕ) (t : Table) → w t.node ≡ 0 → b t.node ≡ 0 → TakesBack w b t t
+back_still w b t rows own = record { roomier = roomier_still t; promised = omega (arith, rows); bodies = omega (arith, own) }
 
-  unreleased_still : (t : Table) → (subject x.item.fields ≡ Some t.node → ⊥) → IsBodyReleased x t t
-  unreleased_still t other = let none = subject_not (subject x.item.fields) t.node other in record { roomier = roomier_still t; promised = refl; less = omega (arith, none) }
+-- So many are promised to the table of node j, or taken back of it, and to the others nothing.
+module _ (w b : ℕ → ℕ) (m n : ℕ) (tables : List Table) (j : ℕ) (rows : w j ≡ m) (own : b j ≡ n) (other : (i : ℕ) → i ≢ j → (w i ≡ 0) × (b i ≡ 0)) where
+  pub none_promised : ((t : Table) → Contains tables t → t.node ≢ j) → EachBecomes (Promises w b) tables tables
+  none_promised = to_none (Promises w b) tables j (λ k t at away. promises_still w b t (other t.node away).0 (other t.node away).1)
 
-  pub none_unreleased : (tables : List Table) → ((t : Table) → Contains tables t → subject x.item.fields ≡ Some t.node → ⊥) → EachBecomes (IsBodyReleased x) tables tables
-  none_unreleased tables none = all_same (IsBodyReleased x) tables (λ t has. unreleased_still t (none t has))
+  pub none_back : ((t : Table) → Contains tables t → t.node ≢ j) → EachBecomes (TakesBack w b) tables tables
+  none_back = to_none (TakesBack w b) tables j (λ k t at away. back_still w b t (other t.node away).0 (other t.node away).1)
 
-  pub set_released : (tables : List Table) (i : ℕ) (t d u : Table) → AscendByNode tables → slice_get tables i ≡ Some t → subject x.item.fields ≡ Some t.node → IsBodyTakenBackHere (get_or tables i d) u → EachBecomes (IsBodyReleased x) tables (slice_set tables i u)
-  set_released tables i t d u up at own step = set_each (IsBodyReleased x) tables i t d u up at IsBodyTakenBackHere step
-      (λ here. let one = subject_is (subject x.item.fields) t.node own in record { roomier = here.roomier; promised = here.promised; less = omega (arith, one, here.less) })
-      (λ v other. unreleased_still v (λ same. other (same_Some v.node t.node (sym same ∙ own))))
+  module _ (up : AscendByNode tables) (i : ℕ) (d u : Table) (found : (t : Table) × (slice_get tables i ≡ Some t) × (t.node ≡ j)) where
+    pub one_promised : AreMany m n (get_or tables i d) u → EachBecomes (Promises w b) tables (slice_set tables i u)
+    one_promised many =
+        let here = as_read tables i j d found in
+        to_one (Promises w b) tables j (λ k t at away. promises_still w b t (other t.node away).0 (other t.node away).1) up i (get_or tables i d) u here
+        (subst (λ h. AreMany (w h) (b h) (get_or tables i d) u) (sym here.1) (subst (λ k. AreMany k (b j) (get_or tables i d) u) (sym rows) (subst (λ k. AreMany m k (get_or tables i d) u) (sym own) many)))
+
+    pub one_back : AreBack m n (get_or tables i d) u → EachBecomes (TakesBack w b) tables (slice_set tables i u)
+    one_back back =
+        let here = as_read tables i j d found in
+        to_one (TakesBack w b) tables j (λ k t at away. back_still w b t (other t.node away).0 (other t.node away).1) up i (get_or tables i d) u here
+        (subst (λ h. AreBack (w h) (b h) (get_or tables i d) u) (sym here.1) (subst (λ k. AreBack k (b j) (get_or tables i d) u) (sym rows) (subst (λ k. AreBack m k (get_or tables i d) u) (sym own) back)))
+
+-- more room in one table, or none, and as much promised
+module _ (tables : List Table) (j : ℕ) (up : AscendByNode tables) (i : ℕ) (d u : Table) (found : (t : Table) × (slice_get tables i ≡ Some t) × (t.node ≡ j)) where
+  pub one_roomier : IsRoomier (get_or tables i d) u → EachBecomes IsRoomier tables (slice_set tables i u)
+  one_roomier = to_one IsRoomier tables j (λ k t at away. roomier_still t) up i (get_or tables i d) u (as_read tables i j d found)
+
+  pub one_kept : KeepsPromises (get_or tables i d) u → EachBecomes KeepsPromises tables (slice_set tables i u)
+  one_kept = to_one KeepsPromises tables j (λ k t at away. record { promised = refl; bodies = refl }) up i (get_or tables i d) u (as_read tables i j d found)
+
+-- ---- one promise behind another
+
+then_kept : (w v t u r s : ℕ) → (1 ≤ w → t + w ≤ r) → t + w ≤ u → (1 ≤ v → u + v ≤ s) → r ≤ s → 1 ≤ w + v → t + (w + v) ≤ s
+then_kept w v t u r s one more two up h = ⊎_elim
+    (λ lt. let e = two (omega (arith, lt)) in omega (arith, e, more))
+    (λ le. let e = one (omega (arith, h, le)) in omega (arith, e, le, up))
+    (cases_lt 0 v)
+
+many_then : (w b w2 b2 : ℕ) (t u v : Table) → AreMany w b t u → AreMany w2 b2 u v → AreMany (w + w2) (b + b2) t v
+many_then w b w2 b2 t u v one two = record {
+  roomier = roomier_then t u v one.roomier two.roomier;
+  statements = omega (arith, one.statements, two.statements);
+  rows = then_kept w w2 t.promised u.promised (room u) (room v) one.rows (omega (arith, one.statements)) two.rows two.roomier.room;
+  bodies = omega (arith, one.bodies, two.bodies);
+  spans = then_kept b b2 t.bodies u.bodies (span_room u) (span_room v) one.spans (omega (arith, one.bodies)) two.spans two.roomier.span_room;
+  unanswered = then_kept b b2 t.bodies u.bodies (open_room u) (open_room v) one.unanswered (omega (arith, one.bodies)) two.unanswered two.roomier.open_room;
+}
+
+module _ (w b w2 b2 all own : ℕ → ℕ) (first : (i : ℕ) → all i ≡ w i + w2 i) (second : (i : ℕ) → own i ≡ b i + b2 i) (t u v : Table) where
+  pub promises_then : Promises w b t u → Promises w2 b2 u v → Promises all own t v
+  promises_then one two =
+      let later : AreMany (w2 t.node) (b2 t.node) u v = subst (λ j. AreMany (w2 j) (b2 j) u v) one.roomier.node two in
+      subst (λ k. AreMany k (own t.node) t v) (sym (first t.node)) (subst (λ k. AreMany (w t.node + w2 t.node) k t v) (sym (second t.node))
+      (many_then (w t.node) (b t.node) (w2 t.node) (b2 t.node) t u v one later))
+
+  pub back_then : TakesBack w b t u → TakesBack w2 b2 u v → TakesBack all own t v
+  back_then one two =
+      let node = one.roomier.node in
+      let same : w2 u.node ≡ w2 t.node = ap w2 node in
+      let also : b2 u.node ≡ b2 t.node = ap b2 node in
+      record { roomier = roomier_then t u v one.roomier two.roomier; promised = omega (arith, one.promised, two.promised, same, first t.node); bodies = omega (arith, one.bodies, two.bodies, also, second t.node) }
+
+module _ (w b : ℕ → ℕ) (t u v : Table) where
+  -- What was promised and then taken back leaves as much promised as before.
+  pub promised_back : Promises w b t u → TakesBack w b u v → KeepsPromises t v
+  promised_back one back =
+      let same : w u.node ≡ w t.node = ap w one.roomier.node in
+      let also : b u.node ≡ b t.node = ap b one.roomier.node in
+      record { promised = omega (arith, same, one.statements, back.promised); bodies = omega (arith, also, one.bodies, back.bodies) }
+
+  -- Where nothing was promised, what was before is taken back.
+  pub kept_released : IsRoomier t u × KeepsPromises t u → TakesBack w b u v → TakesBack w b t v
+  kept_released (roomier, kept) back =
+      let same : w u.node ≡ w t.node = ap w roomier.node in
+      let also : b u.node ≡ b t.node = ap b roomier.node in
+      record { roomier = roomier_then t u v roomier back.roomier; promised = omega (arith, same, kept.promised, back.promised); bodies = omega (arith, also, kept.bodies, back.bodies) }
+
+-- one position behind the others
+pub promise_more : (x : Checked) (k : ℕ) (t u v : Table) → Promises (wanted (stated x) k) nothing t u → Promises (one_at x k) nothing u v → Promises (wanted (stated x) (k + 1)) nothing t v
+promise_more x k = promises_then (wanted (stated x) k) nothing (one_at x k) nothing (wanted (stated x) (k + 1)) nothing (λ i. wanted_then (stated x) k i) (λ i. refl)
+
+pub release_more : (x : Checked) (k : ℕ) (t u v : Table) → TakesBack (wanted (stated x) k) nothing t u → TakesBack (one_at x k) nothing u v → TakesBack (wanted (stated x) (k + 1)) nothing t v
+release_more x k = back_then (wanted (stated x) k) nothing (one_at x k) nothing (wanted (stated x) (k + 1)) nothing (λ i. wanted_then (stated x) k i) (λ i. refl)
 
 -- ---- the whole item
 
@@ -245,21 +176,9 @@ module _ (x : Checked) where
 at_most : (w p r : ℕ) → (1 ≤ w → p + w ≤ r) → w ≤ r
 at_most w p r h = ⊎_elim (λ lt. let e = h (omega (arith, lt)) in omega (arith, e)) (λ le. omega (arith, le)) (cases_lt 0 w)
 
-many_of : (x : Checked) (t u v : Table) → ArePromised x (positions x.item.fields) t u → IsBodyPromised x u v → AreMany (rows_of x t.node) (bodies_of x t.node) t v
-many_of x t u v one other =
-    let same : bodies_of x u.node ≡ bodies_of x t.node = ap (bodies_of x) one.roomier.node in
-    record {
-      roomier = roomier_then t u v one.roomier other.roomier;
-      statements = omega (arith, one.more, other.promised);
-      rows = λ h. let k = one.kept h in omega (arith, k, other.roomier.room);
-      bodies = omega (arith, same, one.bodies, other.more);
-      spans = λ h. let k = other.spans (omega (arith, same, h)) in omega (arith, same, one.bodies, other.more, k);
-      unanswered = λ h. let k = other.unanswered (omega (arith, same, h)) in omega (arith, same, one.bodies, other.more, k);
-    }
-
-pub ready : (x : Checked) (t u v : Table) → ArePromised x (positions x.item.fields) t u → IsBodyPromised x u v → IsReady x t v
+pub ready : (x : Checked) (t u v : Table) → Promises (rows_of x) nothing t u → Promises nothing (bodies_of x) u v → IsReady x t v
 ready x t u v one other =
-    let many = many_of x t u v one other in
+    let many = promises_then (rows_of x) nothing nothing (bodies_of x) (rows_of x) (bodies_of x) (λ i. omega arith) (λ i. omega arith) t u v one other in
     let same : v.node ≡ t.node = many.roomier.node in
     record {
       many = many;
@@ -273,53 +192,23 @@ ready x t u v one other =
       };
     }
 
-pub released : (x : Checked) (t u v : Table) → AreReleased x (positions x.item.fields) t u → IsBodyReleased x u v → IsReleased x t v
-released x t u v one other =
-    let same : bodies_of x u.node ≡ bodies_of x t.node = ap (bodies_of x) one.roomier.node in
-    record {
-      roomier = roomier_then t u v one.roomier other.roomier;
-      promised = omega (arith, one.less, other.promised);
-      bodies = omega (arith, same, one.bodies, other.less);
-    }
-
--- What was promised of an item and then taken back leaves as much promised as before.
-pub taken_back : (x : Checked) (t u v : Table) → IsReady x t u → IsReleased x u v → KeepsPromises t v
-taken_back x t u v one back =
-    let rows : rows_of x u.node ≡ rows_of x t.node = ap (rows_of x) one.many.roomier.node in
-    let others : bodies_of x u.node ≡ bodies_of x t.node = ap (bodies_of x) one.many.roomier.node in
-    record { promised = omega (arith, rows, one.many.statements, back.promised); bodies = omega (arith, others, one.many.bodies, back.bodies) }
+pub released : (x : Checked) (t u v : Table) → TakesBack (rows_of x) nothing t u → TakesBack nothing (bodies_of x) u v → IsReleased x t v
+released x = back_then (rows_of x) nothing nothing (bodies_of x) (rows_of x) (bodies_of x) (λ i. omega arith) (λ i. omega arith)
 
 -- ---- many items
 
 pub many_none : (t : Table) → AreReady [] t t
-many_none t = record { roomier = roomier_still t; statements = omega arith; rows = λ h. absurd (omega (arith, h)); bodies = omega arith; spans = λ h. absurd (omega (arith, h)); unanswered = λ h. absurd (omega (arith, h)) }
-
-then_kept : (w v t u r s : ℕ) → (1 ≤ w → t + w ≤ r) → t + w ≤ u → (1 ≤ v → u + v ≤ s) → r ≤ s → 1 ≤ w + v → t + (w + v) ≤ s
-then_kept w v t u r s one more two up h = ⊎_elim
-    (λ lt. let e = two (omega (arith, lt)) in omega (arith, e, more))
-    (λ le. let e = one (omega (arith, h, le)) in omega (arith, e, le, up))
-    (cases_lt 0 v)
-
-pub many_then : (w b w2 b2 : ℕ) (t u v : Table) → AreMany w b t u → AreMany w2 b2 u v → AreMany (w + w2) (b + b2) t v
-many_then w b w2 b2 t u v one two = record {
-  roomier = roomier_then t u v one.roomier two.roomier;
-  statements = omega (arith, one.statements, two.statements);
-  rows = then_kept w w2 t.promised u.promised (room u) (room v) one.rows (omega (arith, one.statements)) two.rows two.roomier.room;
-  bodies = omega (arith, one.bodies, two.bodies);
-  spans = then_kept b b2 t.bodies u.bodies (span_room u) (span_room v) one.spans (omega (arith, one.bodies)) two.spans two.roomier.span_room;
-  unanswered = then_kept b b2 t.bodies u.bodies (open_room u) (open_room v) one.unanswered (omega (arith, one.bodies)) two.unanswered two.roomier.open_room;
-}
+many_none t = promises_still (sum_of rows_of []) (sum_of bodies_of []) t refl refl
 
 pub sum_push : (f : Checked → ℕ → ℕ) (xs : List Checked) (x : Checked) (j : ℕ) → sum_of f (xs ++ x ∷ []) j ≡ sum_of f xs j + f x j
 sum_push f [] x j = omega arith
 sum_push f (y ∷ xs) x j = let e = sum_push f xs x j in omega (arith, e)
 
 pub many_push : (xs : List Checked) (x : Checked) (t u v : Table) → AreReady xs t u → IsReady x u v → AreReady (xs ++ x ∷ []) t v
-many_push xs x t u v one two =
-    let second : AreMany (rows_of x t.node) (bodies_of x t.node) u v = subst (λ n. AreMany (rows_of x n) (bodies_of x n) u v) one.roomier.node two.many in
-    subst (λ n. AreMany n (sum_of bodies_of (xs ++ x ∷ []) t.node) t v) (sym (sum_push rows_of xs x t.node))
-    (subst (λ n. AreMany (sum_of rows_of xs t.node + rows_of x t.node) n t v) (sym (sum_push bodies_of xs x t.node))
-    (many_then (sum_of rows_of xs t.node) (sum_of bodies_of xs t.node) (rows_of x t.node) (bodies_of x t.node) t u v one second))
+many_push xs x t u v one two = promises_then (sum_of rows_of xs) (sum_of bodies_of xs) (rows_of x) (bodies_of x) (sum_of rows_of (xs ++ x ∷ [])) (sum_of bodies_of (xs ++ x ∷ [])) (sum_push rows_of xs x) (sum_push bodies_of xs x) t u v one two.many
+
+pub back_push : (xs : List Checked) (x : Checked) (t u v : Table) → AreAllReleased xs t u → IsReleased x u v → AreAllReleased (xs ++ x ∷ []) t v
+back_push xs x = back_then (sum_of rows_of xs) (sum_of bodies_of xs) (rows_of x) (bodies_of x) (sum_of rows_of (xs ++ x ∷ [])) (sum_of bodies_of (xs ++ x ∷ [])) (sum_push rows_of xs x) (sum_push bodies_of xs x)
 
 pub room_for_all : (xs : List Checked) (t u : Table) → AreReady xs t u → HasRoomForAll xs u
 room_for_all xs t u many =
@@ -348,17 +237,11 @@ room_for_rest x xs t u all step = record {
 
 -- ---- what is taken of the rooms
 
-rooms_still : (o : Option ℕ) (t : Table) → (o ≡ Some t.node → ⊥) → BodyRoomsOf o t t
+pub rooms_still : (o : Option ℕ) (t : Table) → (o ≡ Some t.node → ⊥) → BodyRoomsOf o t t
 rooms_still o t other = let none = subject_not o t.node other in record { span_room = omega arith; open_room = omega arith; promised = refl; taken_back = omega (arith, none) }
 
-pub no_rooms : (o : Option ℕ) (tables : List Table) → ((t : Table) → Contains tables t → o ≡ Some t.node → ⊥) → EachBecomes (BodyRoomsOf o) tables tables
-no_rooms o tables none = all_same (BodyRoomsOf o) tables (λ t has. rooms_still o t (none t has))
-
-pub rooms_at : (o : Option ℕ) (tables : List Table) (i : ℕ) (t u : Table) → slice_get tables i ≡ Some t → o ≡ Some t.node → AscendByNode tables → BodyRooms t u → (u.promised ≡ t.promised) × (u.bodies ≡ t.bodies - 1) → EachBecomes (BodyRoomsOf o) tables (slice_set tables i u)
-rooms_at o tables i t u at is up step counts =
-    let e = subject_is o t.node is in
-    becomes_set (BodyRoomsOf o) tables i t u at (record { span_room = omega (arith, e, step.span_room); open_room = omega (arith, e, step.open_room); promised = counts.0; taken_back = omega (arith, e, counts.1) })
-    (λ j v there other. rooms_still o v (λ same. other (distinct tables j i v t up there at (same_Some v.node t.node (sym same ∙ is)))))
+pub rooms_here : (o : Option ℕ) (t u : Table) → o ≡ Some t.node → BodyRooms t u → u.promised ≡ t.promised → u.bodies ≡ t.bodies - 1 → BodyRoomsOf o t u
+rooms_here o t u is step promised bodies = let e = subject_is o t.node is in record { span_room = omega (arith, e, step.span_room); open_room = omega (arith, e, step.open_room); promised = promised; taken_back = omega (arith, e, bodies) }
 
 pub each_both : (P Q : Table → Table → Type 0) (old new : List Table) → EachBecomes P old new → EachBecomes Q old new → EachBecomes (λ t u. P t u × Q t u) old new
 each_both P Q old new p q i u at =
@@ -366,21 +249,21 @@ each_both P Q old new p q i u at =
     let (s, also, two) = q i u at in
     (t, in_old, (one, subst (λ (z : Table). Q z u) (same_Some s t (sym also ∙ in_old)) two))
 
-pub item_rooms : (items : List Checked) (n k : ℕ) (x : Checked) → slice_get items n ≡ Some x → k ≡ positions x.item.fields → (t u v : Table) → StatementsStep items n k t u × TakenBack items n k t u → BodyStep items n u v × BodyRoomsOf (subject_by (slice_get items n)) u v → ItemRooms x t v
-item_rooms items n k x here is t u v (one, back) (other, rooms) =
+pub item_rooms : (items : List Checked) (n k : ℕ) (x : Checked) → slice_get items n ≡ Some x → k ≡ positions x.item.fields → (t u v : Table) → StatementsCame items n k t u → BodyCame items n u v → ItemRooms x t v
+item_rooms items n k x here is t u v one other =
     let of_x : (j : ℕ) → bodies (subject_by (slice_get items n)) j ≡ bodies_of x j = λ j. ap (λ (o : Option Checked). bodies (subject_by o) j) here in
-    let same : bodies (subject_by (slice_get items n)) u.node ≡ bodies_of x t.node = of_x u.node ∙ ap (bodies_of x) one.node in
-    let had : span_room t ≡ span_room u = ap (λ s. s.room) (sym one.spans) in
-    let had_asked : open_room t ≡ open_room u = ap asked_room (sym one.unanswered) in
+    let same : bodies (subject_by (slice_get items n)) u.node ≡ bodies_of x t.node = of_x u.node ∙ ap (bodies_of x) one.step.node in
+    let had : span_room t ≡ span_room u = ap (λ s. s.room) (sym one.step.spans) in
+    let had_asked : open_room t ≡ open_room u = ap asked_room (sym one.step.unanswered) in
     let rows : wanted (position_of items n) k t.node ≡ rows_of x t.node = ap (λ (o : Option Checked). wanted (stated_by o) k t.node) here ∙ ap (λ m. wanted (stated x) m t.node) is in
-    let kept : room u ≡ room v = subst (λ (w : Tiered Row). room u ≡ min w.room v.receipts.room) (sym other.rows) (subst (λ (w : Tiered Sending). room u ≡ min u.rows.room w.room) (sym other.receipts) refl) in
+    let kept : room u ≡ room v = subst (λ (w : Tiered Row). room u ≡ min w.room v.receipts.room) (sym other.step.rows) (subst (λ (w : Tiered Sending). room u ≡ min u.rows.room w.room) (sym other.step.receipts) refl) in
     record {
-      node = other.node ∙ one.node;
-      rows = omega (arith, one.room, rows, kept);
-      spans = omega (arith, rooms.span_room, same, had);
-      unanswered = omega (arith, rooms.open_room, same, had_asked);
-      promised = omega (arith, back.promised, rooms.promised, rows);
-      bodies = omega (arith, back.bodies, rooms.taken_back, same);
+      node = other.step.node ∙ one.step.node;
+      rows = omega (arith, one.step.room, rows, kept);
+      spans = omega (arith, other.rooms.span_room, same, had);
+      unanswered = omega (arith, other.rooms.open_room, same, had_asked);
+      promised = omega (arith, one.back.promised, other.rooms.promised, rows);
+      bodies = omega (arith, one.back.bodies, other.rooms.taken_back, same);
     }
 
 -- What is taken back of an item takes no room.

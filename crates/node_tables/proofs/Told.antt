@@ -23,15 +23,11 @@ use Rattle.node_tables.specs.Rows.{AreRowsOf, stated_at}
 use Rattle.node_tables.specs.Tables.{AreSpans, IsQuiet, IsTold, IsUpToDate, Says, ShowsAt, denies_at}
 use Rattle.node_tables.specs.within.Bringing.{BringsNothing, IsBrought, IsNext, NoneBeside, RowStep, order_at, order_by, two_by}
 use Rattle.node_tables.proofs.RowLists.{insert_names, named_at, named_by, row_names, same_length}
+use Rattle.node_tables.proofs.Bools.{both}
 use Rattle.node_tables.proofs.Searching.{IsGap, found_row, gap_found}
 use Rattle.node_tables.proofs.Beside.{AgreesBeside, agrees_with_all}
 
 -- ---- tests
-
-both : (a b : Bool) → (a && not b) ≡ true → (a ≡ true) × (b ≡ false)
-both true true h = absurd cc
-both true false h = (refl, refl)
-both false b h = absurd cc
 
 neither : (a b : Bool) → (a && not b) ≡ false → a ≡ true → b ≡ true
 neither true true h e = refl

@@ -1,6 +1,6 @@
 -- An item more in the tables of all nodes.
-use Rattle.std.proofs.Common.{◌≡◌, ◌≢◌, ℕ, ◌<◌, ◌≤◌, Bool, true, false, not, List, [], ◌∷◌, ◌++◌, length, Option, Some, None, refl, sym, ap, subst, ◌∙◌, ◌⊎◌, inl, inr, ⊎_elim, arith}
-use Rattle.std.specs.Prelude.{◌↔◌, ◌&&◌, ◌||◌, slice_get}
+use Rattle.std.proofs.Common.{◌≡◌, ◌≢◌, ℕ, ◌<◌, ◌≤◌, Bool, true, false, List, [], ◌∷◌, ◌++◌, length, Option, Some, None, refl, sym, ap, subst, ◌∙◌, ◌⊎◌, inl, inr, ⊎_elim, arith}
+use Rattle.std.specs.Prelude.{◌↔◌, ◌||◌, slice_get}
 use Rattle.std.specs.List.{Contains}
 use Rattle.std.proofs.lemmas.Option.{same_Some, slice_get_within}
 use Rattle.authenticators.specs.declared.authenticator.Authenticator.{Authenticator}
@@ -11,7 +11,7 @@ use Rattle.kept_evidence.specs.Kept.{Keeps}
 use Rattle.kept_evidence.specs.Telling.{IsSegmentOf, is_answered, told_answers}
 use Rattle.node_tables.specs.declared.table.Table.{Table}
 use Rattle.node_tables.specs.Indexed.{AreReceipts, IsSaid, IsTable}
-use Rattle.node_tables.specs.Places.{AreAsked, AscendBySpelling, HasBodyRoom, IsAgainstAt, IsOpenAt, RiseByDemand, asked_room}
+use Rattle.node_tables.specs.Places.{AreAsked, AscendBySpelling, IsAgainstAt, IsOpenAt, RiseByDemand, asked_room}
 use Rattle.kept_items.specs.Positions.{positions, stated}
 use Rattle.node_tables.specs.Receipts.{AscendBySending, IsReceived}
 use Rattle.node_tables.specs.Rooms.{HasRoomFor, IsRoomier}
@@ -19,17 +19,21 @@ use Rattle.node_tables.specs.declared.row.Row.{Row}
 use Rattle.node_tables.specs.declared.sending.Sending.{Sending}
 use Rattle.node_tables.specs.declared.span.Span.{Span}
 use Rattle.node_tables.specs.Rows.{AreRowsOf, stated_by}
-use Rattle.node_tables.specs.Steps.{AllTables, EachBecomes, position_of, room, wanted}
+use Rattle.node_tables.specs.Steps.{position_of, room, wanted}
 use Rattle.node_tables.specs.Tables.{AreSpans, IsSegmentAt, IsTold, IsUpToDate, Says, Stands}
 use Rattle.node_tables.specs.within.Bringing.{StatementsStep}
-use Rattle.node_tables.specs.within.Placing.{AreAgainst, AreOthers, BodyStep, IsNewAmong, ItemStep, answered_by, answers_at, subject_by}
+use Rattle.node_tables.specs.within.Coming.{BodyCame, IsBodyDue, IsDue, ItemCame, StatementsCame}
+use Rattle.node_tables.specs.within.Placing.{AreOthers, BodyStep, IsNewAmong, ItemStep, answered_by, answers_at, subject_by}
 use Rattle.node_tables.proofs.Grown.{any_more, at_cases, last_at, says_grown, still_at}
+use Rattle.node_tables.proofs.Bools.{both, open_so, or_rest}
 use Rattle.node_tables.proofs.Places.{contains_at}
 use Rattle.node_tables.proofs.Positioned.{within}
+use Rattle.node_tables.proofs.Received.{receipts_now, receipts_still}
+use Rattle.node_tables.proofs.Reserved.{item_rooms}
 
 -- ---- one item in one table
 
-pub item_step : (items : List Checked) (n k : ℕ) (t u v : Table) → StatementsStep items n k t u → BodyStep items n u v → ItemStep items n k t v
+item_step : (items : List Checked) (n k : ℕ) (t u v : Table) → StatementsStep items n k t u → BodyStep items n u v → ItemStep items n k t v
 item_step items n k t u v one other = record {
   node = other.node ∙ one.node;
   says = λ a. subst (λ w. Says items w.items a ↔ (Says items t.rows.items a ⊎ ((p : ℕ) × (p < k) × (position_of items n p ≡ Some a) × (a.node ≡ t.node)))) (sym other.rows) (one.says a);
@@ -39,28 +43,37 @@ item_step items n k t u v one other = record {
       (subst (λ w. Contains v.unanswered.places.items i ↔ ((Contains w.places.items i × (answers_at items i n ≡ false)) ⊎ ((i ≡ n) × IsOpenAt items u.node n))) one.unanswered (other.unanswered i));
 }
 
-pub others_still : (items : List Checked) (n k : ℕ) (old mid : List Table) → EachBecomes (StatementsStep items n k) old mid → AllTables (λ (t : Table). AreOthers items t.node n t.spans.items) old → AllTables (λ (t : Table). AreOthers items t.node n t.spans.items) mid
-others_still items n k old mid each all i u at =
-    let (t, in_old, step) = each i u at in
-    subst (λ j. AreOthers items j n u.spans.items) (sym step.node) (subst (λ w. AreOthers items t.node n w.items) (sym step.spans) (all i t in_old))
+-- Its statements leave what the table has of the others beside theirs; then what it is beside them comes.
+module _ (items : List Checked) (n k : ℕ) (x : Checked) (here : slice_get items n ≡ Some x) (t u : Table) (due : IsDue items n t) (came : StatementsCame items n k t u) where
+  pub body_due : IsBodyDue items n u
+  body_due = record {
+    others = record {
+      kept = record { told = came.told; asked = subst (AreAsked items) (sym came.step.unanswered) due.others.kept.asked };
+      spans = subst (λ j. AreOthers items j n u.spans.items) (sym came.step.node) (subst (λ w. AreOthers items t.node n w.items) (sym came.step.spans) due.others.spans);
+      against = λ m has. subst (λ j. IsAgainstAt items j m) (sym came.step.node) (due.others.against m (subst (λ w. Contains w.places.items m) came.step.unanswered has));
+      new = subst (λ w. IsNewAmong items n w.places.items) (sym came.step.unanswered) due.others.new;
+    };
+    room = λ own.
+        let enough = (due.room x here).body (sym (ap subject_by here) ∙ own ∙ ap (λ j. Some j) came.step.node) in
+        record {
+          spans = subst (λ v. 1 ≤ v.room) (sym came.step.spans) enough.spans;
+          unanswered = subst (λ v. 1 ≤ asked_room v) (sym came.step.unanswered) enough.unanswered;
+        };
+  }
 
-pub asked_still : (items : List Checked) (n k : ℕ) (old mid : List Table) → EachBecomes (StatementsStep items n k) old mid → AllTables (λ (t : Table). AreAsked items t.unanswered) old → AllTables (λ (t : Table). AreAsked items t.unanswered) mid
-asked_still items n k old mid each all i u at =
-    let (t, in_old, step) = each i u at in
-    subst (AreAsked items) (sym step.unanswered) (all i t in_old)
+  pub item_came : k ≡ positions x.item.fields → (v : Table) → BodyCame items n u v → ItemCame items n t v
+  item_came is v body =
+      let of_y : (y : Checked) → slice_get items n ≡ Some y → k ≡ positions y.item.fields = λ y at. is ∙ ap (λ (z : Checked). positions z.item.fields) (same_Some x y (sym here ∙ at)) in
+      record {
+        kept = body.kept;
+        receipts = receipts_still items n u v body.step (receipts_now items n k x t u here is due.receipts came.step);
+        step = λ y at. subst (λ m. ItemStep items n m t v) (of_y y at) (item_step items n k t u v came.step body.step);
+        rooms = λ y at. item_rooms items n k y at (of_y y at) t u v came body;
+      }
 
-pub new_still : (items : List Checked) (n k : ℕ) (old mid : List Table) → EachBecomes (StatementsStep items n k) old mid → AllTables (λ (t : Table). IsNewAmong items n t.unanswered.places.items) old → AllTables (λ (t : Table). IsNewAmong items n t.unanswered.places.items) mid
-new_still items n k old mid each all i u at =
-    let (t, in_old, step) = each i u at in
-    subst (λ w. IsNewAmong items n w.places.items) (sym step.unanswered) (all i t in_old)
-
-pub against_still : (items : List Checked) (n k : ℕ) (old mid : List Table) → EachBecomes (StatementsStep items n k) old mid → AllTables (AreAgainst items) old → AllTables (AreAgainst items) mid
-against_still items n k old mid each all i u at m has =
-    let (t, in_old, step) = each i u at in
-    subst (λ j. IsAgainstAt items j m) (sym step.node) (all i t in_old m (subst (λ w. Contains w.places.items m) step.unanswered has))
-
-pub room_of : (items : List Checked) (n k : ℕ) (x : Checked) → slice_get items n ≡ Some x → (t : Table) → wanted (stated x) k t.node ≤ room t → wanted (position_of items n) k t.node ≤ room t
-room_of items n k x at t h = subst (λ (o : Option Checked). wanted (stated_by o) k t.node ≤ room t) (sym at) h
+-- There is room for its statements.
+pub room_of : (items : List Checked) (n k : ℕ) (x : Checked) → slice_get items n ≡ Some x → k ≡ positions x.item.fields → (t : Table) → HasRoomFor x t → wanted (position_of items n) k t.node ≤ room t
+room_of items n k x at is t has = subst (λ (o : Option Checked). wanted (stated_by o) k t.node ≤ room t) (sym at) (subst (λ m. wanted (stated x) m t.node ≤ room t) (sym is) has.statements)
 
 -- ---- one item more
 
@@ -116,23 +129,9 @@ module _ (items : List Checked) (x : Checked) where
 
   -- ---- challenges
 
-  both : (a b : Bool) → (a && not b) ≡ true → (a ≡ true) × (b ≡ false)
-  both true true h = absurd cc
-  both true false h = (refl, refl)
-  both false b h = absurd cc
-
-  open_so : (a b : Bool) → a ≡ true → b ≡ false → (a && not b) ≡ true
-  open_so true false h e = refl
-  open_so true true h e = absurd cc
-  open_so false b h e = absurd cc
-
   neither : (a b : Bool) → (a || b) ≡ false → (a ≡ false) × (b ≡ false)
   neither true b h = absurd cc
   neither false b h = (refl, h)
-
-  nor : (a b : Bool) → a ≡ false → b ≡ false → (a || b) ≡ false
-  nor true b h e = absurd cc
-  nor false b h e = e
 
   answered_more : (y : Fields) → is_answered more y ≡ (is_answered items y || told_answers y x)
   answered_more y = any_more (told_answers y) items x
@@ -166,7 +165,7 @@ module _ (items : List Checked) (x : Checked) where
           c,
           still_at items x i c at,
           open_so (is_against j c.item.fields) (is_answered more c.item.fields) t.0
-              (answered_more c.item.fields ∙ nor (is_answered items c.item.fields) (told_answers c.item.fields x) t.1 (sym (answers_last i c at) ∙ old.1)),
+              (answered_more c.item.fields ∙ or_rest (is_answered items c.item.fields) (told_answers c.item.fields x) false t.1 (sym (answers_last i c at) ∙ old.1)),
         ))
         (λ (new : (i ≡ n) × IsOpenAt more j n). subst (IsOpenAt more j) (sym new.0) new.1)
         h,
@@ -229,13 +228,3 @@ table_roomier items t u same before = record {
     audits = λ i d has is. subst (λ l. Contains l i) (sym same.audits) (before.asked.audits i d (subst (λ l. Contains l i) same.unanswered has) is);
   };
 }
-
-pub body_room_of : (items : List Checked) (n k : ℕ) (x : Checked) → slice_get items n ≡ Some x → (old mid : List Table) → EachBecomes (StatementsStep items n k) old mid → AllTables (HasRoomFor x) old
-    → AllTables (λ (t : Table). subject_by (slice_get items n) ≡ Some t.node → HasBodyRoom t) mid
-body_room_of items n k x here old mid each all i u at own =
-    let (t, in_old, step) = each i u at in
-    let enough = (all i t in_old).body (sym (ap subject_by here) ∙ own ∙ ap (λ j. Some j) step.node) in
-    record {
-      spans = subst (λ v. 1 ≤ v.room) (sym step.spans) enough.spans;
-      unanswered = subst (λ v. 1 ≤ asked_room v) (sym step.unanswered) enough.unanswered;
-    }

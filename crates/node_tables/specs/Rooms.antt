@@ -34,6 +34,19 @@ pub record AreMany (w b : ℕ) (t u : Table) : Type 0 where
   pub spans : 1 ≤ b → t.bodies + b ≤ span_room u
   pub unanswered : 1 ≤ b → t.bodies + b ≤ open_room u
 
+-- The promises of so many are taken back. The table has what it had, and no less room.
+pub record AreBack (w b : ℕ) (t u : Table) : Type 0 where
+  pub roomier : IsRoomier t u
+  pub promised : u.promised ≡ t.promised - w
+  pub bodies : u.bodies ≡ t.bodies - b
+
+-- The same, where it is told of each node how many there are.
+abbrev pub Promises : (ℕ → ℕ) → (ℕ → ℕ) → Table → Table → Type 0
+Promises w b t u = AreMany (w t.node) (b t.node) t u
+
+abbrev pub TakesBack : (ℕ → ℕ) → (ℕ → ℕ) → Table → Table → Type 0
+TakesBack w b t u = AreBack (w t.node) (b t.node) t u
+
 -- What an item needs, and what the items of a list need, in the table of node j.
 abbrev pub rows_of : Checked → ℕ → ℕ
 rows_of x j = wanted (stated x) (positions x.item.fields) j
@@ -47,7 +60,7 @@ sum_of f (x ∷ xs) j = f x j + sum_of f xs j
 
 -- The items of the list were promised.
 abbrev pub AreReady : List Checked → Table → Table → Type 0
-AreReady xs t u = AreMany (sum_of rows_of xs t.node) (sum_of bodies_of xs t.node) t u
+AreReady xs t u = Promises (sum_of rows_of xs) (sum_of bodies_of xs) t u
 
 -- The table has room for all items of the list.
 pub record HasRoomForAll (xs : List Checked) (u : Table) : Type 0 where
@@ -76,17 +89,12 @@ pub record HasRoomFor (x : Checked) (u : Table) : Type 0 where
 
 -- There is room for the whole item.
 pub record IsReady (x : Checked) (t u : Table) : Type 0 where
-  pub many : AreMany (rows_of x t.node) (bodies_of x t.node) t u
+  pub many : Promises (rows_of x) (bodies_of x) t u
   pub enough : HasRoomFor x u
 
--- What was promised of the whole item is taken back; the table has what it had, and no less room.
-pub record IsReleased (x : Checked) (t u : Table) : Type 0 where
-  pub roomier : IsRoomier t u
-  pub promised : u.promised ≡ t.promised - rows_of x t.node
-  pub bodies : u.bodies ≡ t.bodies - bodies_of x t.node
+-- What was promised of the whole item is taken back; of all items of a list.
+abbrev pub IsReleased : Checked → Table → Table → Type 0
+IsReleased x t u = TakesBack (rows_of x) (bodies_of x) t u
 
--- The same of all items of a list.
-pub record AreAllReleased (xs : List Checked) (t u : Table) : Type 0 where
-  pub roomier : IsRoomier t u
-  pub promised : u.promised ≡ t.promised - sum_of rows_of xs t.node
-  pub bodies : u.bodies ≡ t.bodies - sum_of bodies_of xs t.node
+abbrev pub AreAllReleased : List Checked → Table → Table → Type 0
+AreAllReleased xs t u = TakesBack (sum_of rows_of xs) (sum_of bodies_of xs) t u

@@ -5,12 +5,11 @@
 //! segment's numbers do not rise. So all open audit challenges are looked at of a node alone that is exposed, or soon will be, or whose log
 //! ends at the greatest number, which is not told apart from the one before it.
 
-ghost use Rattle.std.specs.Prelude.{◌≡◌, ◌-◌, ◌≤◌, ℕ, Some, drop, length, not, slice_get, take, true, vec_capacity, vec_len};
+ghost use Rattle.std.specs.Prelude.{◌≡◌, ◌-◌, ◌≤◌, ℕ, Some, drop, not, slice_get, take, true, vec_capacity, vec_len};
 ghost use Rattle.std.specs.List.{Contains, filter, remove_range};
-ghost use Rattle.kept_items.specs.declared.reach.Demand.{Demand as TheDemand};
 ghost use Rattle.kept_items.specs.Keeping.{opening_at};
-ghost use Rattle.node_tables.specs.Places.{AreAsked, AscendBySpelling, asked_room, demand_by};
-ghost use Rattle.node_tables.specs.within.Asking.{is_like, is_like_one};
+ghost use Rattle.node_tables.specs.Places.{AreAsked, AscendBySpelling, asked_room};
+ghost use Rattle.node_tables.specs.within.Asking.{TakesAudits, is_like, is_like_one};
 ghost use Rattle.node_tables.specs.within.Sendings.{audited_by, told_audit};
 
 use crate::asking::opened_at;
@@ -115,11 +114,7 @@ fn take_opened<P>(
     last: u64,
 ) -> bool
     requires { AreAsked items.now unanswered.old }
-    ensures asked { AreAsked items.now unanswered.new }
-    ensures rest { filter (λ i. not (audited_by (slice_get items.now i) (slice_get items.now answer))) unanswered.new.places.items ≡ filter (λ i. not (audited_by (slice_get items.now i) (slice_get items.now answer))) unanswered.old.places.items }
-    ensures fewer { (i : ℕ) → Contains unanswered.new.audits.items i → Contains unanswered.old.audits.items i }
-    ensures done { result ≡ true → (i : ℕ) (d : TheDemand) → Contains unanswered.new.audits.items i → demand_by (slice_get items.now i) ≡ Some d → d.opening ≡ opening → d.last ≤ last → ⊥ }
-    ensures room { asked_room unanswered.old ≤ asked_room unanswered.new }
+    ensures { TakesAudits items.now answer (λ d. (d.opening ≡ opening) × (d.last ≤ last)) result unanswered.old unanswered.new }
 {
     let near = opened_at(items, &unanswered.audits, opening, last);
     if !answers_all(items, &unanswered.audits[near.start..near.end], answer) {
@@ -160,11 +155,7 @@ fn take_at<P>(
     last: u64,
 ) -> bool
     requires { AreAsked items.now unanswered.old }
-    ensures asked { AreAsked items.now unanswered.new }
-    ensures rest { filter (λ i. not (audited_by (slice_get items.now i) (slice_get items.now answer))) unanswered.new.places.items ≡ filter (λ i. not (audited_by (slice_get items.now i) (slice_get items.now answer))) unanswered.old.places.items }
-    ensures fewer { (i : ℕ) → Contains unanswered.new.audits.items i → Contains unanswered.old.audits.items i }
-    ensures done { result ≡ true → (i : ℕ) (d : TheDemand) → Contains unanswered.new.audits.items i → demand_by (slice_get items.now i) ≡ Some d → opening_at kept.now.item.fields position ≡ Some d.opening → d.last ≤ last → ⊥ }
-    ensures room { asked_room unanswered.old ≤ asked_room unanswered.new }
+    ensures { TakesAudits items.now answer (λ d. (opening_at kept.now.item.fields position ≡ Some d.opening) × (d.last ≤ last)) result unanswered.old unanswered.new }
 {
     match kept.opening(position) {
         None => true,

@@ -1,19 +1,17 @@
 //! Putting what an item is, beside its statements, into the table of its node.
 
-ghost use Rattle.std.specs.Prelude.{◌≡◌, ◌↔◌, ◌⊎◌, ◌+◌, ◌-◌, ◌<◌, ◌≤◌, ℕ, Contains, Some, false, length, slice_get, true, vec_capacity, vec_len};
+ghost use Rattle.std.specs.Prelude.{◌≡◌, ◌↔◌, ◌⊎◌, ◌+◌, ◌<◌, ◌≤◌, ℕ, Contains, Some, false, length, slice_get, true, vec_capacity, vec_len};
 ghost use Rattle.std.specs.List.Sorted.{IsBinarySearchResult, IsSearchInRange};
 ghost use Rattle.evidence_set.specs.Challenges.{is_against};
 ghost use Rattle.evidence_item.specs.Checking.{is_segment};
 ghost use Rattle.item_forms.specs.Forms.{shown};
-ghost use Rattle.kept_evidence.specs.Telling.{is_answered};
-ghost use Rattle.kept_items.specs.Keeping.{demand, subject};
+ghost use Rattle.kept_items.specs.Keeping.{demand};
 ghost use Rattle.kept_items.specs.declared.reach.Demand.{Demand as TheDemand};
-ghost use Rattle.node_tables.specs.Indexed.{AreReceipts};
-ghost use Rattle.node_tables.specs.Places.{AreAsked, AscendBySpelling, HasBodyRoom, IsOrder, RiseByDemand, item_order_by, open_room};
-ghost use Rattle.node_tables.specs.Rooms.{KeepsPromises};
-ghost use Rattle.node_tables.specs.Steps.{AllTables, AscendByNode, EachBecomes};
-ghost use Rattle.node_tables.specs.Tables.{IsSegmentAt, IsTold};
-ghost use Rattle.node_tables.specs.within.Placing.{AreAgainst, AreOthers, BodyRooms, BodyRoomsOf, BodyStep, IsAckAt, IsNewAmong, subject_by};
+ghost use Rattle.node_tables.specs.Places.{AscendBySpelling, RiseByDemand, item_order_by};
+ghost use Rattle.node_tables.specs.Steps.{AllTables, EachBecomes};
+ghost use Rattle.node_tables.specs.Tables.{IsSegmentAt};
+ghost use Rattle.node_tables.specs.within.Coming.{BodyCame, BodyPut, IsBodyDue, IsKept, IsToPut};
+ghost use Rattle.node_tables.specs.within.Placing.{AreStanding, IsAckAt, IsNewAmong};
 
 use crate::answering::{close_acknowledged, is_answered_at};
 use crate::asking::put_by_demand;
@@ -28,15 +26,10 @@ use tiered_vec::TieredVec;
 
 /// Puts a segment: it may expose the node, and answers challenges.
 fn put_whole_segment<P>(items: &[KeptItem<P>], table: &mut Table, place: u32)
-    requires told { IsTold items.now table.old }
+    requires kept { IsKept items.now table.old }
     requires segment { IsSegmentAt items.now table.old.node place }
     requires room { 1 ≤ table.old.spans.room }
-    requires asked { AreAsked items.now table.old.unanswered }
-    ensures told { IsTold items.now table.new }
-    ensures asked { AreAsked items.now table.new.unanswered }
-    ensures step { BodyStep items.now place table.old table.new }
-    ensures rooms { BodyRooms table.old table.new }
-    ensures counts { KeepsPromises table.old table.new }
+    ensures { BodyPut items.now place table.old table.new }
 {
     put_segment(items, table, place);
     close_by_segment(items, &mut table.unanswered, table.node, place);
@@ -44,14 +37,9 @@ fn put_whole_segment<P>(items: &[KeptItem<P>], table: &mut Table, place: u32)
 
 /// Puts an acknowledgement: it answers challenges.
 fn put_acknowledgement<P>(items: &[KeptItem<P>], table: &mut Table, place: u32)
-    requires told { IsTold items.now table.old }
+    requires kept { IsKept items.now table.old }
     requires here { IsAckAt items.now place }
-    requires asked { AreAsked items.now table.old.unanswered }
-    ensures told { IsTold items.now table.new }
-    ensures asked { AreAsked items.now table.new.unanswered }
-    ensures step { BodyStep items.now place table.old table.new }
-    ensures rooms { BodyRooms table.old table.new }
-    ensures counts { KeepsPromises table.old table.new }
+    ensures { BodyPut items.now place table.old table.new }
 {
     close_acknowledged(items, &mut table.unanswered.places, place);
 }
@@ -108,18 +96,9 @@ fn put_challenge<P>(
     kept: &KeptItem<P>,
     answered: bool,
 )
-    requires told { IsTold items.now table.old }
-    requires here { slice_get items.now place ≡ Some kept.now }
+    requires to_put { IsToPut items.now place kept.now answered table.old }
     requires against { is_against table.old.node kept.now.item.fields ≡ true }
-    requires answered { answered ≡ is_answered items.now kept.now.item.fields }
-    requires room { 1 ≤ open_room table.old }
-    requires asked { AreAsked items.now table.old.unanswered }
-    requires new { IsNewAmong items.now place table.old.unanswered.places.items }
-    ensures told { IsTold items.now table.new }
-    ensures asked { AreAsked items.now table.new.unanswered }
-    ensures step { BodyStep items.now place table.old table.new }
-    ensures rooms { BodyRooms table.old table.new }
-    ensures counts { KeepsPromises table.old table.new }
+    ensures { BodyPut items.now place table.old table.new }
 {
     if answered {
         return;
@@ -137,20 +116,10 @@ fn put_other<P>(
     form: Form<'_>,
     answered: bool,
 )
-    requires told { IsTold items.now table.old }
-    requires here { slice_get items.now place ≡ Some kept.now }
+    requires to_put { IsToPut items.now place kept.now answered table.old }
     requires form { shown form ≡ kept.now.item.fields }
     requires other { is_segment kept.now.item.fields ≡ false }
-    requires subject { subject kept.now.item.fields ≡ Some table.old.node }
-    requires answered { is_against table.old.node kept.now.item.fields ≡ true → answered ≡ is_answered items.now kept.now.item.fields }
-    requires room { 1 ≤ open_room table.old }
-    requires asked { AreAsked items.now table.old.unanswered }
-    requires new { IsNewAmong items.now place table.old.unanswered.places.items }
-    ensures told { IsTold items.now table.new }
-    ensures asked { AreAsked items.now table.new.unanswered }
-    ensures step { BodyStep items.now place table.old table.new }
-    ensures rooms { BodyRooms table.old table.new }
-    ensures counts { KeepsPromises table.old table.new }
+    ensures { BodyPut items.now place table.old table.new }
 {
     match form {
         Form::Auth(_) | Form::Segment(_) => {}
@@ -167,19 +136,8 @@ fn put_form<P>(
     kept: &KeptItem<P>,
     answered: bool,
 )
-    requires told { IsTold items.now table.old }
-    requires here { slice_get items.now place ≡ Some kept.now }
-    requires subject { subject kept.now.item.fields ≡ Some table.old.node }
-    requires answered { is_against table.old.node kept.now.item.fields ≡ true → answered ≡ is_answered items.now kept.now.item.fields }
-    requires spans { 1 ≤ table.old.spans.room }
-    requires unanswered { 1 ≤ open_room table.old }
-    requires asked { AreAsked items.now table.old.unanswered }
-    requires new { IsNewAmong items.now place table.old.unanswered.places.items }
-    ensures told { IsTold items.now table.new }
-    ensures asked { AreAsked items.now table.new.unanswered }
-    ensures step { BodyStep items.now place table.old table.new }
-    ensures rooms { BodyRooms table.old table.new }
-    ensures counts { KeepsPromises table.old table.new }
+    requires { IsToPut items.now place kept.now answered table.old }
+    ensures { BodyPut items.now place table.old table.new }
 {
     match kept.form() {
         None => put_whole_segment(items, table, place),
@@ -195,19 +153,8 @@ fn put_in<P>(
     kept: &KeptItem<P>,
     answered: bool,
 )
-    requires told { IsTold items.now table.old }
-    requires here { slice_get items.now place ≡ Some kept.now }
-    requires subject { subject kept.now.item.fields ≡ Some table.old.node }
-    requires answered { is_against table.old.node kept.now.item.fields ≡ true → answered ≡ is_answered items.now kept.now.item.fields }
-    requires spans { 1 ≤ table.old.spans.room }
-    requires unanswered { 1 ≤ open_room table.old }
-    requires asked { AreAsked items.now table.old.unanswered }
-    requires new { IsNewAmong items.now place table.old.unanswered.places.items }
-    ensures told { IsTold items.now table.new }
-    ensures asked { AreAsked items.now table.new.unanswered }
-    ensures step { BodyStep items.now place table.old table.new }
-    ensures rooms { BodyRooms table.old table.new }
-    ensures counts { (table.new.promised ≡ table.old.promised) × (table.new.bodies ≡ table.old.bodies - 1) }
+    requires { IsToPut items.now place kept.now answered table.old }
+    ensures { BodyCame items.now place table.old table.new }
 {
     put_form(items, table, place, kept, answered);
     table.bodies = table.bodies.saturating_sub(1);
@@ -220,20 +167,10 @@ pub(crate) fn put_body<P>(
     tables: &mut [Table],
     place: u32,
 )
-    requires order { IsOrder items.now order.now.items }
-    requires ascending { AscendByNode tables.old }
-    requires told { AllTables (IsTold items.now) tables.old }
-    requires receipts { AllTables (λ t. AreReceipts items.now t) tables.old }
+    requires standing { AreStanding items.now order.now.items tables.old }
     requires there { place < length items.now }
-    requires others { AllTables (λ t. AreOthers items.now t.node place t.spans.items) tables.old }
-    requires against { AllTables (λ t. AreAgainst items.now t) tables.old }
-    requires asked { AllTables (λ t. AreAsked items.now t.unanswered) tables.old }
-    requires new { AllTables (λ t. IsNewAmong items.now place t.unanswered.places.items) tables.old }
-    requires room { AllTables (λ t. subject_by (slice_get items.now place) ≡ Some t.node → HasBodyRoom t) tables.old }
-    ensures told { AllTables (IsTold items.now) tables.new }
-    ensures asked { AllTables (λ t. AreAsked items.now t.unanswered) tables.new }
-    ensures step { EachBecomes (BodyStep items.now place) tables.old tables.new }
-    ensures rooms { EachBecomes (BodyRoomsOf (subject_by (slice_get items.now place))) tables.old tables.new }
+    requires due { AllTables (IsBodyDue items.now place) tables.old }
+    ensures { EachBecomes (BodyCame items.now place) tables.old tables.new }
 {
     let kept = &items[place as usize];
     let Some(node) = kept.subject() else {

@@ -1,14 +1,12 @@
 //! Putting an item into the tables.
 
-ghost use Rattle.std.specs.Prelude.{◌≡◌, ◌<◌, ◌≤◌, ◌^◌, ◌++◌, ◌∷◌, [], List, Some, length, slice_get};
+ghost use Rattle.std.specs.Prelude.{◌≡◌, ◌<◌, ◌≤◌, ◌^◌, ◌++◌, ◌∷◌, [], List, length};
 ghost use Rattle.evidence_item.specs.Checking.{Checked as TheChecked};
-ghost use Rattle.kept_items.specs.Positions.{positions};
-ghost use Rattle.node_tables.specs.Indexed.{AreOfOthers, AreReceipts, IsTable};
-ghost use Rattle.node_tables.specs.Places.{AreAsked, IsOrder};
-ghost use Rattle.node_tables.specs.Rooms.{HasRoomFor, ItemRooms};
+ghost use Rattle.node_tables.specs.Indexed.{AreOfOthers, IsTable};
+ghost use Rattle.node_tables.specs.Places.{IsOrder};
+ghost use Rattle.node_tables.specs.Rooms.{ItemRooms};
 ghost use Rattle.node_tables.specs.Steps.{AllTables, AscendByNode, EachBecomes};
-ghost use Rattle.node_tables.specs.Tables.{IsTold};
-ghost use Rattle.node_tables.specs.within.Placing.{AreAgainst, AreOtherReceipts, AreOthers, IsNewAmong, ItemStep};
+ghost use Rattle.node_tables.specs.within.Coming.{IsDue, ItemCame};
 
 use crate::bodies::put_body;
 use crate::table::Table;
@@ -20,19 +18,9 @@ use tiered_vec::TieredVec;
 fn put_item<P>(items: &[KeptItem<P>], order: &TieredVec<u32>, tables: &mut [Table], place: u32)
     requires order { IsOrder items.now order.now.items }
     requires ascending { AscendByNode tables.old }
-    requires told { AllTables (IsTold items.now) tables.old }
     requires there { place < length items.now }
-    requires receipts { AllTables (λ t. AreOtherReceipts items.now place t) tables.old }
-    requires others { AllTables (λ t. AreOthers items.now t.node place t.spans.items) tables.old }
-    requires against { AllTables (λ t. AreAgainst items.now t) tables.old }
-    requires asked { AllTables (λ t. AreAsked items.now t.unanswered) tables.old }
-    requires new { AllTables (λ t. IsNewAmong items.now place t.unanswered.places.items) tables.old }
-    requires room { (x : TheChecked) → slice_get items.now place ≡ Some x → AllTables (HasRoomFor x) tables.old }
-    ensures told { AllTables (IsTold items.now) tables.new }
-    ensures receipts { AllTables (λ t. AreReceipts items.now t) tables.new }
-    ensures asked { AllTables (λ t. AreAsked items.now t.unanswered) tables.new }
-    ensures step { (x : TheChecked) → slice_get items.now place ≡ Some x → EachBecomes (ItemStep items.now place (positions x.item.fields)) tables.old tables.new }
-    ensures rooms { (x : TheChecked) → slice_get items.now place ≡ Some x → EachBecomes (ItemRooms x) tables.old tables.new }
+    requires due { AllTables (IsDue items.now place) tables.old }
+    ensures { EachBecomes (ItemCame items.now place) tables.old tables.new }
 {
     let count = items[place as usize].positions();
     put_statements(items, tables, place, count);

@@ -7,6 +7,7 @@ ghost use Rattle.authenticators.specs.declared.authenticator.Authenticator.{Auth
 ghost use Rattle.node_tables.specs.declared.sending.Sending.{Sending as TheSending};
 ghost use Rattle.node_tables.specs.Indexed.{AreReceipts};
 ghost use Rattle.node_tables.specs.Receipts.{AscendBySending, by_sending, receipt_at, receipt_in};
+ghost use Rattle.node_tables.specs.Rooms.{KeepsPromises};
 ghost use Rattle.node_tables.specs.Rows.{stated_at};
 ghost use Rattle.node_tables.specs.Steps.{AllTables, AscendByNode};
 ghost use Rattle.node_tables.specs.Tables.{IsTold};
@@ -108,7 +109,7 @@ pub(crate) fn put_receipt<P>(items: &[KeptItem<P>], table: &mut Table, row: Row)
     requires room { 1 ≤ table.old.receipts.room }
     ensures told { IsTold items.now table.new }
     ensures step { ReceiptStep items.now row table.old table.new }
-    ensures counts { (table.new.promised ≡ table.old.promised) × (table.new.bodies ≡ table.old.bodies) }
+    ensures counts { KeepsPromises table.old table.new }
 {
     if let Some(sending) = receipt_at(items, row) {
         put(&mut table.receipts, sending);

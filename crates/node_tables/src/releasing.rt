@@ -1,8 +1,9 @@
 //! Promises that are taken back.
 
-ghost use Rattle.node_tables.specs.Rooms.{IsReleased};
-ghost use Rattle.node_tables.specs.Steps.{AscendByNode, EachBecomes};
-ghost use Rattle.node_tables.specs.within.Promising.{AreReleased, IsBodyReleased, IsBodyTakenBackHere, IsPositionReleased, IsTakenBack, IsTakenBackHere};
+ghost use Rattle.kept_items.specs.Positions.{stated};
+ghost use Rattle.node_tables.specs.Rooms.{AreBack, IsReleased, TakesBack, bodies_of};
+ghost use Rattle.node_tables.specs.Steps.{AscendByNode, EachBecomes, wanted};
+ghost use Rattle.node_tables.specs.within.Promising.{nothing, one_at, one_for};
 
 use crate::table::Table;
 use crate::tables::place_of;
@@ -11,7 +12,7 @@ use kept_items::KeptItem;
 
 /// Takes back what was promised of one statement.
 fn release_here(table: &mut Table)
-    ensures { IsTakenBackHere table.old table.new }
+    ensures { AreBack 1 0 table.old table.new }
 {
     table.promised = table.promised.saturating_sub(1);
 }
@@ -19,7 +20,7 @@ fn release_here(table: &mut Table)
 /// Takes back what was promised of one statement of the node.
 fn release(tables: &mut [Table], node: NodeId)
     requires { AscendByNode tables.old }
-    ensures { EachBecomes (IsTakenBack node) tables.old tables.new }
+    ensures { EachBecomes (TakesBack (one_for node) nothing) tables.old tables.new }
 {
     if let Some(i) = place_of(tables, node) {
         release_here(&mut tables[i]);
@@ -29,7 +30,7 @@ fn release(tables: &mut [Table], node: NodeId)
 /// Takes back what was promised of the statement at a position of the item, if one stands there.
 fn release_at<P>(tables: &mut [Table], kept: &KeptItem<P>, position: u32)
     requires { AscendByNode tables.old }
-    ensures { EachBecomes (IsPositionReleased kept.now position) tables.old tables.new }
+    ensures { EachBecomes (TakesBack (one_at kept.now position) nothing) tables.old tables.new }
 {
     if let Some(said) = kept.statement(position) {
         release(tables, said.node);
@@ -39,7 +40,7 @@ fn release_at<P>(tables: &mut [Table], kept: &KeptItem<P>, position: u32)
 /// Takes back what was promised of the statements at the first positions of the item.
 pub(crate) fn release_first<P>(tables: &mut [Table], kept: &KeptItem<P>, count: u32)
     requires { AscendByNode tables.old }
-    ensures { EachBecomes (AreReleased kept.now count) tables.old tables.new }
+    ensures { EachBecomes (TakesBack (wanted (stated kept.now) count) nothing) tables.old tables.new }
 {
     for position in 0..count {
         release_at(tables, kept, position);
@@ -48,7 +49,7 @@ pub(crate) fn release_first<P>(tables: &mut [Table], kept: &KeptItem<P>, count: 
 
 /// Takes back what was promised of one segment or challenge.
 fn release_body_here(table: &mut Table)
-    ensures { IsBodyTakenBackHere table.old table.new }
+    ensures { AreBack 0 1 table.old table.new }
 {
     table.bodies = table.bodies.saturating_sub(1);
 }
@@ -56,7 +57,7 @@ fn release_body_here(table: &mut Table)
 /// Takes back what was promised of the item beside its statements.
 fn release_body<P>(tables: &mut [Table], kept: &KeptItem<P>)
     requires { AscendByNode tables.old }
-    ensures { EachBecomes (IsBodyReleased kept.now) tables.old tables.new }
+    ensures { EachBecomes (TakesBack nothing (bodies_of kept.now)) tables.old tables.new }
 {
     let Some(node) = kept.subject() else {
         return;

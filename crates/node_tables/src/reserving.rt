@@ -1,10 +1,10 @@
 //! Room that is made before anything changes.
 
 ghost use Rattle.std.specs.Prelude.{OnErr, OnOk};
-ghost use Rattle.kept_items.specs.Positions.{positions};
-ghost use Rattle.node_tables.specs.Rooms.{IsReady, IsRoomier, KeepsPromises};
-ghost use Rattle.node_tables.specs.Steps.{AscendByNode, EachBecomes};
-ghost use Rattle.node_tables.specs.within.Promising.{ArePromised, AreReleased, IsBodyPromised, IsBodyPromisedHere, IsPositionPromised, IsPromised, IsPromisedHere};
+ghost use Rattle.kept_items.specs.Positions.{stated};
+ghost use Rattle.node_tables.specs.Rooms.{AreMany, IsReady, IsRoomier, KeepsPromises, Promises, TakesBack, bodies_of, rows_of};
+ghost use Rattle.node_tables.specs.Steps.{AscendByNode, EachBecomes, wanted};
+ghost use Rattle.node_tables.specs.within.Promising.{nothing, one_at, one_for};
 
 use crate::releasing::release_first;
 use crate::table::Table;
@@ -16,7 +16,7 @@ use outcome::Memory;
 /// Promises the table one statement more, and makes room for all that were promised.
 fn promise_here(table: &mut Table) -> Result<(), Memory>
     ensures same { IsRoomier table.old table.new }
-    ensures ok { OnOk result (IsPromisedHere table.old table.new) }
+    ensures ok { OnOk result (AreMany 1 0 table.old table.new) }
     ensures refused { OnErr result (KeepsPromises table.old table.new) }
 {
     let Some(count) = table.promised.checked_add(1) else {
@@ -32,7 +32,7 @@ fn promise_here(table: &mut Table) -> Result<(), Memory>
 fn promise(tables: &mut [Table], node: NodeId) -> Result<(), Memory>
     requires { AscendByNode tables.old }
     ensures same { EachBecomes IsRoomier tables.old tables.new }
-    ensures ok { OnOk result (EachBecomes (IsPromised node) tables.old tables.new) }
+    ensures ok { OnOk result (EachBecomes (Promises (one_for node) nothing) tables.old tables.new) }
     ensures refused { OnErr result (EachBecomes KeepsPromises tables.old tables.new) }
 {
     let Some(i) = place_of(tables, node) else {
@@ -45,7 +45,7 @@ fn promise(tables: &mut [Table], node: NodeId) -> Result<(), Memory>
 fn promise_at<P>(tables: &mut [Table], kept: &KeptItem<P>, position: u32) -> Result<(), Memory>
     requires { AscendByNode tables.old }
     ensures same { EachBecomes IsRoomier tables.old tables.new }
-    ensures ok { OnOk result (EachBecomes (IsPositionPromised kept.now position) tables.old tables.new) }
+    ensures ok { OnOk result (EachBecomes (Promises (one_at kept.now position) nothing) tables.old tables.new) }
     ensures refused { OnErr result (EachBecomes KeepsPromises tables.old tables.new) }
 {
     match kept.statement(position) {
@@ -62,8 +62,8 @@ fn promise_or_release<P>(
 ) -> Result<(), Memory>
     requires { AscendByNode tables.old }
     ensures same { EachBecomes IsRoomier tables.old tables.new }
-    ensures ok { OnOk result (EachBecomes (IsPositionPromised kept.now position) tables.old tables.new) }
-    ensures refused { OnErr result (EachBecomes (AreReleased kept.now position) tables.old tables.new) }
+    ensures ok { OnOk result (EachBecomes (Promises (one_at kept.now position) nothing) tables.old tables.new) }
+    ensures refused { OnErr result (EachBecomes (TakesBack (wanted (stated kept.now) position) nothing) tables.old tables.new) }
 {
     let Err(memory) = promise_at(tables, kept, position) else {
         return Ok(());
@@ -76,7 +76,7 @@ fn promise_or_release<P>(
 fn promise_statements<P>(tables: &mut [Table], kept: &KeptItem<P>) -> Result<(), Memory>
     requires { AscendByNode tables.old }
     ensures same { EachBecomes IsRoomier tables.old tables.new }
-    ensures ok { OnOk result (EachBecomes (ArePromised kept.now (positions kept.now.item.fields)) tables.old tables.new) }
+    ensures ok { OnOk result (EachBecomes (Promises (rows_of kept.now) nothing) tables.old tables.new) }
     ensures refused { OnErr result (EachBecomes KeepsPromises tables.old tables.new) }
 {
     for position in 0..kept.positions() {
@@ -88,7 +88,7 @@ fn promise_statements<P>(tables: &mut [Table], kept: &KeptItem<P>) -> Result<(),
 /// Promises the table one segment and one challenge more, and makes room for all that were promised.
 fn promise_body_here(table: &mut Table) -> Result<(), Memory>
     ensures same { IsRoomier table.old table.new }
-    ensures ok { OnOk result (IsBodyPromisedHere table.old table.new) }
+    ensures ok { OnOk result (AreMany 0 1 table.old table.new) }
     ensures refused { OnErr result (KeepsPromises table.old table.new) }
 {
     let Some(count) = table.bodies.checked_add(1) else {
@@ -104,7 +104,7 @@ fn promise_body_here(table: &mut Table) -> Result<(), Memory>
 fn promise_body<P>(tables: &mut [Table], kept: &KeptItem<P>) -> Result<(), Memory>
     requires { AscendByNode tables.old }
     ensures same { EachBecomes IsRoomier tables.old tables.new }
-    ensures ok { OnOk result (EachBecomes (IsBodyPromised kept.now) tables.old tables.new) }
+    ensures ok { OnOk result (EachBecomes (Promises nothing (bodies_of kept.now)) tables.old tables.new) }
     ensures refused { OnErr result (EachBecomes KeepsPromises tables.old tables.new) }
 {
     let Some(node) = kept.subject() else {
@@ -120,8 +120,8 @@ fn promise_body<P>(tables: &mut [Table], kept: &KeptItem<P>) -> Result<(), Memor
 fn promise_body_or_release<P>(tables: &mut [Table], kept: &KeptItem<P>) -> Result<(), Memory>
     requires { AscendByNode tables.old }
     ensures same { EachBecomes IsRoomier tables.old tables.new }
-    ensures ok { OnOk result (EachBecomes (IsBodyPromised kept.now) tables.old tables.new) }
-    ensures refused { OnErr result (EachBecomes (AreReleased kept.now (positions kept.now.item.fields)) tables.old tables.new) }
+    ensures ok { OnOk result (EachBecomes (Promises nothing (bodies_of kept.now)) tables.old tables.new) }
+    ensures refused { OnErr result (EachBecomes (TakesBack (rows_of kept.now) nothing) tables.old tables.new) }
 {
     let Err(memory) = promise_body(tables, kept) else {
         return Ok(());

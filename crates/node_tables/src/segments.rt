@@ -7,10 +7,10 @@ ghost use Rattle.authenticators.specs.declared.authenticator.Authenticator.{Auth
 ghost use Rattle.kept_evidence.specs.Telling.{IsSegmentOf, deviates};
 ghost use Rattle.kept_items.specs.Keeping.{reach as reach_of};
 ghost use Rattle.node_tables.specs.declared.row.Row.{Row as TheRow};
-ghost use Rattle.node_tables.specs.Places.{span_room};
 ghost use Rattle.node_tables.specs.Rows.{stated_at};
 ghost use Rattle.node_tables.specs.Tables.{IsSegmentAt, IsTold, denies_at};
-ghost use Rattle.node_tables.specs.within.Bringing.{AreAlike, AreBetween, IsBroughtBySegment, IsNextBySegment, SegmentBringsNothing, SegmentStep, below_by, denied_by_row, number_by, side, up_to_by};
+ghost use Rattle.node_tables.specs.within.Bringing.{AreAlike, AreBetween, IsBroughtBySegment, IsNextBySegment, SegmentBringsNothing, below_by, denied_by_row, number_by, side, up_to_by};
+ghost use Rattle.node_tables.specs.within.Coming.{SegmentCame};
 
 use crate::edge::{edge_at, side};
 use crate::exposure::ExposingPlaces;
@@ -243,10 +243,7 @@ fn put<P>(items: &[KeptItem<P>], table: &mut Table, place: u32, kept: &KeptItem<
     requires reach { reach_of kept.now.item.fields ≡ Some reach }
     requires own { IsSegmentOf table.old.node kept.now.item.fields }
     requires room { 1 ≤ table.old.spans.room }
-    ensures told { IsTold items.now table.new }
-    ensures step { SegmentStep items.now place table.old table.new }
-    ensures room { span_room table.old ≤ span_room table.new + 1 }
-    ensures counts { (table.new.promised ≡ table.old.promised) × (table.new.bodies ≡ table.old.bodies) }
+    ensures { SegmentCame items.now place table.old table.new }
 {
     denials_are_within_reach();
     answers_are_within_reach();
@@ -265,10 +262,7 @@ pub(crate) fn put_segment<P>(items: &[KeptItem<P>], table: &mut Table, place: u3
     requires told { IsTold items.now table.old }
     requires segment { IsSegmentAt items.now table.old.node place }
     requires room { 1 ≤ table.old.spans.room }
-    ensures told { IsTold items.now table.new }
-    ensures step { SegmentStep items.now place table.old table.new }
-    ensures room { span_room table.old ≤ span_room table.new + 1 }
-    ensures counts { (table.new.promised ≡ table.old.promised) × (table.new.bodies ≡ table.old.bodies) }
+    ensures { SegmentCame items.now place table.old table.new }
 {
     let Some(kept) = items.get(place as usize) else {
         return;

@@ -4,7 +4,7 @@ ghost use Rattle.std.specs.Prelude.{◌≡◌, ◌↔◌, ◌⊎◌, ◌+◌, �
 ghost use Rattle.std.specs.List.{Contains, insert};
 ghost use Rattle.std.specs.List.Sorted.{IsNonDecreasingBy};
 ghost use Rattle.node_tables.specs.declared.span.Span.{Span as TheSpan};
-ghost use Rattle.node_tables.specs.within.Spanning.{AreTopped, AreToppedUpTo, DoNotFall};
+ghost use Rattle.node_tables.specs.within.Spanning.{AreTopped, AreToppedUpTo, DoNotFall, IsLonger};
 
 use crate::span::Span;
 use outcome::Memory;
@@ -88,10 +88,8 @@ fn put(spans: &mut Vec<Span>, tops: &mut Vec<u64>, span: Span)
     requires tops_room { vec_len tops.old < vec_capacity tops.old }
     ensures topped { AreTopped spans.new.items tops.new.items }
     ensures members { (q : TheSpan) → Contains spans.new.items q ↔ (Contains spans.old.items q ⊎ (q ≡ span)) }
-    ensures len { vec_len spans.new ≡ vec_len spans.old + 1 }
-    ensures tops_len { vec_len tops.new ≡ vec_len tops.old + 1 }
-    ensures capacity { vec_capacity spans.new ≡ vec_capacity spans.old }
-    ensures tops_capacity { vec_capacity tops.new ≡ vec_capacity tops.old }
+    ensures longer { IsLonger spans.old spans.new }
+    ensures tops_longer { IsLonger tops.old tops.new }
 {
     let place = put_span(spans, span);
     tops.push_reserved(0);
@@ -123,8 +121,7 @@ fn put_span(spans: &mut Vec<Span>, span: Span) -> usize
     ensures by_low { DoNotFall spans.new.items }
     ensures place { result ≤ vec_len spans.old }
     ensures items { spans.new.items ≡ insert spans.old.items result span }
-    ensures len { vec_len spans.new ≡ vec_len spans.old + 1 }
-    ensures capacity { vec_capacity spans.new ≡ vec_capacity spans.old }
+    ensures longer { IsLonger spans.old spans.new }
 {
     let place = spans.partition_point(|other| other.low <= span.low);
     let _ = spans.insert(place, span);

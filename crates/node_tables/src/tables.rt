@@ -7,7 +7,7 @@ ghost use Rattle.node_tables.specs.declared.table.Table.{Table as TheTable};
 ghost use Rattle.node_tables.specs.Rows.{stated_at};
 ghost use Rattle.node_tables.specs.Steps.{AllTables, AscendByNode, EachBecomes, position_of, room, wanted};
 ghost use Rattle.node_tables.specs.Tables.{IsTold};
-ghost use Rattle.node_tables.specs.within.Bringing.{OneTakenBack, StatementStep, StatementsStep, TakenBack};
+ghost use Rattle.node_tables.specs.within.Coming.{StatementCame, StatementsCame};
 
 use crate::row::{Row, said_at};
 use crate::table::Table;
@@ -30,9 +30,7 @@ fn put<P>(items: &[KeptItem<P>], tables: &mut [Table], row: Row)
     requires ascending { AscendByNode tables.old }
     requires told { AllTables (IsTold items.now) tables.old }
     requires room { (a : Statement) → stated_at items.now row ≡ Some a → AllTables (λ t. t.node ≡ a.node → 1 ≤ room t) tables.old }
-    ensures told { AllTables (IsTold items.now) tables.new }
-    ensures step { EachBecomes (StatementStep items.now row) tables.old tables.new }
-    ensures counts { EachBecomes (OneTakenBack (stated_at items.now row)) tables.old tables.new }
+    ensures { EachBecomes (StatementCame items.now row) tables.old tables.new }
 {
     let Some(said) = said_at(items, row) else {
         return;
@@ -49,9 +47,7 @@ pub(crate) fn put_statements<P>(items: &[KeptItem<P>], tables: &mut [Table], ite
     requires ascending { AscendByNode tables.old }
     requires told { AllTables (IsTold items.now) tables.old }
     requires room { AllTables (λ t. wanted (position_of items.now item) count t.node ≤ room t) tables.old }
-    ensures told { AllTables (IsTold items.now) tables.new }
-    ensures step { EachBecomes (StatementsStep items.now item count) tables.old tables.new }
-    ensures counts { EachBecomes (TakenBack items.now item count) tables.old tables.new }
+    ensures { EachBecomes (StatementsCame items.now item count) tables.old tables.new }
 {
     for position in 0..count {
         put(items, tables, Row { item, position });

@@ -1,13 +1,15 @@
 //! Putting a statement into the table of its node.
 
-ghost use Rattle.std.specs.Prelude.{◌≡◌, ◌≤◌, ◌-◌, IsSome, None, Some, length};
+ghost use Rattle.std.specs.Prelude.{◌≡◌, ◌≤◌, IsSome, None, Some, length};
 ghost use Rattle.std.specs.List.Sorted.{IsBinarySearchResult, IsSearchInRange};
 ghost use Rattle.authenticators.specs.declared.authenticator.Authenticator.{Authenticator as Statement};
 ghost use Rattle.kept_items.specs.Positions.{shown};
+ghost use Rattle.node_tables.specs.Rooms.{KeepsPromises};
 ghost use Rattle.node_tables.specs.Rows.{stated_at};
 ghost use Rattle.node_tables.specs.Steps.{room};
 ghost use Rattle.node_tables.specs.Tables.{AreSpans, IsTold};
-ghost use Rattle.node_tables.specs.within.Bringing.{AreUndenied, IsNext, RowStep, StatementStep, order_at};
+ghost use Rattle.node_tables.specs.within.Bringing.{AreUndenied, IsNext, RowStep, order_at};
+ghost use Rattle.node_tables.specs.within.Coming.{StatementCame};
 
 use crate::exposure::ExposingPlaces;
 use crate::finding::brought_by;
@@ -72,7 +74,7 @@ fn put_row<P>(items: &[KeptItem<P>], table: &mut Table, row: Row)
     requires room { 1 ≤ table.old.rows.room }
     ensures told { IsTold items.now table.new }
     ensures step { RowStep items.now row table.old table.new }
-    ensures counts { (table.new.promised ≡ table.old.promised) × (table.new.bodies ≡ table.old.bodies) }
+    ensures counts { KeepsPromises table.old table.new }
 {
     let Some(said) = said_at(items, row) else {
         return;
@@ -92,9 +94,7 @@ pub(crate) fn put_statement<P>(items: &[KeptItem<P>], table: &mut Table, row: Ro
     requires own { (a : Statement) → stated_at items.now row ≡ Some a → a.node ≡ table.old.node }
     requires there { IsSome (stated_at items.now row) }
     requires room { 1 ≤ room table.old }
-    ensures told { IsTold items.now table.new }
-    ensures step { StatementStep items.now row table.old table.new }
-    ensures counts { (table.new.promised ≡ table.old.promised - 1) × (table.new.bodies ≡ table.old.bodies) }
+    ensures { StatementCame items.now row table.old table.new }
 {
     put_row(items, table, row);
     put_receipt(items, table, row);

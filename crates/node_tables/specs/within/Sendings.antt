@@ -1,5 +1,5 @@
 -- Where an item stands beside the send challenges of one sender, receiver and number.
-use Rattle.std.specs.Prelude.{ℕ, zero, suc, Bool, false, true, ◌||◌, Option, Some, None}
+use Rattle.std.specs.Prelude.{ℕ, zero, suc, Bool, false, ◌||◌, Option, Some, None}
 use Rattle.std.specs.Ordering.{is_eq, is_le, is_lt, nat_cmp, ordering_then}
 use Rattle.std.specs.declared.cmp.Ordering.TheVariants.{Greater}
 use Rattle.std.specs.declared.cmp.Ordering.{Ordering}

@@ -1,11 +1,17 @@
 -- Segments by their least numbers, and the greatest numbers of any up to each.
-use Rattle.std.specs.Prelude.{◌≡◌, ◌≤◌, ◌<◌, ℕ, List, length, slice_index_or}
+use Rattle.std.specs.Prelude.{◌≡◌, ◌≤◌, ◌<◌, ◌+◌, ℕ, List, length, slice_index_or, vec_capacity, vec_len}
 use Rattle.std.specs.List.Sorted.{IsNonDecreasingBy}
+use Rattle.std.specs.declared.vec.Vec.{Vec}
 use Rattle.node_tables.specs.declared.span.Span.{Span}
 
 -- The least numbers do not fall.
 abbrev pub DoNotFall : List Span → Type 0
 DoNotFall spans = IsNonDecreasingBy (λ (p : Span). p.low) spans
+
+-- One more stands in the room that was there.
+pub record IsLonger {X Z : Type 0} (old new : Vec X Z) : Type 0 where
+  pub len : vec_len new ≡ vec_len old + 1
+  pub capacity : vec_capacity new ≡ vec_capacity old
 
 -- Up to place n the tops do not fall, and no segment reaches above the top beside it.
 pub record AreToppedUpTo (spans : List Span) (tops : List ℕ) (n : ℕ) : Type 0 where

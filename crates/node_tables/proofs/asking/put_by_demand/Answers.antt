@@ -1,16 +1,13 @@
-use Rattle.std.proofs.Common.{◌≡◌, ◌≤◌, ◌⊎◌, ℕ, Bool, true, false, cond, List, insert, length, subst, sym, ◌∙◌}
+use Rattle.std.proofs.Common.{◌≡◌, ◌≤◌, ◌⊎◌, ℕ, true, false, List, length, subst, sym, ◌∙◌}
 use Rattle.std.specs.Prelude.{◌↔◌}
 use Rattle.std.specs.List.{Contains}
 use Rattle.std.specs.List.Sorted.{IsPartitionPoint}
 use Rattle.authenticators.proofs.AscendingLists.{members-insert}
-use Rattle.node_tables.specs.Places.{RiseByDemand, key_at}
+use Rattle.node_tables.specs.Places.{RiseByDemand}
 use Rattle.node_tables.specs.within.Asking.{is_within}
+use Rattle.node_tables.proofs.Bools.{chosen}
 use Rattle.node_tables.proofs.Demands.{put_rising}
 use Rattle.node_tables.proofs.asking.put_by_demand.Goals as goal
-
-chosen : (b : Bool) (xs ys zs : List ℕ) → xs ≡ cond b ys zs → b ≡ true → xs ≡ ys
-chosen true xs ys zs is h = is
-chosen false xs ys zs is h = absurd cc
 
 pub returns-clause-rising : goal.returns-clause-rising
 returns-clause-rising g c =

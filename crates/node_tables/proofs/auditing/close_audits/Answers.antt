@@ -21,7 +21,7 @@ loop-position-preserved g c =
           (λ (first : k < c.loop-position.position). before.done i d k (c.take_at.ensures.fewer i has) is first opens most)
           (λ (le : c.loop-position.position ≤ k).
           let at : k ≡ c.loop-position.position = omega (arith, lt, le) in
-          c.take_at.ensures.done c.if-not-take_at.false i d has is (subst (λ n. opening_at x n ≡ Some d.opening) at opens) most)
+          c.take_at.ensures.done c.if-not-take_at.false i d has is (subst (λ n. opening_at x n ≡ Some d.opening) at opens, most))
           (cases_lt k c.loop-position.position);
       room = omega (arith, before.room, c.take_at.ensures.room);
     }

@@ -1,15 +1,12 @@
-use Rattle.std.proofs.Common.{◌≡◌, ◌<◌, ◌≤◌, ℕ, Bool, true, false, cond, List, length, subst}
+use Rattle.std.proofs.Common.{◌≡◌, ◌<◌, ◌≤◌, ℕ, List, length, subst}
 use Rattle.std.specs.Prelude.{Ok, Err, Some, slice_get}
 use Rattle.evidence_item.specs.Checking.{Checked}
 use Rattle.std.specs.List.Sorted.{IsBinarySearchResult}
 use Rattle.node_tables.specs.Places.{AscendBySpelling, item_order_by}
 use Rattle.node_tables.specs.within.Placing.{IsNewAmong}
 use Rattle.node_tables.proofs.Asked.{asked_put, found_is_old, members_put}
+use Rattle.node_tables.proofs.Bools.{chosen}
 use Rattle.node_tables.proofs.bodies.put_by_spelling.Goals as goal
-
-chosen : (b : Bool) (xs ys zs : List ℕ) → xs ≡ cond b ys zs → b ≡ true → xs ≡ ys
-chosen true xs ys zs is h = is
-chosen false xs ys zs is h = absurd cc
 
 pub returns-clause-ascending : goal.returns-clause-ascending
 returns-clause-ascending g c =

@@ -1,13 +1,14 @@
-use Rattle.std.proofs.Common.{◌≡◌, ◌-◌, not, subst, refl, arith, ◌∙◌}
+use Rattle.std.proofs.Common.{◌≡◌, ◌-◌, ℕ, false, not, subst, refl, arith, ◌∙◌}
 use Rattle.std.specs.Prelude.{slice_get}
 use Rattle.std.specs.List.{filter}
 use Rattle.kept_items.specs.Positions.{positions}
 use Rattle.node_tables.specs.within.Sendings.{is_received}
-use Rattle.node_tables.proofs.Receipts.{all_stay, one_more}
+use Rattle.node_tables.proofs.Receipts.{one_more}
+use Rattle.node_tables.proofs.Sendings.{all_stay}
 use Rattle.node_tables.proofs.closing.take_each_received.Goals as goal
 
 pub loop-place-init : goal.loop-place-init
-loop-place-init g c = (all_stay c.args.places.now.items, c.requires, omega arith, refl)
+loop-place-init g c = (all_stay (λ (i : ℕ). false) c.args.places.now.items (λ k d lt. refl), c.requires, omega arith, refl)
 
 pub loop-place-preserved : goal.loop-place-preserved
 loop-place-preserved g c = (

@@ -2,7 +2,8 @@ use Rattle.std.proofs.Common.{sym, not, ◌∙◌}
 use Rattle.kept_items.specs.Positions.{stated}
 use Rattle.node_tables.specs.Receipts.{received}
 use Rattle.node_tables.specs.within.Sendings.{is_among}
-use Rattle.node_tables.proofs.Receipts.{among_is, among_nothing, asked_filtered}
+use Rattle.node_tables.proofs.Asked.{asked_filtered}
+use Rattle.node_tables.proofs.Receipts.{among_is, among_nothing}
 use Rattle.node_tables.proofs.closing.take_received.Goals as goal
 
 pub returns-in-Some-clause-items : goal.returns-in-Some-clause-items

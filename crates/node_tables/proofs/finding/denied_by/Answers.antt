@@ -1,5 +1,4 @@
-use Rattle.std.proofs.Common.{◌≡◌, false, List, length, subst, arith}
-use Rattle.std.specs.List.{AllWithin}
+use Rattle.std.proofs.Common.{◌≡◌, false, arith}
 use Rattle.node_tables.specs.declared.span.Span.{Span}
 use Rattle.kept_items.specs.Positions.{shown}
 use Rattle.node_tables.specs.Tables.{denies_at}

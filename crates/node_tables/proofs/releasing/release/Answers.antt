@@ -1,10 +1,12 @@
-use Rattle.node_tables.proofs.Reserved.{none_taken_back, set_taken_back}
+use Rattle.std.proofs.Common.{refl}
+use Rattle.node_tables.specs.within.Promising.{nothing, one_for}
+use Rattle.node_tables.proofs.Reserved.{none_back, one_back, one_elsewhere, one_here}
 use Rattle.node_tables.proofs.releasing.release.Goals as goal
 
 pub returns-in_default : goal.returns-in_default
-returns-in_default c = none_taken_back c.args.node c.args.tables.now c.in_default.ensures.none
+returns-in_default c = let j = c.args.node in none_back (one_for j) nothing 1 0 c.args.tables.now j (one_here j) refl (λ i other. (one_elsewhere j i other, refl)) c.in_default.ensures.none
 
 pub returns-in-Some : goal.returns-in-Some
 returns-in-Some c =
-    let found = c.in-Some.ensures.some in
-    set_taken_back c.args.node c.args.tables.now c.in-Some.i found.0 c.index-tables-i.result c.release_here.new.table c.requires found.1 found.2 c.release_here.ensures
+    let j = c.args.node in
+    one_back (one_for j) nothing 1 0 c.args.tables.now j (one_here j) refl (λ i other. (one_elsewhere j i other, refl)) c.requires c.in-Some.i c.index-tables-i.result c.release_here.new.table c.in-Some.ensures.some c.release_here.ensures

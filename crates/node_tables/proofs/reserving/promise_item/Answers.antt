@@ -1,8 +1,7 @@
-use Rattle.kept_items.specs.Positions.{positions}
-use Rattle.node_tables.specs.Rooms.{IsReady, IsRoomier, KeepsPromises}
-use Rattle.node_tables.specs.within.Promising.{ArePromised, AreReleased, IsBodyPromised}
-use Rattle.node_tables.proofs.Reserved.{any_err, each_then, promised_back, ready, roomier_then}
-use Rattle.node_tables.proofs.Stepping.{ascend_still}
+use Rattle.node_tables.specs.Rooms.{IsReady, IsRoomier, KeepsPromises, Promises, TakesBack, bodies_of, rows_of}
+use Rattle.node_tables.specs.within.Promising.{nothing}
+use Rattle.node_tables.proofs.Reserved.{any_err, promised_back, ready, roomier_then}
+use Rattle.node_tables.proofs.Stepping.{ascend_still, each_then}
 use Rattle.node_tables.proofs.reserving.promise_item.Goals as goal
 
 pub promise_body_or_release-requires : goal.promise_body_or_release-requires
@@ -14,8 +13,8 @@ returns-in_err-promise_body_or_release-clause-same g c =
 
 pub returns-in_err-promise_body_or_release-clause-refused : goal.returns-in_err-promise_body_or_release-clause-refused
 returns-in_err-promise_body_or_release-clause-refused g c =
-    let x = c.args.kept.now in
-    any_err c.from_residual-in_err-promise_body_or_release.result _ (each_then (ArePromised x (positions x.item.fields)) (AreReleased x (positions x.item.fields)) KeepsPromises (promised_back x (positions x.item.fields)) c.args.tables.now c.promise_statements.new.tables c.promise_body_or_release.new.tables
+    let w = rows_of c.args.kept.now in
+    any_err c.from_residual-in_err-promise_body_or_release.result _ (each_then (Promises w nothing) (TakesBack w nothing) KeepsPromises (promised_back w nothing) c.args.tables.now c.promise_statements.new.tables c.promise_body_or_release.new.tables
     c.in_ok-promise_statements.ensures.ok c.in_err-promise_body_or_release.ensures.refused)
 
 pub returns-clause-same : goal.returns-clause-same
@@ -25,4 +24,4 @@ returns-clause-same g c =
 pub returns-clause-ok : goal.returns-clause-ok
 returns-clause-ok g c =
     let x = c.args.kept.now in
-    each_then (ArePromised x (positions x.item.fields)) (IsBodyPromised x) (IsReady x) (ready x) c.args.tables.now c.promise_statements.new.tables c.promise_body_or_release.new.tables c.in_ok-promise_statements.ensures.ok c.in_ok-promise_body_or_release.ensures.ok
+    each_then (Promises (rows_of x) nothing) (Promises nothing (bodies_of x)) (IsReady x) (ready x) c.args.tables.now c.promise_statements.new.tables c.promise_body_or_release.new.tables c.in_ok-promise_statements.ensures.ok c.in_ok-promise_body_or_release.ensures.ok

@@ -1,7 +1,9 @@
-use Rattle.node_tables.specs.Rooms.{IsRoomier, KeepsPromises}
-use Rattle.node_tables.specs.within.Promising.{AreReleased}
-use Rattle.node_tables.proofs.Reserved.{each_both, each_then, kept_released, roomier_then}
-use Rattle.node_tables.proofs.Stepping.{ascend_still}
+use Rattle.kept_items.specs.Positions.{stated}
+use Rattle.node_tables.specs.Rooms.{IsRoomier, KeepsPromises, TakesBack}
+use Rattle.node_tables.specs.Steps.{wanted}
+use Rattle.node_tables.specs.within.Promising.{nothing}
+use Rattle.node_tables.proofs.Reserved.{each_both, kept_released, roomier_then}
+use Rattle.node_tables.proofs.Stepping.{ascend_still, each_then}
 use Rattle.node_tables.proofs.reserving.promise_or_release.Goals as goal
 
 pub release_first-requires : goal.release_first-requires
@@ -9,13 +11,10 @@ release_first-requires g c = ascend_still IsRoomier c.args.tables.now c.promise_
 
 pub returns-clause-same : goal.returns-clause-same
 returns-clause-same g c =
-    let x = c.args.kept.now in
-    let k = c.args.position in
-    each_then IsRoomier (AreReleased x k) IsRoomier (λ t u v a b. roomier_then t u v a b.roomier) c.args.tables.now c.promise_at.new.tables c.release_first.new.tables c.promise_at.ensures.same c.release_first.ensures
+    each_then IsRoomier (TakesBack (wanted (stated c.args.kept.now) c.args.position) nothing) IsRoomier (λ t u v a b. roomier_then t u v a b.roomier) c.args.tables.now c.promise_at.new.tables c.release_first.new.tables c.promise_at.ensures.same c.release_first.ensures
 
 pub returns-clause-refused : goal.returns-clause-refused
 returns-clause-refused g c =
-    let x = c.args.kept.now in
-    let k = c.args.position in
-    each_then (λ t u. IsRoomier t u × KeepsPromises t u) (AreReleased x k) (AreReleased x k) (λ t u v a b. kept_released x k t u v a.0 a.1 b) c.args.tables.now c.promise_at.new.tables c.release_first.new.tables
+    let w = wanted (stated c.args.kept.now) c.args.position in
+    each_then (λ t u. IsRoomier t u × KeepsPromises t u) (TakesBack w nothing) (TakesBack w nothing) (kept_released w nothing) c.args.tables.now c.promise_at.new.tables c.release_first.new.tables
     (each_both IsRoomier KeepsPromises c.args.tables.now c.promise_at.new.tables c.promise_at.ensures.same c.in-Err.ensures.refused) c.release_first.ensures

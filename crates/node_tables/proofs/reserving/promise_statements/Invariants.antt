@@ -1,6 +1,8 @@
-use Rattle.node_tables.specs.Steps.{AscendByNode, EachBecomes}
-use Rattle.node_tables.specs.within.Promising.{ArePromised}
+use Rattle.kept_items.specs.Positions.{stated}
+use Rattle.node_tables.specs.Rooms.{Promises}
+use Rattle.node_tables.specs.Steps.{AscendByNode, EachBecomes, wanted}
+use Rattle.node_tables.specs.within.Promising.{nothing}
 use Rattle.node_tables.proofs.reserving.promise_statements.Given as goal
 
 abbrev pub invariant-loop-position : goal.invariant-loop-position
-invariant-loop-position g l = AscendByNode l.tables × EachBecomes (ArePromised l.kept l.position) l.fn.tables l.tables
+invariant-loop-position g l = AscendByNode l.tables × EachBecomes (Promises (wanted (stated l.kept) l.position) nothing) l.fn.tables l.tables

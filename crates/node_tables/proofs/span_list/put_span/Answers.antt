@@ -1,15 +1,12 @@
-use Rattle.std.proofs.Common.{◌≡◌, ◌≤◌, Bool, true, false, cond, leb, List, length, rules, subst, sym}
+use Rattle.std.proofs.Common.{◌≡◌, ◌≤◌, Bool, true, false, leb, List, length, rules, subst, sym}
 use Rattle.std.specs.List.{insert}
 use Rattle.std.specs.List.Sorted.{IsPartitionPoint, IsPartitionedBy}
 use Rattle.std.proofs.lemmas.List.Sorted.{IsPartitionPoint-from_clause, IsPartitionedBy-leb}
 use Rattle.node_tables.specs.declared.span.Span.{Span}
 use Rattle.node_tables.specs.within.Spanning.{DoNotFall}
+use Rattle.node_tables.proofs.Bools.{chosen}
 use Rattle.node_tables.proofs.Spanned.{put_rises}
 use Rattle.node_tables.proofs.span_list.put_span.Goals as goal
-
-chosen : (b : Bool) (xs ys zs : List Span) → xs ≡ cond b ys zs → b ≡ true → xs ≡ ys
-chosen true xs ys zs is h = is
-chosen false xs ys zs is h = absurd cc
 
 -- the list with the span at its place
 put : (c : goal.After-insert) → c.insert.new.self.items ≡ insert c.args.spans.now.items c.partition_point-place.result c.args.span

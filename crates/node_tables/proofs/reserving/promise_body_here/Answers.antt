@@ -1,0 +1,5 @@
+use Rattle.std.proofs.Common.{arith, rules}
+use Rattle.node_tables.proofs.reserving.promise_body_here.Goals as goal
+
+pub returns-clause-ok : goal.returns-clause-ok
+returns-clause-ok c = record { roomier = search rules; statements = omega arith; rows = λ h. absurd (omega (arith, h)); bodies = omega arith; spans = λ h. omega (arith, c.in_ok-reserve.ensures.room); unanswered = λ h. omega (arith, c.in_ok-reserve-2.ensures.room) }
