@@ -1,5 +1,5 @@
 -- Checked items that are kept one after the other.
-use Rattle.std.proofs.Common.{◌≡◌, Bool, cond, not, true, false, Result, Ok, Err, OnOk, is_err, List, [], ◌∷◌, ◌++◌, All, length, refl, sym, ap, subst, append_assoc, append-nil, ◌∙◌, inl, ⊎_elim, arith}
+use Rattle.std.proofs.Common.{◌≡◌, Bool, cond, not, true, false, List, [], ◌∷◌, ◌++◌, All, length, refl, sym, ap, subst, append_assoc, append-nil, ◌∙◌, inl, ⊎_elim, arith}
 use Rattle.std.specs.List.{Contains, filter}
 use Rattle.std.proofs.lemmas.List.{map_push}
 use Rattle.std.proofs.lemmas.List.Elements.{Contains-push_cases}
@@ -10,11 +10,6 @@ use Rattle.item_forms.specs.Pieces.{Piece}
 use Rattle.evidence_item.specs.Checking.{Checked, IsChecked}
 use Rattle.evidence_set.specs.ItemSets.{pieces}
 use Rattle.kept_evidence.specs.Kept.{IsWhole, is_kept}
-
--- what holds of a success holds where there is no error
-pub on_ok : {A E : Type 0} (r : Result A E) (b : Bool) (P : Type 0) → OnOk r P → b ≡ is_err r → b ≡ false → P
-on_ok (Ok a) b P holds is h = holds
-on_ok (Err e) b P holds is h = absurd (cc (is, h))
 
 module _ {S : Type 0} (ds : Listing) (program : Meaning S) (items : List Checked) where
   -- Those that are not kept yet.

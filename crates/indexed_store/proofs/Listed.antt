@@ -2,7 +2,7 @@
 use Rattle.std.proofs.Common.{◌≡◌, ℕ, Bool, true, false, ◌&&◌, Result, Ok, Err, OnOk, List, [], ◌∷◌, ◌++◌, Option, Some, None, length, map, option_map, refl, sym, ap, subst, ◌∙◌}
 use Rattle.std.proofs.lemmas.Option.{same_Some, slice_get-map}
 use Rattle.std.specs.Prelude.{slice_get}
-use Rattle.std.specs.List.{AllWithin, Contains, flat_map}
+use Rattle.std.specs.List.{Contains, flat_map}
 use Rattle.item_forms.specs.Spelling.{spelling}
 use Rattle.containers.specs.Container.{container_text}
 use Rattle.evidence_set.specs.Exports.{AreValid, export_of, magic}
@@ -12,11 +12,11 @@ use Rattle.evidence_item.specs.Checking.{Checked}
 use Rattle.item_forms.specs.declared.forms.Fields.{Fields}
 use Rattle.item_forms.specs.declared.forms.Fields.TheVariants as form
 use Rattle.evidence_set.specs.Challenges.{is_against}
-use Rattle.evidence_set.specs.ItemSets.{IsWithin, Items, count, listed, pieces, set_of}
+use Rattle.evidence_set.specs.ItemSets.{Items, count, listed, pieces, set_of}
 use Rattle.authenticators.specs.Directory.{Listing}
 use Rattle.replay_verifier.specs.Meaning.{Meaning}
 use Rattle.evidence_item.specs.Validity.{IsValid}
-use Rattle.kept_evidence.specs.Kept.{IsWhole, Keeps}
+use Rattle.kept_evidence.specs.Kept.{IsWhole}
 use Rattle.kept_items.specs.Keeping.{is_challenge}
 use Rattle.kept_evidence.proofs.Added.{counted, listed_is}
 use Rattle.kept_evidence.proofs.Bridge.{set_has}
@@ -24,19 +24,10 @@ use Rattle.node_tables.specs.Places.{ArePlacesOf, IsAgainstAt, IsOpenAt, IsOrder
 use Rattle.node_tables.proofs.Joined.{kept_items}
 use Rattle.node_tables.proofs.Meant.{one_set}
 use Rattle.node_tables.proofs.RowLists.{same_length}
-use Rattle.node_tables.proofs.Spans.{all_hold}
 
 pub counts : (items : List Checked) (order : List ℕ) (is : IsOrder items order) → length order ≡ count (set_of items)
 counts items order is =
     same_length (slice_get items) order is.kept is.places ∙ sym (counted is.kept is.ascending) ∙ ap count (one_set is.kept items (kept_items items order is) is.covers)
-
-pub all_within : (items others : List Checked) → AllWithin (λ (c : Checked). Keeps items c.item) others 0 (length others) → IsWithin (set_of others) (set_of items)
-all_within items others all x has =
-    let (c, in_others, is) = (set_has others x).0 has in
-    (set_has items x).1 (subst (Keeps items) is (all_hold (λ (k : Checked). Keeps items k.item) others all c in_others))
-
-pub one_without : (items others : List Checked) (c : Checked) → Contains others c → (Keeps items c.item → ⊥) → IsWithin (set_of others) (set_of items) → ⊥
-one_without items others c has absent within = absent ((set_has items c.item).0 (within c.item ((set_has others c.item).1 (c, has, refl))))
 
 -- ---- the item at a place of the order
 

@@ -7,18 +7,17 @@ ghost use Rattle.authenticators.specs.Directory.{is_listed};
 ghost use Rattle.item_forms.specs.Pieces.{Piece, by_bytes};
 ghost use Rattle.evidence_set.specs.Indications.{IsUnanswered};
 ghost use Rattle.evidence_set.specs.ItemSets.{Has, set_of};
-ghost use Rattle.node_tables.specs.Indexed.{IsIndexed};
 ghost use Rattle.node_tables.specs.Places.{IsAgainstAt, named_item};
+ghost use Rattle.indexed_store.specs.within.Resting.{IsIndex};
 
+use crate::index::{Index, table_of};
 use authenticators::{Directory, NodeId};
 use evidence_item::Item;
 use kept_items::KeptItem;
-use node_tables::{Table, place_of};
 use outcome::Memory;
 use replay_verifier::Program;
 use replay_verifier::laws::deviating_lists_do_not_conform;
 use std::alloc::Global;
-use tiered_vec::TieredVec;
 
 /// Puts the challenge at a place behind those that were found.
 fn lend<'a, P>(
@@ -60,20 +59,18 @@ fn challenges_at<'a, P>(
 pub(crate) fn open_challenges<'a, P: Program>(
     alloc: Global,
     directory: &Directory,
-    items: &'a [KeptItem<P>],
-    order: &TieredVec<u32>,
-    tables: &[Table],
+    index: &'a Index<P>,
     node: NodeId,
 ) -> Result<Vec<&'a Item>, Memory>
-    requires store { IsIndexed directory.now P.means items.now order.now.items tables.now }
+    requires store { IsIndex directory.now P.means index.now }
     requires listed { is_listed directory.now node ≡ true }
-    ensures members { IfOk result (λ found. (x : Piece) → Contains (map (λ i. i.now) found.items) x ↔ (Has (set_of items.now) x × IsUnanswered directory.now (set_of items.now) node x.fields)) }
+    ensures members { IfOk result (λ found. (x : Piece) → Contains (map (λ i. i.now) found.items) x ↔ (Has (set_of index.now.items.items) x × IsUnanswered directory.now (set_of index.now.items.items) node x.fields)) }
     ensures ascending { IfOk result (λ found. IsStrictlySortedBy by_bytes (map (λ i. i.now) found.items)) }
 {
     deviating_lists_do_not_conform::<P::State>();
-    let Some(i) = place_of(tables, node) else {
+    let Some(table) = table_of(index, node) else {
         return Ok(Vec::new(alloc));
     };
-    let found = challenges_at(alloc, items, node, &tables[i].unanswered.places)?;
+    let found = challenges_at(alloc, &index.items, node, &table.unanswered.places)?;
     Ok(found)
 }

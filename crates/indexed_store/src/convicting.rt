@@ -7,21 +7,21 @@ ghost use Rattle.evidence_item.specs.Checking.{Checked as TheChecked, is_segment
 ghost use Rattle.evidence_set.specs.Indications.{IsExposed};
 ghost use Rattle.evidence_set.specs.ItemSets.{set_of};
 ghost use Rattle.kept_items.specs.Positions.{shown};
-ghost use Rattle.node_tables.specs.Indexed.{IsIndexed};
 ghost use Rattle.node_tables.specs.Proving.{AreSigned, IsDenialMade, IsMade, IsSegmentMade, IsTwoMade};
+ghost use Rattle.indexed_store.specs.within.Resting.{IsIndex};
 
+use crate::index::{Index, table_of};
 use authenticators::{Authenticator, Directory, NodeId};
 use evidence_item::laws::valid_items_are_signed;
 use evidence_item::{ByteString, Item};
 use kept_evidence::{proof_of_denial, proof_of_segment, proof_of_two};
 use kept_items::{KeptItem, Said};
-use node_tables::{ExposingPlaces, Row, Table, place_of, said_at};
+use node_tables::{ExposingPlaces, Row, said_at};
 use outcome::Memory;
 use proofs::Proof;
 use replay_verifier::Program;
 use replay_verifier::laws::deviating_lists_do_not_conform;
 use std::alloc::Global;
-use tiered_vec::TieredVec;
 
 /// A copy of the statement.
 fn copy_of(alloc: Global, said: &Said<'_>) -> Result<Authenticator, Memory>
@@ -138,24 +138,22 @@ fn proof_by<P>(
 pub(crate) fn proof<P: Program>(
     alloc: Global,
     directory: &Directory,
-    items: &[KeptItem<P>],
-    order: &TieredVec<u32>,
-    tables: &[Table],
+    index: &Index<P>,
     node: NodeId,
 ) -> Result<Option<Proof>, Memory>
-    requires store { IsIndexed directory.now P.means items.now order.now.items tables.now }
+    requires store { IsIndex directory.now P.means index.now }
     requires listed { is_listed directory.now node ≡ true }
-    ensures some { IfOk result (λ p. IsSome p ↔ IsExposed directory.now P.means (set_of items.now) node) }
+    ensures some { IfOk result (λ p. IsSome p ↔ IsExposed directory.now P.means (set_of index.now.items.items) node) }
     ensures convicts { IfOk result (λ p. IfSome p (λ q. Convicts directory.now P.means node q.parts)) }
 {
     deviating_lists_do_not_conform::<P::State>();
     valid_items_are_signed();
-    let Some(i) = place_of(tables, node) else {
+    let Some(table) = table_of(index, node) else {
         return Ok(None);
     };
-    let Some(exposure) = tables[i].exposure else {
+    let Some(exposure) = table.exposure else {
         return Ok(None);
     };
-    let found = proof_by(alloc, directory, items, exposure)?;
+    let found = proof_by(alloc, directory, &index.items, exposure)?;
     Ok(found)
 }

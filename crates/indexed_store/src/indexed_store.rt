@@ -11,6 +11,7 @@ ghost use Rattle.evidence.specs.Contents.{with_items};
 use crate::challenges::open_challenges;
 use crate::convicting::proof;
 use crate::including::{holds, includes};
+use crate::index::Index;
 use crate::indicating::indication;
 use crate::listing::{count, digest_at, export, item_at};
 use crate::merging::{merge, take_all};
@@ -20,8 +21,7 @@ use evidence::{AskFault, Evidence, NewStoreRefused, TakeRefused, UnknownNode};
 use evidence_item::{Checked, Hash, Item};
 use evidence_set::Indication;
 use kept_entries::EntryPool;
-use kept_items::KeptItem;
-use node_tables::{Table, empty_tables};
+use node_tables::empty_tables;
 use outcome::Memory;
 use proofs::Proof;
 use replay_verifier::Program;
@@ -39,9 +39,7 @@ pub struct IndexedStore<P: Program> {
     alloc: Global,
     directory: Directory,
     pool: EntryPool,
-    items: Vec<KeptItem<P>>,
-    order: TieredVec<u32>,
-    tables: Vec<Table>,
+    index: Index<P>,
 }
 
 impl<P: Program> Model for IndexedStore<P> {
@@ -54,9 +52,9 @@ impl<P: Program> Model for IndexedStore<P> {
 
     ghost coded = { Prim.hlevel (codes, items_code) };
 
-    ghost view = { λ s. record { directory = s.directory; items = set_of s.items.items } };
+    ghost view = { λ s. record { directory = s.directory; items = set_of s.index.items.items } };
 
-    ghost invariant = { λ s. IsAtRest s.directory P.means s.items.items s.order.items s.tables.items };
+    ghost invariant = { λ s. IsAtRest s.directory P.means s.index };
 }
 
 impl<P: Program> Evidence<P> for IndexedStore<P> {
@@ -71,9 +69,11 @@ impl<P: Program> Evidence<P> for IndexedStore<P> {
             alloc,
             directory,
             pool: EntryPool::new(alloc),
-            items: Vec::new(alloc),
-            order: TieredVec::new(alloc),
-            tables,
+            index: Index {
+                items: Vec::new(alloc),
+                order: TieredVec::new(alloc),
+                tables,
+            },
         })
     }
 
@@ -82,19 +82,19 @@ impl<P: Program> Evidence<P> for IndexedStore<P> {
     }
 
     fn count(&self) -> u64 {
-        count(&self.items, &self.order)
+        count(&self.index)
     }
 
     fn item_at(&self, n: u64) -> Result<Option<Checked<P>>, Memory> {
-        item_at(self.alloc, &self.items, &self.order, n)
+        item_at(self.alloc, &self.index, n)
     }
 
     fn digest_at(&self, n: u64) -> Option<Hash> {
-        digest_at(&self.items, &self.order, n)
+        digest_at(&self.index, n)
     }
 
     fn holds(&self, item: &Item) -> bool {
-        holds(&self.items, &self.order, item)
+        holds(&self.index, item)
     }
 
     fn take(&mut self, checked: Checked<P>) -> Result<bool, TakeRefused<P>>
@@ -109,9 +109,7 @@ impl<P: Program> Evidence<P> for IndexedStore<P> {
             self.alloc,
             &self.directory,
             &mut self.pool,
-            &mut self.items,
-            &mut self.order,
-            &mut self.tables,
+            &mut self.index,
             checked,
         )
     }
@@ -121,10 +119,8 @@ impl<P: Program> Evidence<P> for IndexedStore<P> {
             self.alloc,
             &self.directory,
             &mut self.pool,
-            &mut self.items,
-            &mut self.order,
-            &mut self.tables,
-            &other.items,
+            &mut self.index,
+            &other.index.items,
         )
     }
 
@@ -133,31 +129,18 @@ impl<P: Program> Evidence<P> for IndexedStore<P> {
         if !self.directory.contains(node) {
             return Err(UnknownNode);
         }
-        Ok(indication(
-            &self.directory,
-            &self.items,
-            &self.order,
-            &self.tables,
-            node,
-        ))
+        Ok(indication(&self.directory, &self.index, node))
     }
 
     fn includes(&self, other: &IndexedStore<P>) -> bool {
-        includes(&self.items, &self.order, &other.items)
+        includes(&self.index, &other.index.items)
     }
 
     fn proof(&self, node: NodeId) -> Result<Option<Proof>, AskFault> {
         if !self.directory.contains(node) {
             return Err(AskFault::UnknownNode);
         }
-        let found = proof(
-            self.alloc,
-            &self.directory,
-            &self.items,
-            &self.order,
-            &self.tables,
-            node,
-        )?;
+        let found = proof(self.alloc, &self.directory, &self.index, node)?;
         Ok(found)
     }
 
@@ -165,19 +148,12 @@ impl<P: Program> Evidence<P> for IndexedStore<P> {
         if !self.directory.contains(node) {
             return Err(AskFault::UnknownNode);
         }
-        let found = open_challenges(
-            self.alloc,
-            &self.directory,
-            &self.items,
-            &self.order,
-            &self.tables,
-            node,
-        )?;
+        let found = open_challenges(self.alloc, &self.directory, &self.index, node)?;
         Ok(found)
     }
 
     fn export(&self) -> Result<Vec<u8>, Memory> {
-        export(self.alloc, &self.items, &self.order)
+        export(self.alloc, &self.index)
     }
 
     fn allocator(&self) -> Global {
@@ -195,9 +171,7 @@ impl<P: Program> Evidence<P> for IndexedStore<P> {
             self.alloc,
             &self.directory,
             &mut self.pool,
-            &mut self.items,
-            &mut self.order,
-            &mut self.tables,
+            &mut self.index,
             items,
         )
     }

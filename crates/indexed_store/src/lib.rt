@@ -13,6 +13,7 @@ pub use indexed_store::IndexedStore;
 mod challenges;
 mod convicting;
 mod including;
+mod index;
 mod indexed_store;
 mod indicating;
 mod listing;

@@ -6,8 +6,10 @@ ghost use Rattle.item_digests.specs.Digests.{digest_of};
 ghost use Rattle.evidence_item.specs.Checking.{Checked as TheChecked};
 ghost use Rattle.evidence_set.specs.Exports.{export_of};
 ghost use Rattle.evidence_set.specs.ItemSets.{count, listed, set_of};
-ghost use Rattle.node_tables.specs.Places.{IsOrder, named_item};
+ghost use Rattle.node_tables.specs.Places.{named_item};
+ghost use Rattle.indexed_store.specs.within.Resting.{IsOrdered};
 
+use crate::index::Index;
 use containers::{HasItem, write_all};
 use evidence::MAGIC;
 use evidence_item::{Checked, Hash};
@@ -15,30 +17,25 @@ use kept_items::KeptItem;
 use log_chain::FieldWriter;
 use outcome::Memory;
 use std::alloc::Global;
-use tiered_vec::TieredVec;
 
 /// How many items the set has.
-pub(crate) fn count<P>(items: &[KeptItem<P>], order: &TieredVec<u32>) -> u64
-    requires { IsOrder items.now order.now.items }
-    ensures { result ≡ count (set_of items.now) }
+pub(crate) fn count<P>(index: &Index<P>) -> u64
+    requires { IsOrdered index.now }
+    ensures { result ≡ count (set_of index.now.items.items) }
 {
-    order.len() as u64
+    index.order.len() as u64
 }
 
 /// The item at a place of the order, where there is one.
-fn kept_at<'a, P>(
-    items: &'a [KeptItem<P>],
-    order: &TieredVec<u32>,
-    n: u64,
-) -> Option<&'a KeptItem<P>>
-    requires { IsOrder items.now order.now.items }
-    ensures item { option_map (λ k. k.now.item) result ≡ slice_get (listed (set_of items.now)) n }
-    ensures kept { IfSome result (λ k. Contains items.now k.now) }
+fn kept_at<'a, P>(index: &'a Index<P>, n: u64) -> Option<&'a KeptItem<P>>
+    requires { IsOrdered index.now }
+    ensures item { option_map (λ k. k.now.item) result ≡ slice_get (listed (set_of index.now.items.items)) n }
+    ensures kept { IfSome result (λ k. Contains index.now.items.items k.now) }
 {
-    let Some(place) = order.get(n as usize) else {
+    let Some(place) = index.order.get(n as usize) else {
         return None;
     };
-    match items.get(*place as usize) {
+    match index.items.get(*place as usize) {
         None => None,
         Some(kept) => Some(kept),
     }
@@ -47,26 +44,25 @@ fn kept_at<'a, P>(
 /// A copy of the item at a place of the order, where there is one.
 pub(crate) fn item_at<P>(
     alloc: Global,
-    items: &[KeptItem<P>],
-    order: &TieredVec<u32>,
+    index: &Index<P>,
     n: u64,
 ) -> Result<Option<Checked<P>>, Memory>
-    requires { IsOrder items.now order.now.items }
-    ensures item { IfOk result (λ found. option_map (λ (c : TheChecked). c.item) found ≡ slice_get (listed (set_of items.now)) n) }
-    ensures kept { IfOk result (λ found. IfSome found (λ c. Contains items.now c)) }
+    requires { IsOrdered index.now }
+    ensures item { IfOk result (λ found. option_map (λ (c : TheChecked). c.item) found ≡ slice_get (listed (set_of index.now.items.items)) n) }
+    ensures kept { IfOk result (λ found. IfSome found (λ c. Contains index.now.items.items c)) }
 {
-    match kept_at(items, order, n) {
+    match kept_at(index, n) {
         None => Ok(None),
         Some(kept) => Ok(Some(kept.to_checked(alloc)?)),
     }
 }
 
 /// The digest of the item at a place of the order, where there is one.
-pub(crate) fn digest_at<P>(items: &[KeptItem<P>], order: &TieredVec<u32>, n: u64) -> Option<Hash>
-    requires { IsOrder items.now order.now.items }
-    ensures { result ≡ option_map digest_of (slice_get (listed (set_of items.now)) n) }
+pub(crate) fn digest_at<P>(index: &Index<P>, n: u64) -> Option<Hash>
+    requires { IsOrdered index.now }
+    ensures { result ≡ option_map digest_of (slice_get (listed (set_of index.now.items.items)) n) }
 {
-    match kept_at(items, order, n) {
+    match kept_at(index, n) {
         None => None,
         Some(kept) => Some(kept.digest()),
     }
@@ -106,45 +102,32 @@ fn lend<'a, P>(
 }
 
 /// Puts the item that stands at a place of the order behind those that are lent.
-fn lend_at<'a, P>(
-    found: &mut Vec<Lent<'a, P>>,
-    items: &'a [KeptItem<P>],
-    order: &TieredVec<u32>,
-    n: usize,
-) -> Result<(), Memory>
-    ensures { OnOk result ((place : ℕ) → slice_get order.now.items n ≡ Some place → map (λ l. l.kept.now.item) found.new.items ≡ map (λ l. l.kept.now.item) found.old.items ++ named_item (slice_get items.now place)) }
+fn lend_at<'a, P>(found: &mut Vec<Lent<'a, P>>, index: &'a Index<P>, n: usize) -> Result<(), Memory>
+    ensures { OnOk result ((place : ℕ) → slice_get index.now.order.items n ≡ Some place → map (λ l. l.kept.now.item) found.new.items ≡ map (λ l. l.kept.now.item) found.old.items ++ named_item (slice_get index.now.items.items place)) }
 {
-    let Some(place) = order.get(n) else {
+    let Some(place) = index.order.get(n) else {
         return Ok(());
     };
-    lend(found, items, *place)
+    lend(found, &index.items, *place)
 }
 
 /// The items in their order, lent.
-fn in_order<'a, P>(
-    alloc: Global,
-    items: &'a [KeptItem<P>],
-    order: &TieredVec<u32>,
-) -> Result<Vec<Lent<'a, P>>, Memory>
-    ensures { IfOk result (λ lent. map (λ l. l.kept.now.item) lent.items ≡ flat_map (λ i. named_item (slice_get items.now i)) order.now.items) }
+fn in_order<'a, P>(alloc: Global, index: &'a Index<P>) -> Result<Vec<Lent<'a, P>>, Memory>
+    ensures { IfOk result (λ lent. map (λ l. l.kept.now.item) lent.items ≡ flat_map (λ i. named_item (slice_get index.now.items.items i)) index.now.order.items) }
 {
-    let mut found: Vec<Lent<'a, P>> = Vec::with_capacity(alloc, order.len())?;
-    for n in 0..order.len() {
-        lend_at(&mut found, items, order, n)?;
+    let mut found: Vec<Lent<'a, P>> = Vec::with_capacity(alloc, index.order.len())?;
+    for n in 0..index.order.len() {
+        lend_at(&mut found, index, n)?;
     }
     Ok(found)
 }
 
 /// The text of the set.
-pub(crate) fn export<P>(
-    alloc: Global,
-    items: &[KeptItem<P>],
-    order: &TieredVec<u32>,
-) -> Result<Vec<u8>, Memory>
-    requires { IsOrder items.now order.now.items }
-    ensures { IfOk result (λ text. text.items ≡ export_of (set_of items.now)) }
+pub(crate) fn export<P>(alloc: Global, index: &Index<P>) -> Result<Vec<u8>, Memory>
+    requires { IsOrdered index.now }
+    ensures { IfOk result (λ text. text.items ≡ export_of (set_of index.now.items.items)) }
 {
-    let lent = in_order(alloc, items, order)?;
+    let lent = in_order(alloc, index)?;
     let text = write_all(alloc, MAGIC, &lent)?;
     Ok(text)
 }

@@ -1,17 +1,16 @@
 //! Adding many items at once.
 
-ghost use Rattle.std.specs.Prelude.{◌≡◌, ◌+◌, ◌-◌, ◌<◌, ◌≤◌, ◌^◌, IfOk, OnErr, OnOk, length, not, vec_capacity, vec_len};
+ghost use Rattle.std.specs.Prelude.{◌≡◌, ◌+◌, ◌≤◌, IfOk, OnErr, OnOk, length, not};
 ghost use Rattle.std.specs.List.{All, Contains, filter};
 ghost use Rattle.evidence_item.specs.Checking.{Checked as TheChecked, IsChecked};
 ghost use Rattle.evidence_set.specs.ItemSets.{Join, count, insert, pieces, set_of};
 ghost use Rattle.kept_evidence.specs.Kept.{IsWhole, is_kept};
-ghost use Rattle.node_tables.specs.Indexed.{IsIndexed};
-ghost use Rattle.node_tables.specs.Places.{IsOrder};
-ghost use Rattle.node_tables.specs.Rooms.{AreReady, AreAllReleased, HasRoomFor, IsRoomier, ItemRooms, KeepsPromises};
-ghost use Rattle.node_tables.specs.Steps.{AllTables, AscendByNode, EachBecomes};
-ghost use Rattle.indexed_store.specs.within.Resting.{Awaits, IsAtRest};
+ghost use Rattle.node_tables.specs.Rooms.{AreReady, AreAllReleased, IsRoomier, KeepsPromises};
+ghost use Rattle.node_tables.specs.Steps.{AscendByNode, EachBecomes};
+ghost use Rattle.indexed_store.specs.within.Resting.{HasRoomOf, IsAtRest, IsAwaiting, IsIndex, IsMadeReady, IsOrdered, IsReadier, Took};
 
 use crate::including::{has, keeps};
+use crate::index::Index;
 use crate::taking::{MOST_ITEMS, add, keep};
 use authenticators::Directory;
 use evidence_item::Checked;
@@ -21,22 +20,20 @@ use node_tables::{Table, gap_of_kept, promise_item, release_item};
 use outcome::Memory;
 use replay_verifier::Program;
 use std::alloc::Global;
-use tiered_vec::TieredVec;
 
 /// Copies of the items that are not kept, their entries shared with those that are.
 fn copies_of_missing<P>(
     alloc: Global,
     pool: &mut EntryPool,
-    items: &[KeptItem<P>],
-    order: &TieredVec<u32>,
+    index: &Index<P>,
     others: &[KeptItem<P>],
 ) -> Result<Vec<KeptItem<P>>, Memory>
-    requires { IsOrder items.now order.now.items }
-    ensures { IfOk result (λ copies. copies.items ≡ filter (λ (c : TheChecked). not (is_kept items.now c.item)) others.now) }
+    requires { IsOrdered index.now }
+    ensures { IfOk result (λ copies. copies.items ≡ filter (λ (c : TheChecked). not (is_kept index.now.items.items c.item)) others.now) }
 {
     let mut copies = Vec::new(alloc);
     for other in others {
-        if !keeps(items, order, other) {
+        if !keeps(index, other) {
             copies.push(other.share(alloc, pool)?)?;
         }
     }
@@ -65,18 +62,17 @@ fn keep_missing<P: Program>(
     alloc: Global,
     directory: &Directory,
     pool: &mut EntryPool,
-    items: &[KeptItem<P>],
-    order: &TieredVec<u32>,
+    index: &Index<P>,
     checked: Vec<Checked<P>>,
 ) -> Result<Vec<KeptItem<P>>, Memory>
-    requires order { IsOrder items.now order.now.items }
+    requires order { IsOrdered index.now }
     requires checked { All (IsChecked directory.now P.means) checked.items }
-    ensures pieces { IfOk result (λ kept. pieces kept.items ≡ pieces (filter (λ (c : TheChecked). not (is_kept items.now c.item)) checked.items)) }
+    ensures pieces { IfOk result (λ kept. pieces kept.items ≡ pieces (filter (λ (c : TheChecked). not (is_kept index.now.items.items c.item)) checked.items)) }
     ensures whole { IfOk result (λ kept. (c : TheChecked) → Contains kept.items c → IsWhole directory.now P.means c) }
 {
     let mut kept = Vec::new(alloc);
     for item in checked {
-        if has(items, order, item.item()) {
+        if has(index, item.item()) {
             continue;
         }
         kept.push(kept_of(alloc, directory, pool, item)?)?;
@@ -102,113 +98,79 @@ fn promise_all<P>(tables: &mut [Table], more: &[KeptItem<P>]) -> Result<(), Memo
     ensures refused { OnErr result (EachBecomes KeepsPromises tables.old tables.new) }
 {
     for n in 0..more.len() {
-        if promise_item(tables, &more[n]).is_err() {
+        let Ok(()) = promise_item(tables, &more[n]) else {
             release_each(tables, &more[..n]);
             return Err(Memory);
-        }
+        };
     }
     Ok(())
 }
 
 /// Makes all room that the items need. With `Memory` the items, their order and what the tables have are as they were.
-fn prepare_all<P>(
-    items: &mut Vec<KeptItem<P>>,
-    order: &mut TieredVec<u32>,
-    tables: &mut [Table],
-    more: &[KeptItem<P>],
-) -> Result<(), Memory>
-    requires { AscendByNode tables.old }
-    ensures kept { (items.new.items ≡ items.old.items) × (order.new.items ≡ order.old.items) }
-    ensures same { EachBecomes IsRoomier tables.old tables.new }
-    ensures room { OnOk result (vec_len items.new + length more.now ≤ vec_capacity items.new) }
-    ensures order_room { OnOk result (length more.now ≤ order.new.room) }
-    ensures places { OnOk result (vec_len items.new + length more.now ≤ 2 ^ 32) }
-    ensures ready { OnOk result (EachBecomes (AreReady more.now) tables.old tables.new) }
-    ensures refused { OnErr result (EachBecomes KeepsPromises tables.old tables.new) }
+fn prepare_all<P>(index: &mut Index<P>, more: &[KeptItem<P>]) -> Result<(), Memory>
+    requires { AscendByNode index.old.tables.items }
+    ensures same { IsReadier index.old index.new }
+    ensures ready { OnOk result (IsMadeReady more.now index.old index.new) }
+    ensures refused { OnErr result (EachBecomes KeepsPromises index.old.tables.items index.new.tables.items) }
 {
-    let Some(count) = items.len().checked_add(more.len()) else {
+    let Some(count) = index.items.len().checked_add(more.len()) else {
         return Err(Memory);
     };
     if count > MOST_ITEMS {
         return Err(Memory);
     }
-    items.reserve(more.len())?;
-    order.reserve(more.len())?;
-    promise_all(tables, more)?;
-    Ok(())
+    index.items.reserve(more.len())?;
+    index.order.reserve(more.len())?;
+    promise_all(&mut index.tables, more)
 }
 
 /// Puts an item in its place, where it is not there yet. There is room for it.
-fn add_new<P: Program>(
-    directory: &Directory,
-    items: &mut Vec<KeptItem<P>>,
-    order: &mut TieredVec<u32>,
-    tables: &mut [Table],
-    item: KeptItem<P>,
-)
-    requires store { IsIndexed directory.now P.means items.old.items order.old.items tables.old }
+fn add_new<P: Program>(directory: &Directory, index: &mut Index<P>, item: KeptItem<P>)
+    requires store { IsIndex directory.now P.means index.old }
     requires whole { IsWhole directory.now P.means item }
-    requires room { vec_len items.old < vec_capacity items.old }
-    requires order_room { 1 ≤ order.old.room }
-    requires place { vec_len items.old < 2 ^ 32 }
-    requires ready { AllTables (λ t. HasRoomFor item t) tables.old }
-    ensures store { IsIndexed directory.now P.means items.new.items order.new.items tables.new }
-    ensures grown { set_of items.new.items ≡ insert (set_of items.old.items) item.item }
-    ensures rooms { EachBecomes (ItemRooms item) tables.old tables.new }
-    ensures len { vec_len items.new ≤ vec_len items.old + 1 }
-    ensures grows { length order.old.items ≤ length order.new.items }
-    ensures capacity { vec_capacity items.new ≡ vec_capacity items.old }
-    ensures order_room { order.old.room ≤ order.new.room + 1 }
+    requires room { HasRoomOf item index.old }
+    ensures store { IsIndex directory.now P.means index.new }
+    ensures grown { set_of index.new.items.items ≡ insert (set_of index.old.items.items) item.item }
+    ensures took { Took item index.old index.new }
 {
-    let Err(gap) = gap_of_kept(items, order, &item) else {
-        release_item(tables, &item);
+    let Err(gap) = gap_of_kept(&index.items, &index.order, &item) else {
+        release_item(&mut index.tables, &item);
         return;
     };
-    add(directory, items, order, tables, gap, item);
+    add(directory, index, gap, item);
 }
 
 /// Puts each of the items in its place, the first one first, where it is not there yet. There is room for all of them.
-fn add_each<P: Program>(
-    directory: &Directory,
-    items: &mut Vec<KeptItem<P>>,
-    order: &mut TieredVec<u32>,
-    tables: &mut [Table],
-    more: Vec<KeptItem<P>>,
-)
-    requires store { IsIndexed directory.now P.means items.old.items order.old.items tables.old }
+fn add_each<P: Program>(directory: &Directory, index: &mut Index<P>, more: Vec<KeptItem<P>>)
+    requires store { IsIndex directory.now P.means index.old }
     requires whole { (c : TheChecked) → Contains more.items c → IsWhole directory.now P.means c }
-    requires room { vec_len items.old + vec_len more ≤ vec_capacity items.old }
-    requires order_room { vec_len more ≤ order.old.room }
-    requires places { vec_len items.old + vec_len more ≤ 2 ^ 32 }
-    requires ready { AllTables (Awaits more.items) tables.old }
-    ensures store { IsAtRest directory.now P.means items.new.items order.new.items tables.new }
-    ensures joined { set_of items.new.items ≡ Join (set_of items.old.items) (set_of more.items) }
-    ensures grows { length order.old.items ≤ length order.new.items }
+    requires awaiting { IsAwaiting more.items index.old }
+    ensures store { IsAtRest directory.now P.means index.new }
+    ensures joined { set_of index.new.items.items ≡ Join (set_of index.old.items.items) (set_of more.items) }
+    ensures grows { length index.old.order.items ≤ length index.new.order.items }
 {
     for item in more {
-        add_new(directory, items, order, tables, item);
+        add_new(directory, index, item);
     }
 }
 
 /// Adds the items that are not kept yet, and answers how many: all of them, or, with `Memory`, none.
 fn add_all<P: Program>(
     directory: &Directory,
-    items: &mut Vec<KeptItem<P>>,
-    order: &mut TieredVec<u32>,
-    tables: &mut [Table],
+    index: &mut Index<P>,
     more: Vec<KeptItem<P>>,
 ) -> Result<u64, Memory>
-    requires store { IsAtRest directory.now P.means items.old.items order.old.items tables.old }
+    requires store { IsAtRest directory.now P.means index.old }
     requires whole { (c : TheChecked) → Contains more.items c → IsWhole directory.now P.means c }
-    ensures store { IsAtRest directory.now P.means items.new.items order.new.items tables.new }
-    ensures told { IfOk result (λ new. count (set_of items.old.items) + new ≡ count (set_of items.new.items)) }
-    ensures joined { OnOk result (set_of items.new.items ≡ Join (set_of items.old.items) (set_of more.items)) }
-    ensures refused { OnErr result (items.new.items ≡ items.old.items) }
+    ensures store { IsAtRest directory.now P.means index.new }
+    ensures told { IfOk result (λ new. count (set_of index.old.items.items) + new ≡ count (set_of index.new.items.items)) }
+    ensures joined { OnOk result (set_of index.new.items.items ≡ Join (set_of index.old.items.items) (set_of more.items)) }
+    ensures refused { OnErr result (index.new.items.items ≡ index.old.items.items) }
 {
-    let before = order.len();
-    prepare_all(items, order, tables, &more)?;
-    add_each(directory, items, order, tables, more);
-    Ok((order.len() - before) as u64)
+    let before = index.order.len();
+    prepare_all(index, &more)?;
+    add_each(directory, index, more);
+    Ok((index.order.len() - before) as u64)
 }
 
 /// Adds copies of the items of another store that are not kept yet, and answers how many: all of them, or, with `Memory`, none.
@@ -216,20 +178,18 @@ pub(crate) fn merge<P: Program>(
     alloc: Global,
     directory: &Directory,
     pool: &mut EntryPool,
-    items: &mut Vec<KeptItem<P>>,
-    order: &mut TieredVec<u32>,
-    tables: &mut [Table],
+    index: &mut Index<P>,
     others: &[KeptItem<P>],
 ) -> Result<u64, Memory>
-    requires store { IsAtRest directory.now P.means items.old.items order.old.items tables.old }
+    requires store { IsAtRest directory.now P.means index.old }
     requires others { (c : TheChecked) → Contains others.now c → IsWhole directory.now P.means c }
-    ensures store { IsAtRest directory.now P.means items.new.items order.new.items tables.new }
-    ensures told { IfOk result (λ new. count (set_of items.old.items) + new ≡ count (set_of items.new.items)) }
-    ensures joined { OnOk result (set_of items.new.items ≡ Join (set_of items.old.items) (set_of others.now)) }
-    ensures refused { OnErr result (items.new.items ≡ items.old.items) }
+    ensures store { IsAtRest directory.now P.means index.new }
+    ensures told { IfOk result (λ new. count (set_of index.old.items.items) + new ≡ count (set_of index.new.items.items)) }
+    ensures joined { OnOk result (set_of index.new.items.items ≡ Join (set_of index.old.items.items) (set_of others.now)) }
+    ensures refused { OnErr result (index.new.items.items ≡ index.old.items.items) }
 {
-    let copies = copies_of_missing(alloc, pool, items, order, others)?;
-    let new = add_all(directory, items, order, tables, copies)?;
+    let copies = copies_of_missing(alloc, pool, index, others)?;
+    let new = add_all(directory, index, copies)?;
     Ok(new)
 }
 
@@ -238,19 +198,17 @@ pub(crate) fn take_all<P: Program>(
     alloc: Global,
     directory: &Directory,
     pool: &mut EntryPool,
-    items: &mut Vec<KeptItem<P>>,
-    order: &mut TieredVec<u32>,
-    tables: &mut [Table],
+    index: &mut Index<P>,
     checked: Vec<Checked<P>>,
 ) -> Result<u64, Memory>
-    requires store { IsAtRest directory.now P.means items.old.items order.old.items tables.old }
+    requires store { IsAtRest directory.now P.means index.old }
     requires checked { All (IsChecked directory.now P.means) checked.items }
-    ensures store { IsAtRest directory.now P.means items.new.items order.new.items tables.new }
-    ensures told { IfOk result (λ new. count (set_of items.old.items) + new ≡ count (set_of items.new.items)) }
-    ensures joined { OnOk result (set_of items.new.items ≡ Join (set_of items.old.items) (set_of checked.items)) }
-    ensures refused { OnErr result (items.new.items ≡ items.old.items) }
+    ensures store { IsAtRest directory.now P.means index.new }
+    ensures told { IfOk result (λ new. count (set_of index.old.items.items) + new ≡ count (set_of index.new.items.items)) }
+    ensures joined { OnOk result (set_of index.new.items.items ≡ Join (set_of index.old.items.items) (set_of checked.items)) }
+    ensures refused { OnErr result (index.new.items.items ≡ index.old.items.items) }
 {
-    let more = keep_missing(alloc, directory, pool, items, order, checked)?;
-    let new = add_all(directory, items, order, tables, more)?;
+    let more = keep_missing(alloc, directory, pool, index, checked)?;
+    let new = add_all(directory, index, more)?;
     Ok(new)
 }

@@ -9,9 +9,9 @@ use Rattle.indexed_store.proofs.listing.in_order.Goals as goal
 
 pub loop-n-preserved : goal.loop-n-preserved
 loop-n-preserved g c =
-    let order = c.args.order.now.items in
+    let order = c.args.index.now.order.items in
     let n = c.loop-n.n in
-    let named : ℕ → List Piece = λ i. named_item (slice_get c.args.items.now i) in
+    let named : ℕ → List Piece = λ i. named_item (slice_get c.args.index.now.items.items i) in
     let inside = rw c.len-n-end.ensures at c.loop-n-test.true in
     c.in_ok-lend_at.ensures (get_or order n 0) (slice_get-get_or order n 0 inside)
     ∙ ap (λ (l : List Piece). l ++ named (get_or order n 0)) c.loop-n.invariant

@@ -1,19 +1,33 @@
-use Rattle.node_tables.specs.Rooms.{IsReleased}
+use Rattle.std.proofs.Common.{refl, sym, ◌∙◌, arith}
+use Rattle.std.specs.List.{length_refill}
+use Rattle.node_tables.specs.Rooms.{IsReleased, IsRoomier}
 use Rattle.node_tables.proofs.Joined.{roomier_store}
 use Rattle.node_tables.proofs.Many.{held_stays, one_grows, rooms_released}
 use Rattle.node_tables.proofs.Reserved.{each_so}
+use Rattle.indexed_store.proofs.Owed.{stepped}
 use Rattle.indexed_store.proofs.merging.add_new.Goals as goal
 
 pub returns-in_default-clause-grown : goal.returns-in_default-clause-grown
-returns-in_default-clause-grown g c = held_stays c.args.items.now.items c.args.item.item (rw c.deref.ensures.value at c.in_default.ensures.there)
+returns-in_default-clause-grown g c = held_stays c.args.index.now.items.items c.args.item.item (rw c.deref.ensures.value at c.in_default.ensures.there)
 
 pub returns-in_default-clause-store : goal.returns-in_default-clause-store
 returns-in_default-clause-store g c =
-    roomier_store c.args.directory.now g.P.Program.means c.args.items.now.items c.args.order.now.items c.args.tables.now c.requires.store c.release_item.new.tables c.release_item.auto.tables
-    (each_so (IsReleased c.args.item) _ (λ t u h. h.roomier) c.args.tables.now c.release_item.new.tables c.release_item.ensures)
+    let released = stepped (IsReleased c.args.item) c.args.index.now _ c.release_item.new.tables c.deref_mut.ensures.value (c.release_item.auto.tables ∙ c.deref_mut.ensures.len) c.release_item.ensures in
+    let old = c.args.index.now.tables in
+    roomier_store c.args.directory.now g.P.Program.means c.args.index.now.items.items c.args.index.now.order.items old.items c.requires.store _ (sym (length_refill _ _ c.release_item.new.tables old.ok.0) ∙ old.ok.0)
+    (each_so (IsReleased c.args.item) IsRoomier (λ t u h. h.roomier) old.items _ released)
 
-pub returns-in_default-clause-rooms : goal.returns-in_default-clause-rooms
-returns-in_default-clause-rooms g c = rooms_released c.args.item c.args.tables.now c.release_item.new.tables c.release_item.ensures
+pub returns-in_default-clause-took : goal.returns-in_default-clause-took
+returns-in_default-clause-took g c = record {
+  tables = rooms_released c.args.item c.args.index.now.tables.items _ (stepped (IsReleased c.args.item) c.args.index.now _ c.release_item.new.tables c.deref_mut.ensures.value (c.release_item.auto.tables ∙ c.deref_mut.ensures.len) c.release_item.ensures);
+  len = omega arith;
+  capacity = refl;
+  grows = omega arith;
+  order = omega arith;
+}
+
+pub add-requires-clause-gap : goal.add-requires-clause-gap
+add-requires-clause-gap g c = rw c.deref.ensures.value at c.in-Err.ensures.gap
 
 pub returns-clause-grown : goal.returns-clause-grown
-returns-clause-grown g c = one_grows c.args.items.now.items c.add.new.items.items c.args.item c.add.ensures.items
+returns-clause-grown g c = one_grows c.args.index.now.items.items c.add.new.index.items.items c.args.item c.add.ensures.items

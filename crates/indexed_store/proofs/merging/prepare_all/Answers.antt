@@ -1,8 +1,23 @@
-use Rattle.indexed_store.proofs.Owed.{each_kept, holds_on_err}
+use Rattle.std.proofs.Common.{refl, ◌∙◌, arith}
+use Rattle.node_tables.specs.Rooms.{AreReady, IsRoomier, KeepsPromises}
+use Rattle.node_tables.proofs.Reserved.{any_err, on_err, on_ok}
+use Rattle.indexed_store.proofs.Owed.{each_kept, readied, stepped}
 use Rattle.indexed_store.proofs.merging.prepare_all.Goals as goal
 
 pub returns-in_err-reserve-clause-refused : goal.returns-in_err-reserve-clause-refused
-returns-in_err-reserve-clause-refused g c = holds_on_err c.from_residual.result _ (each_kept c.args.tables.now)
+returns-in_err-reserve-clause-refused g c = any_err c.from_residual.result _ (each_kept c.args.index.now.tables.items)
 
 pub returns-in_err-reserve-2-clause-refused : goal.returns-in_err-reserve-2-clause-refused
-returns-in_err-reserve-2-clause-refused g c = holds_on_err c.from_residual-in_err-reserve-2.result _ (each_kept c.args.tables.now)
+returns-in_err-reserve-2-clause-refused g c = any_err c.from_residual-in_err-reserve-2.result _ (each_kept c.args.index.now.tables.items)
+
+pub returns-clause-same : goal.returns-clause-same
+returns-clause-same g c = readied _ _ c.reserve.ensures.items c.reserve-2.ensures.same refl (stepped IsRoomier c.args.index.now _ c.promise_all.new.tables c.deref_mut.ensures.value (c.promise_all.auto.tables ∙ c.deref_mut.ensures.len) c.promise_all.ensures.same)
+
+pub returns-clause-ready : goal.returns-clause-ready
+returns-clause-ready g c = on_ok c.promise_all.result _ _ c.promise_all.ensures.ok (λ ready. record {
+  places = record { items = c.in_ok-reserve.ensures.ok; order = c.in_ok-reserve-2.ensures.room; most = omega arith };
+  tables = stepped (AreReady c.args.more.now) c.args.index.now _ c.promise_all.new.tables c.deref_mut.ensures.value (c.promise_all.auto.tables ∙ c.deref_mut.ensures.len) ready;
+})
+
+pub returns-clause-refused : goal.returns-clause-refused
+returns-clause-refused g c = on_err c.promise_all.result _ _ c.promise_all.ensures.refused (λ kept. stepped KeepsPromises c.args.index.now _ c.promise_all.new.tables c.deref_mut.ensures.value (c.promise_all.auto.tables ∙ c.deref_mut.ensures.len) kept)

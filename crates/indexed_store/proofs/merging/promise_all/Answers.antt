@@ -3,10 +3,9 @@ use Rattle.std.proofs.lemmas.List.{take_all, take_more}
 use Rattle.evidence_item.specs.Checking.{Checked}
 use Rattle.node_tables.specs.Rooms.{AreAllReleased, AreReady, IsReady, IsRoomier}
 use Rattle.node_tables.specs.Steps.{EachBecomes}
-use Rattle.node_tables.proofs.Reserved.{each_so, each_then, many_none, many_push, roomier_then}
-use Rattle.node_tables.proofs.Stepping.{ascend_still}
-use Rattle.indexed_store.proofs.Gathered.{on_ok}
-use Rattle.indexed_store.proofs.Owed.{all_back, on_err}
+use Rattle.node_tables.proofs.Reserved.{each_so, many_none, many_push, roomier_then}
+use Rattle.node_tables.proofs.Stepping.{ascend_still, each_then}
+use Rattle.indexed_store.proofs.Owed.{all_back}
 use Rattle.indexed_store.proofs.merging.promise_all.Goals as goal
 
 pub loop-n-init : goal.loop-n-init
@@ -15,16 +14,15 @@ loop-n-init g c = (c.requires, λ i u there. (u, there, many_none u))
 pub release_each-requires : goal.release_each-requires
 release_each-requires g c = ascend_still IsRoomier c.loop-n.tables c.promise_item.new.tables (λ t u step. step.node) c.promise_item.ensures.same c.loop-n.invariant.0
 
-pub returns-then-is_err-clause-same : goal.returns-then-is_err-clause-same
-returns-then-is_err-clause-same g c =
+pub returns-in_default-clause-same : goal.returns-in_default-clause-same
+returns-in_default-clause-same g c =
     each_then IsRoomier (AreAllReleased (take c.loop-n.n c.args.more.now)) IsRoomier (λ t u v a b. roomier_then t u v a b.roomier) c.args.tables.now c.promise_item.new.tables c.release_each.new.tables
     (each_then (AreReady (take c.loop-n.n c.args.more.now)) IsRoomier IsRoomier (λ t u v a b. roomier_then t u v a.roomier b) c.args.tables.now c.loop-n.tables c.promise_item.new.tables c.loop-n.invariant.1 c.promise_item.ensures.same)
     c.release_each.ensures
 
-pub returns-then-is_err-clause-refused : goal.returns-then-is_err-clause-refused
-returns-then-is_err-clause-refused g c =
-    all_back (take c.loop-n.n c.args.more.now) c.args.tables.now c.loop-n.tables c.promise_item.new.tables c.release_each.new.tables c.loop-n.invariant.1 c.promise_item.ensures.same
-    (on_err c.promise_item.result c.is_err.result _ c.promise_item.ensures.refused c.is_err.ensures.value c.if-is_err.true) c.release_each.ensures
+pub returns-in_default-clause-refused : goal.returns-in_default-clause-refused
+returns-in_default-clause-refused g c =
+    all_back (take c.loop-n.n c.args.more.now) c.args.tables.now c.loop-n.tables c.promise_item.new.tables c.release_each.new.tables c.loop-n.invariant.1 c.promise_item.ensures.same c.in_default.ensures.refused c.release_each.ensures
 
 pub loop-n-preserved : goal.loop-n-preserved
 loop-n-preserved g c = (
@@ -34,7 +32,7 @@ loop-n-preserved g c = (
       let x = c.index-more-n.result in
       let longer : take (k + 1) more ≡ take k more ++ x ∷ [] = take_more more k x c.loop-n-test.true ∙ ap (λ (y : Checked). take k more ++ y ∷ []) (sym c.index-more-n.is) in
       subst (λ (l : List Checked). EachBecomes (AreReady l) c.args.tables.now c.promise_item.new.tables) (sym longer)
-      (each_then (AreReady (take k more)) (IsReady x) (AreReady (take k more ++ x ∷ [])) (many_push (take k more) x) c.args.tables.now c.loop-n.tables c.promise_item.new.tables c.loop-n.invariant.1 (on_ok c.promise_item.result c.is_err.result _ c.promise_item.ensures.ok c.is_err.ensures.value c.if-is_err.false))),
+      (each_then (AreReady (take k more)) (IsReady x) (AreReady (take k more ++ x ∷ [])) (many_push (take k more) x) c.args.tables.now c.loop-n.tables c.promise_item.new.tables c.loop-n.invariant.1 c.in-Ok.ensures.ok)),
 )
 
 pub returns-clause-same : goal.returns-clause-same

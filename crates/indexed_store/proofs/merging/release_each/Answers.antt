@@ -3,9 +3,9 @@ use Rattle.std.proofs.lemmas.List.{take_all, take_more}
 use Rattle.evidence_item.specs.Checking.{Checked}
 use Rattle.node_tables.specs.Rooms.{AreAllReleased, IsReleased}
 use Rattle.node_tables.specs.Steps.{EachBecomes}
-use Rattle.node_tables.proofs.Reserved.{each_then}
-use Rattle.node_tables.proofs.Stepping.{ascend_still}
-use Rattle.indexed_store.proofs.Owed.{none_released, one_released}
+use Rattle.node_tables.proofs.Reserved.{back_push}
+use Rattle.node_tables.proofs.Stepping.{ascend_still, each_then}
+use Rattle.indexed_store.proofs.Owed.{none_released}
 use Rattle.indexed_store.proofs.merging.release_each.Goals as goal
 
 pub loop-item-init : goal.loop-item-init
@@ -19,7 +19,7 @@ loop-item-preserved g c =
     let longer : take (k + 1) items ≡ take k items ++ x ∷ [] = take_more items k x c.loop-item-test.true ∙ ap (λ (y : Checked). take k items ++ y ∷ []) (sym c.item-item.is) in (
       ascend_still (IsReleased x) c.loop-item.tables c.release_item.new.tables (λ t u step. step.roomier.node) c.release_item.ensures c.loop-item.invariant.0,
       subst (λ (l : List Checked). EachBecomes (AreAllReleased l) c.args.tables.now c.release_item.new.tables) (sym longer)
-          (each_then (AreAllReleased (take k items)) (IsReleased x) (AreAllReleased (take k items ++ x ∷ [])) (one_released (take k items) x) c.args.tables.now c.loop-item.tables c.release_item.new.tables c.loop-item.invariant.1 c.release_item.ensures),
+          (each_then (AreAllReleased (take k items)) (IsReleased x) (AreAllReleased (take k items ++ x ∷ [])) (back_push (take k items) x) c.args.tables.now c.loop-item.tables c.release_item.new.tables c.loop-item.invariant.1 c.release_item.ensures),
     )
 
 pub returns : goal.returns

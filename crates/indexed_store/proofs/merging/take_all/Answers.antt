@@ -6,5 +6,4 @@ use Rattle.indexed_store.proofs.merging.take_all.Goals as goal
 
 pub returns-clause-joined : goal.returns-clause-joined
 returns-clause-joined g c =
-    let kept = rw (c.deref.ensures.value) at c.in_ok-more.ensures.pieces in
-    c.in_ok-new.ensures.joined ∙ ap (λ (xs : List Piece). Join (set_of c.args.items.now.items) (insert_all none xs)) kept ∙ missing_joins c.args.items.now.items c.args.checked.items
+    c.in_ok-new.ensures.joined ∙ ap (λ (xs : List Piece). Join (set_of c.args.index.now.items.items) (insert_all none xs)) c.in_ok-more.ensures.pieces ∙ missing_joins c.args.index.now.items.items c.args.checked.items

@@ -6,7 +6,6 @@ use Rattle.indexed_store.proofs.indexed_store.IndexedStoreEvidence.includes.Goal
 
 pub returns : goal.returns
 returns g c =
-    let here : set_of c.deref.result.now ≡ c.args.self.now.items = ap set_of c.deref.ensures.value ∙ ap (λ (s : Contents). s.items) c.self.view_is in
-    let there : set_of c.deref-2.result.now ≡ c.args.other.now.items = ap set_of c.deref-2.ensures.value ∙ ap (λ (s : Contents). s.items) c.other.view_is in
+    let there : set_of c.deref.result.now ≡ c.args.other.now.items = ap set_of c.deref.ensures.value ∙ ap (λ (s : Contents). s.items) c.other.view_is in
     subst (λ (E : Items). IsTrue c.includes.result ↔ IsWithin E c.args.self.now.items) there
-    (subst (λ (E : Items). IsTrue c.includes.result ↔ IsWithin (set_of c.deref-2.result.now) E) here c.includes.ensures)
+    (subst (λ (s : Contents). IsTrue c.includes.result ↔ IsWithin (set_of c.deref.result.now) s.items) c.self.view_is c.includes.ensures)

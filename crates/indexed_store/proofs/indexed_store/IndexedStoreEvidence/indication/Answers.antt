@@ -1,11 +1,8 @@
-use Rattle.std.proofs.Common.{List, subst}
-use Rattle.evidence_item.specs.Checking.{Checked}
+use Rattle.std.proofs.Common.{subst}
 use Rattle.evidence_set.specs.Indications.{IsIndication}
 use Rattle.evidence.specs.Contents.{Contents}
-use Rattle.evidence_set.specs.ItemSets.{set_of}
 use Rattle.indexed_store.proofs.indexed_store.IndexedStoreEvidence.indication.Goals as goal
 
 pub returns-clause-told : goal.returns-clause-told
 returns-clause-told g c =
-    subst (λ (s : Contents). IsIndication s.directory g.P.Program.means s.items c.args.node c.indication.result) c.self.view_is
-    (subst (λ (l : List Checked). IsIndication c.self.inside.directory g.P.Program.means (set_of l) c.args.node c.indication.result) c.deref.ensures.value c.indication.ensures)
+    subst (λ (s : Contents). IsIndication s.directory g.P.Program.means s.items c.args.node c.indication.result) c.self.view_is c.indication.ensures
