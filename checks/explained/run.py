@@ -3,7 +3,8 @@
 
 Each line stands in a file of its own. Several stores are explained as they are, and as the one store that `node_sim merge` makes of them: but for the
 line that names it both say the same. Of each node that the store exposes, what `node_sim prove` writes is explained as well. Then each reason of a
-deviation, each form of proof and each kind of challenge: `cases.py` makes the inputs, and `cases.txt` has by hand what is told. Then lines that
+deviation, each form of proof and each kind of challenge: `cases.py` makes the inputs, and `cases.txt` has by hand what is told; and stores of many
+nodes, of which `drawn.py` has the logs that a page draws. Then lines that
 `mailbox_sim explain` refuses: `bad_inputs.py` has each, made of an example, with the line that tells it.
 
 Wants bulwynef, mailbox_sim and node_sim in crates/NAME/out, which `rt ci` and `rt run` leave. `checks/explained/run.py --write` stores
@@ -22,6 +23,7 @@ sys.dont_write_bytecode = True
 
 from bad_inputs import bad_inputs
 from cases import cases, mails
+from drawn import drawn
 
 TOP = os.path.dirname(os.path.dirname(os.path.dirname(os.path.abspath(__file__))))
 EXAMPLES, STORED = f"{TOP}/examples", f"{TOP}/examples/explained"
@@ -162,6 +164,19 @@ def told_of_cases(tell, program, made_of, wanted):
     return told
 
 
+def draws(build):
+    """A page of many nodes draws the logs that it should, and says how many it does not."""
+    for name, text, rows, quiet, further in drawn():
+        page = explained(build, "store", text, True)[1].decode()
+        picture = page[page.find('class="logs"') :]
+        found = [int(node) for node in re.findall(r'<text class="name"[^>]*>node (\d+)<', picture)]
+        hold(f"{name}: its rows", found == rows, found)
+        hold(f"{name}: each row has its log's entries", all(f'id="entry-{node}-' in page for node in rows))
+        for why, count in ("quotes a marked one", quiet), ("has no more rows than these", further):
+            told = re.findall(why + r": the logs of (\d+) node", page)
+            hold(f"{name}: {why}", [int(one) for one in told] == [count] * (count > 0), told)
+
+
 def main():
     builds = [build for build in BULWYNEF if os.path.isfile(build)]
     if not builds:
@@ -180,6 +195,7 @@ def main():
         told |= told_of_cases(lambda subject, text, page: explained(build, subject, text, page, ["--program", "mailbox"]), "Mailbox", mails, wanted)
         told_of_cases(lambda subject, text, page: run([*mailbox_sim, subject, *(["--html"] if page else [])], text), "Mailbox", mails, wanted)
         hold("each case is made", told == set(wanted), set(wanted) - told)
+        draws(build)
         for subject, text, wanted in refusals():
             status, out, error = run([*mailbox_sim, subject], text)
             hold(wanted, status == 1 and not out and error.decode() == wanted + "\n", error)

@@ -1,8 +1,8 @@
 //! Which entries of the known logs a picture shows, and where each of them lies.
 //!
 //! - [`Marks`] has the entries of which sentences speak.
-//! - [`choice_of`] chooses: of a small store every row, of a larger one those of nodes against which something stands and those that quote a
-//!   marked entry; of a long row a window around the marked entries.
+//! - [`wanted_of`] tells whose logs are needed, and [`choice_of`] chooses: of a small store every row, of a larger one those of nodes
+//!   against which something stands and those that quote a marked entry; of a long row a window around the marked entries.
 //! - A [`View`] is what is drawn, with what is known and how payloads are said. [`draw_linked`] draws an entry, [`draw_chain`] and
 //!   [`draw_arrow`] what leads to it; [`write_content`] says what it says. [`markup`] writes elements in short.
 //! - [`Grid`] puts the chosen entries into columns and lanes, and [`Layout`] gives each of them its corner.
@@ -12,11 +12,12 @@ pub use boxes::{draw_linked, kind_class, source_class};
 pub use choosing::{Choice, Drawn, PictureRow, choice_of};
 pub use describing::{entry_name, kind_of, sentence_name, source_of, write_content};
 pub use grid::Grid;
-pub use known_logs::{Cell, Detail, Place, Rows};
+pub use known_logs::{Cell, Detail, Place, Rows, Wanted};
 pub use layout::{Band, HEIGHT, LEFT, Layout, PAD, Point};
 pub use lines::{draw_arrow, draw_chain};
 pub use marks::{Marks, SentenceId};
 pub use page_text::{Attribute, Page, Piece, Tag};
+pub use ranking::wanted_of;
 pub use sentences::{Explanation, Voice};
 pub use view::View;
 

@@ -1,7 +1,7 @@
 //! Which entries the sentences speak of.
 
 use authenticators::NodeId;
-use known_logs::Place;
+use known_logs::{Numbered, Place};
 use sentences::{Explanation, NamedHash, NodeExplanation, Sentence};
 use std::alloc::{AllocError, Global};
 use std::collections::{BTreeMap, BTreeSet};
@@ -13,13 +13,6 @@ pub struct SentenceId {
     pub node: u32,
     /// The sentence's number, from 1.
     pub number: u64,
-}
-
-/// A number of a node's log of which a sentence names a hash.
-#[derive(Clone, Copy, Debug, PartialEq, Eq, PartialOrd, Ord)]
-struct Numbered {
-    node: NodeId,
-    seq: u64,
 }
 
 /// Of each number under which entries are marked the first sentence that marks it, and the hashes that sentences name.
@@ -97,6 +90,15 @@ impl Marks {
         Some(by_number)
     }
 
+    /// The numbers under which entries are marked.
+    pub(crate) fn numbers(&self, alloc: Global) -> Result<BTreeSet<Numbered>, AllocError> {
+        let mut numbers = BTreeSet::new(alloc);
+        for (node, entries) in self.by_node.iter() {
+            add_numbers(&mut numbers, NodeId(*node), entries)?;
+        }
+        Ok(numbers)
+    }
+
     /// The marked entries of a node, by number.
     pub(crate) fn of(&self, node: NodeId) -> Option<&BTreeMap<u64, SentenceId>> {
         self.by_node.get(&node.0)
@@ -106,4 +108,17 @@ impl Marks {
     pub(crate) fn sentence(&self, node: NodeId, seq: u64) -> Option<SentenceId> {
         self.of(node)?.get(&seq).copied()
     }
+}
+
+/// Adds the numbers of a node's entries.
+fn add_numbers(
+    to: &mut BTreeSet<Numbered>,
+    node: NodeId,
+    entries: &BTreeMap<u64, SentenceId>,
+) -> Result<(), AllocError> {
+    for seq in entries.keys() {
+        let seq = *seq;
+        to.insert(Numbered { node, seq })?;
+    }
+    Ok(())
 }

@@ -10,7 +10,7 @@ ghost use Rattle.explaining.specs.Explained.{ExplainsProof, TellsOf};
 use crate::engine::Followed;
 use authenticators::Directory;
 use evidence::Evidence;
-use explanation_pages::{page_of, page_of_listing, rows_of, rows_of_proof};
+use explanation_pages::{page_of, page_of_listing, rows_of, rows_of_proof, wanted_of};
 use explanations::{
     Basis, Conviction, Voice, explain_proof, explain_store, explained_text, verdict_text,
 };
@@ -35,7 +35,8 @@ fn store_page<P: Program, S: Evidence<P>, V: Voice>(
         voice,
     } = *followed;
     let explanation = explain_store::<P, S, V>(alloc, program, voice, store)?;
-    let rows = rows_of::<P, S>(alloc, store)?;
+    let wanted = wanted_of(alloc, &explanation)?;
+    let rows = rows_of::<P, S>(alloc, store, wanted)?;
     let page = page_of(alloc, voice, basis, &explanation, &rows, &[])?;
     Ok(page)
 }

@@ -8,7 +8,7 @@ use crate::legend::write_legend;
 use crate::picture::draw;
 use crate::sections::write_nodes;
 use crate::style::STYLE;
-use drawn_logs::markup::{attribute, begin, begin_section, count, end, text};
+use drawn_logs::markup::{attribute, begin_section, end};
 use drawn_logs::{Choice, Grid, Marks, PictureRow, View, choice_of};
 use known_logs::Rows;
 use page_text::Piece::{Inside, Line, Number, Open, Text};
@@ -67,27 +67,25 @@ fn write_cuts(page: &mut Page, rows: &[PictureRow]) -> Result<(), AllocError> {
     Ok(())
 }
 
-/// Writes that nodes have no row, and why.
+/// Writes why so many nodes have no row.
+fn write_why(page: &mut Page, why: &'static str, nodes: u64) -> Result<(), AllocError> {
+    if nodes == 0 {
+        return Ok(());
+    }
+    let end = if nodes == 1 { " node." } else { " nodes." };
+    write_note(
+        page,
+        &[Text(why.as_bytes()), Number(nodes), Text(end.as_bytes())],
+    )
+}
+
+/// Writes that nodes have no row.
 fn write_left_out(page: &mut Page, choice: &Choice) -> Result<(), AllocError> {
-    if choice.quiet > 0 {
-        begin(page, Tag::P, "cut")?;
-        text(
-            page,
-            "Not drawn, since nothing stands against them and no entry of them quotes a marked one: the logs of ",
-        )?;
-        count(page, choice.quiet, " node.", " nodes.")?;
-        end(page, Tag::P)?;
-    }
-    if choice.further > 0 {
-        begin(page, Tag::P, "cut")?;
-        text(
-            page,
-            "Not drawn, since a picture has no more rows than these: the logs of ",
-        )?;
-        count(page, choice.further, " node.", " nodes.")?;
-        end(page, Tag::P)?;
-    }
-    Ok(())
+    let quiet =
+        "Not drawn, since nothing stands against them and no entry of them quotes a marked one: the logs of ";
+    write_why(page, quiet, choice.quiet)?;
+    let further = "Not drawn, since a picture has no more rows than these: the logs of ";
+    write_why(page, further, choice.further)
 }
 
 /// Writes the drawing with its legend, and which of its rows are cut.

@@ -17,13 +17,8 @@ const MOST_ENTRIES: usize = 60;
 
 /// How many nodes are of the indication.
 pub(crate) fn count_of(nodes: &[NodeExplanation], indication: Indication) -> u64 {
-    let mut count: u64 = 0;
-    for told in nodes {
-        if told.indication == indication {
-            count = count.saturating_add(1);
-        }
-    }
-    count
+    let of_it = nodes.iter().filter(|told| told.indication == indication);
+    of_it.count() as u64
 }
 
 /// How many nodes of the indication stand open: of exposed ones first, then of suspected ones, and of trusted ones none.

@@ -12,6 +12,7 @@ use page_text::{Attribute, Page, Tag};
 use sentences::{Mark, NodeExplanation, Sentence, Voice};
 use std::alloc::{AllocError, Global};
 use std::collections::BTreeSet;
+use std::ops::Range;
 
 /// Writes a link to a marked entry, where it is drawn.
 fn write_mark(page: &mut Page, choice: &Choice, mark: &Mark) -> Result<(), AllocError> {
@@ -167,39 +168,21 @@ fn write_node<V: Voice>(
     write_row(page, view, told.node)
 }
 
-/// Writes the sections of the first nodes of the indication, so many.
-fn write_open<V: Voice>(
+/// Writes the sections of the nodes of the indication that have these numbers among them, from 0.
+fn write_some<V: Voice>(
     page: &mut Page,
     view: &View<'_, V>,
     nodes: &[NodeExplanation],
     indication: Indication,
-    open: u64,
+    numbers: Range<u64>,
 ) -> Result<(), AllocError> {
-    let mut left = open;
-    for told in nodes {
-        if told.indication == indication && left > 0 {
-            write_node(page, view, told)?;
-            left = left.saturating_sub(1);
-        }
-    }
-    Ok(())
-}
-
-/// Writes the sections of the nodes of the indication behind so many.
-fn write_behind<V: Voice>(
-    page: &mut Page,
-    view: &View<'_, V>,
-    nodes: &[NodeExplanation],
-    indication: Indication,
-    open: u64,
-) -> Result<(), AllocError> {
-    let mut left = open;
+    let mut number: u64 = 0;
     for told in nodes {
         if told.indication == indication {
-            if left == 0 {
+            if numbers.contains(&number) {
                 write_node(page, view, told)?;
             }
-            left = left.saturating_sub(1);
+            number = number.saturating_add(1);
         }
     }
     Ok(())
@@ -213,8 +196,9 @@ fn write_all_of<V: Voice>(
     indication: Indication,
 ) -> Result<(), AllocError> {
     let open = open_of(nodes, indication);
-    write_open(page, view, nodes, indication, open)?;
-    let folded = count_of(nodes, indication).saturating_sub(open);
+    let all = count_of(nodes, indication);
+    write_some(page, view, nodes, indication, 0..open)?;
+    let folded = all.saturating_sub(open);
     if folded == 0 {
         return Ok(());
     }
@@ -227,7 +211,7 @@ fn write_all_of<V: Voice>(
     text(page, fold_words(indication))?;
     text(page, if folded == 1 { " node" } else { " nodes" })?;
     end(page, Tag::Summary)?;
-    write_behind(page, view, nodes, indication, open)?;
+    write_some(page, view, nodes, indication, open..all)?;
     end(page, Tag::Details)
 }
 

@@ -83,15 +83,15 @@ a:hover .box{stroke:var(--link)}
 .head{fill:var(--arrow)}
 @media screen{td.hash code{white-space:nowrap}}
 @page{size:A4 landscape;margin:12mm}
-@media print{:root{color-scheme:light;
+@media print{:root{color-scheme:light;font-size:12px;
 --ground:#fff;--card:#fff;--ink:#000;--muted:#333;--rule:#999;--link:#000;--line:#555;--arrow:#222;
 --alarm:#a3000b;--alarm-ground:#fbe4e2;--warn:#6b4100;--warn-ground:#fbf0d8;--good:#14522a;--good-ground:#e6f3e9;
 --init:#e4e2da;--send:#cfe1fb;--recv:#cdeed6;--timer:#fae7b5;--checkpoint:#e3d8f8;--other:#e9e9e9;--bare:#fff}
-body{font-size:11pt}
+body{font-size:9.5pt;line-height:1.4}
 header,main{max-width:none;padding:0}
 section{border:0;border-top:1px solid var(--rule);border-radius:0;padding:.6rem 0;margin:0}
 .scroll{overflow:visible}
-.names,.more,.start,.whole{display:none}
+.strip>.names,.more,.start,.whole{display:none}
 .strip{display:block;width:auto}
 .strip>.logs{min-width:0;max-width:100%;max-height:175mm;height:auto;margin:0}
 .rest{display:inline}

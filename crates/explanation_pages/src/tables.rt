@@ -51,10 +51,12 @@ fn write_known<V: Voice>(
     one: &Drawn,
     cell: &Cell,
 ) -> Result<(), AllocError> {
-    let kind = kind_of(view.rows, one);
-    element(page, Tag::Td, &[Text(kind.as_bytes())])?;
-    let source = source_of(view.rows, cell);
-    element(page, Tag::Td, &[Text(source.as_bytes())])?;
+    element(page, Tag::Td, &[Text(kind_of(view.rows, one).as_bytes())])?;
+    element(
+        page,
+        Tag::Td,
+        &[Text(source_of(view.rows, cell).as_bytes())],
+    )?;
     begin(page, Tag::Td, "content")?;
     write_content(page, view, one)?;
     page.write(&[Close(Tag::Td)])?;

@@ -14,6 +14,10 @@ use std::alloc::Global;
 
 /// The items' statements are noted, each with its node, where the directory lists that.
 impl Walker for Places {
+    fn wants(&self, _node: NodeId) -> bool {
+        false
+    }
+
     fn statement(
         &mut self,
         place: &Place,

@@ -3,6 +3,7 @@
 use crate::known::Known;
 use crate::rows::Rows;
 use crate::walking::{walk, walk_auth, walk_segment};
+use crate::wanted::Wanted;
 use authenticators::Directory;
 use evidence::Evidence;
 use item_forms::Segment;
@@ -26,12 +27,29 @@ fn note_item<P: Program, S: Evidence<P>>(
     walk(known, &checked)
 }
 
-/// What is known of the logs of nodes from the items of a store, in one pass over them. No signature is verified and no content
-/// hashed where that was found before.
-pub fn rows_of<P: Program, S: Evidence<P>>(alloc: Global, store: &S) -> Result<Rows, Memory> {
-    let mut known = Known::new(alloc);
+/// What is known from the items of the store.
+fn note_items<P: Program, S: Evidence<P>>(
+    alloc: Global,
+    known: &mut Known,
+    store: &S,
+) -> Result<(), Memory> {
     for n in 0..store.count() {
-        note_item::<P, S>(alloc, &mut known, store, n)?;
+        note_item::<P, S>(alloc, known, store, n)?;
+    }
+    Ok(())
+}
+
+/// What is known of the logs that are wanted from the items of a store, in one pass over them, and in a second one where nodes quote what
+/// was given that were not wanted before. No signature is verified and no content hashed where that was found before.
+pub fn rows_of<P: Program, S: Evidence<P>>(
+    alloc: Global,
+    store: &S,
+    wanted: Wanted,
+) -> Result<Rows, Memory> {
+    let mut known = Known::new(alloc, wanted);
+    note_items::<P, S>(alloc, &mut known, store)?;
+    if known.turn(alloc)? {
+        note_items::<P, S>(alloc, &mut known, store)?;
     }
     known.into_rows(alloc)
 }
@@ -62,7 +80,7 @@ fn note_segment(
 /// What is known of the logs of nodes from the parts of a proof. The statements are taken as they are: whether the proof is valid is
 /// not asked here.
 pub fn rows_of_proof(alloc: Global, directory: &Directory, proof: &Proof) -> Result<Rows, Memory> {
-    let mut known = Known::new(alloc);
+    let mut known = Known::new(alloc, Wanted::all(alloc));
     match proof.parts() {
         Parts::TwoAuths(first, second) => {
             walk_auth(&mut known, first)?;

@@ -3,16 +3,19 @@
 use crate::detail::Detail;
 use crate::rows::{Cell, Place, Rows};
 use crate::walking::Walker;
+use crate::wanted::{Numbered, Wanted};
 use authenticators::NodeId;
 use outcome::Memory;
 use sentences::{Role, Said};
 use std::alloc::Global;
-use std::collections::BTreeMap;
 use std::collections::btree_map::Entry;
+use std::collections::{BTreeMap, BTreeSet};
 
-/// What is known so far.
+/// What is known so far of the logs that are wanted.
 #[derive(Debug, Drop)]
 pub(crate) struct Known {
+    wanted: Wanted,
+    quoting: BTreeSet<u32>,
     cells: BTreeMap<Place, Cell>,
     details: Vec<Detail>,
     quoted_places: BTreeMap<Place, Place>,
@@ -20,8 +23,10 @@ pub(crate) struct Known {
 
 impl Known {
     /// Nothing is known.
-    pub(crate) fn new(alloc: Global) -> Known {
+    pub(crate) fn new(alloc: Global, wanted: Wanted) -> Known {
         Known {
+            wanted,
+            quoting: BTreeSet::new(alloc),
             cells: BTreeMap::new(alloc),
             details: Vec::new(alloc),
             quoted_places: BTreeMap::new(alloc),
@@ -61,6 +66,19 @@ impl Known {
         })
     }
 
+    /// Turns from the logs that were wanted to those of nodes that quote, as far as they are wanted now. Answers whether there are such.
+    pub(crate) fn turn(&mut self, alloc: Global) -> Result<bool, Memory> {
+        let mut further = BTreeSet::new(alloc);
+        for node in self.quoting.iter() {
+            if further.len() < self.wanted.further && !self.wanted.has(NodeId(*node)) {
+                further.insert(*node)?;
+            }
+        }
+        let are_any = !further.is_empty();
+        self.wanted.nodes = Some(further);
+        Ok(are_any)
+    }
+
     /// All of it, by node and by number.
     pub(crate) fn into_rows(self, alloc: Global) -> Result<Rows, Memory> {
         let mut by_node = BTreeMap::new(alloc);
@@ -72,17 +90,25 @@ impl Known {
             by_node,
             details: self.details,
             quoted_places: self.quoted_places,
+            quoting: self.quoting,
         })
     }
 }
 
 impl Walker for Known {
+    fn wants(&self, node: NodeId) -> bool {
+        self.wanted.has(node)
+    }
+
     fn statement(
         &mut self,
         place: &Place,
         _role: Role,
         detail: Option<&Detail>,
     ) -> Result<(), Memory> {
+        if !self.wanted.has(place.node) {
+            return Ok(());
+        }
         match detail {
             Some(detail) => self.note_entry(place, false, detail),
             None => self.note(Cell {
@@ -98,7 +124,16 @@ impl Walker for Known {
     }
 
     fn quote(&mut self, entry: &Place, quoted: &Place) -> Result<(), Memory> {
-        self.quoted_places.insert(*entry, *quoted)?;
+        let number = Numbered {
+            node: quoted.node,
+            seq: quoted.seq,
+        };
+        if self.wanted.quoted.contains(&number) {
+            self.quoting.insert(entry.node.0)?;
+        }
+        if self.wanted.has(entry.node) {
+            self.quoted_places.insert(*entry, *quoted)?;
+        }
         Ok(())
     }
 }

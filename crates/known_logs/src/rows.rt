@@ -5,7 +5,7 @@ use authenticators::NodeId;
 use log_chain::Hash;
 use outcome::Memory;
 use std::alloc::Global;
-use std::collections::BTreeMap;
+use std::collections::{BTreeMap, BTreeSet};
 
 /// A number and a hash of a node's log.
 #[derive(Clone, Copy, Debug, PartialEq, Eq, PartialOrd, Ord)]
@@ -28,12 +28,14 @@ pub struct Cell {
     pub(crate) detail: Option<usize>,
 }
 
-/// What is known of each node's log: its entries by number, each once. Those that were signed, and stand in no segment, are there too.
+/// What is known of the logs that are wanted: their entries by number, each once. Those that were signed, and stand in no segment, are
+/// there too.
 #[derive(Debug, Drop)]
 pub struct Rows {
     pub(crate) by_node: BTreeMap<u32, Vec<Cell>>,
     pub(crate) details: Vec<Detail>,
     pub(crate) quoted_places: BTreeMap<Place, Place>,
+    pub(crate) quoting: BTreeSet<u32>,
 }
 
 impl Cell {
@@ -71,6 +73,11 @@ impl Rows {
     /// What an entry says, where it is known.
     pub fn detail(&self, cell: &Cell) -> Option<Detail> {
         self.details.get(cell.detail?).copied()
+    }
+
+    /// Whether an entry of the node quotes one of those that [`Wanted::quoted`](crate::Wanted) names, also where its own log is not wanted.
+    pub fn quotes_named(&self, node: NodeId) -> bool {
+        self.quoting.contains(&node.0)
     }
 
     /// The nodes of whose logs something is known, in ascending order.

@@ -14,7 +14,10 @@ use sentences::Role;
 
 /// What is made of the statements and the entries of an item.
 pub trait Walker {
-    /// A statement stands in the item, in this role. What its entry says is given where the item says it.
+    /// Whether it is wanted what the entries of this node say. If not, they are not gone over, and nothing is read of them.
+    fn wants(&self, node: NodeId) -> bool;
+
+    /// A statement stands in the item, in this role. What its entry says is given where that is wanted and the item says it.
     fn statement(
         &mut self,
         place: &Place,
@@ -51,6 +54,22 @@ fn walk_audit<W: Walker>(walker: &mut W, challenge: &AuditChallenge) -> Result<(
     walker.statement(&place, Role::Named, None)
 }
 
+/// The statement of a SEND entry at this place, behind that hash.
+fn say_sent<W: Walker>(
+    walker: &mut W,
+    place: &Place,
+    role: Role,
+    prev: Hash,
+    to: NodeId,
+    payload: &[u8],
+) -> Result<(), Memory> {
+    if !walker.wants(place.node) {
+        return walker.statement(place, role, None);
+    }
+    let detail = Detail::of_send(prev, to, payload);
+    walker.statement(place, role, Some(&detail))
+}
+
 /// The sender's statement of a message, whose SEND entry has this hash.
 fn walk_sent<W: Walker>(
     walker: &mut W,
@@ -60,8 +79,7 @@ fn walk_sent<W: Walker>(
 ) -> Result<(), Memory> {
     let place = stated(message.from, message.seq, hash);
     let payload = message.payload.as_slice();
-    let detail = Detail::of_send(message.prev, message.to, payload);
-    walker.statement(&place, role, Some(&detail))
+    say_sent(walker, &place, role, message.prev, message.to, payload)
 }
 
 /// The two statements of an acknowledgement: the SEND entry and the RECV entry have these hashes.
@@ -76,6 +94,9 @@ fn walk_ack<W: Walker>(
     let place = stated(message.to, ack.seq, received);
     let quoted = stated(message.from, message.seq, sent);
     walker.quote(&place, &quoted)?;
+    if !walker.wants(place.node) {
+        return walker.statement(&place, Role::Acknowledging, None);
+    }
     let detail = Detail::of_recv(ack.prev, &quoted, message.payload.as_slice());
     walker.statement(&place, Role::Acknowledging, Some(&detail))
 }
@@ -92,26 +113,45 @@ fn walk_quoted<W: Walker>(
     };
     let sent = stated(receipt.from, receipt.seq, hash);
     walker.quote(place, &sent)?;
-    let detail = Detail::of_send(receipt.prev, place.node, receipt.payload);
+    let by = place.node;
     let role = Role::Quoted {
-        by: place.node,
+        by,
         entry: entry.seq,
     };
-    walker.statement(&sent, role, Some(&detail))
+    say_sent(walker, &sent, role, receipt.prev, by, receipt.payload)
 }
 
-/// An entry of a segment, at this place and behind that hash, and what it quotes.
-fn walk_entry<W: Walker>(
+/// What the entries of a segment quote. They have these hashes, and quote what has those.
+fn walk_quotes<W: Walker>(
     walker: &mut W,
-    place: &Place,
-    prev: Hash,
-    entry: &Entry,
-    quoted: Option<Hash>,
+    segment: &Segment,
+    hashes: &[Hash],
+    quotes: &[Option<Hash>],
 ) -> Result<(), Memory> {
-    if let Some(hash) = quoted {
-        walk_quoted(walker, place, entry, hash)?;
+    let entries = segment.entries.as_slice();
+    for ((entry, hash), quoted) in entries.iter().zip(hashes).zip(quotes) {
+        if let Some(sent) = quoted {
+            let place = stated(segment.node, entry.seq, *hash);
+            walk_quoted(walker, &place, entry, *sent)?;
+        }
     }
-    walker.entry(place, &Detail::of_entry(prev, entry))
+    Ok(())
+}
+
+/// The entries of a segment, which have these hashes, and what they say.
+fn walk_entries<W: Walker>(
+    walker: &mut W,
+    segment: &Segment,
+    hashes: &[Hash],
+) -> Result<(), Memory> {
+    let entries = segment.entries.as_slice();
+    let mut prev = segment.prev;
+    for (entry, hash) in entries.iter().zip(hashes) {
+        let place = stated(segment.node, entry.seq, *hash);
+        walker.entry(&place, &Detail::of_entry(prev, entry))?;
+        prev = *hash;
+    }
+    Ok(())
 }
 
 /// The entries of a segment, which have these hashes and quote what has those, and the statement that it ends with.
@@ -121,15 +161,13 @@ pub(crate) fn walk_segment<W: Walker>(
     hashes: &[Hash],
     quotes: &[Option<Hash>],
 ) -> Result<(), Memory> {
-    let entries = segment.entries.as_slice();
-    let mut prev = segment.prev;
-    for ((entry, hash), quoted) in entries.iter().zip(hashes).zip(quotes) {
-        let place = stated(segment.node, entry.seq, *hash);
-        walk_entry(walker, &place, prev, entry, *quoted)?;
-        prev = *hash;
+    walk_quotes(walker, segment, hashes, quotes)?;
+    if walker.wants(segment.node) {
+        walk_entries(walker, segment, hashes)?;
     }
+    let end = hashes.last().copied().unwrap_or(segment.prev);
     match segment.last_seq() {
-        Some(seq) => walker.statement(&stated(segment.node, seq, prev), Role::End, None),
+        Some(seq) => walker.statement(&stated(segment.node, seq, end), Role::End, None),
         None => Ok(()),
     }
 }
