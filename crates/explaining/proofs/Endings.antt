@@ -1,11 +1,11 @@
--- How the engine ends: its input is not read, or is refused, or what it says is written, or the write fails.
+-- How the engine ends where its input is not read, or is refused, or where the write fails.
 use Rattle.std.proofs.Common.{◌≡◌, ◌+◌, ◌<◌, ◌≤◌, ◌⊎◌, ℕ, Global, List, Option, Result, Ok, Err, Vec, ap, arith, inl, inr, refl, subst, sym}
-use Rattle.std.specs.Io.KnownBytes.{Appends}
 use Rattle.commands.specs.declared.engine.TheConstants.{LONGEST_INPUT, MOST_READS}
 use Rattle.commands.specs.declared.fault.Fault.{Fault}
 use Rattle.commands.specs.declared.fault.Fault.TheVariants as fault
 use Rattle.commands.specs.Devices.{IsReadFault, MeetsNoEnd, Reader, Writer}
 use Rattle.commands.specs.Engines.{IsInput, Ran}
+use Rattle.commands.proofs.Endings as ends
 use Rattle.explaining.specs.within.Steps.{IsOwn, is_devices}
 
 -- the same refusal, told of a result
@@ -71,31 +71,5 @@ module _ {W : Type 0} (command : List ℕ → Result (List ℕ) Fault → Type 0
       writes_well = λ _. refl;
     }
 
-    module _ (text : List ℕ) (told : command input (Ok text)) (after : W) where
-      pub written : Appends (seen before).written (seen after).written text → (seen after).failures ≡ (seen before).failures → Ran command (Ok tt) old new seen before after
-      written appended well = record {
-        done = (input, text, read, told, appended);
-        refused = tt;
-        nothing_written = λ _. tt;
-        few_reads = few;
-        one_end = ended;
-        few_ends = omega (arith, ended);
-        read_failed = λ e. absurd cc;
-        reads_well = λ _. quiet;
-        write_failed = λ e. absurd cc;
-        writes_well = λ _. well;
-      }
-
-      pub not_written : (f : Fault) → f ≡ fault.WriteFailed → (seen before).failures < (seen after).failures → Ran command (Refused f) old new seen before after
-      not_written f is failed = subst (λ (g : Fault). Ran command (Refused g) old new seen before after) (sym is) (record {
-        done = tt;
-        refused = inr (input, read, inr (refl, text, told));
-        nothing_written = λ no. absurd (no refl);
-        few_reads = few;
-        one_end = tt;
-        few_ends = omega (arith, ended);
-        read_failed = λ e. let same : fault.WriteFailed ≡ fault.ReadFailed = fault_of fault.WriteFailed fault.ReadFailed e in absurd cc;
-        reads_well = λ _. quiet;
-        write_failed = λ _. failed;
-        writes_well = λ no. absurd (no refl);
-      })
+    pub not_written : (text : List ℕ) → command input (Ok text) → (after : W) → (f : Fault) → f ≡ fault.WriteFailed → (seen before).failures < (seen after).failures → Ran command (Refused f) old new seen before after
+    not_written text told after f is failed = subst (λ (g : Fault). Ran command (Refused g) old new seen before after) (sym is) (ends.not_written command old new seen before few quiet ended input read text told after failed)

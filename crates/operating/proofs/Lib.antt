@@ -1,5 +1,5 @@
 mod Combined
-mod Endings
+pub mod Endings
 mod Exposing
 mod Extracts
 mod Gathered

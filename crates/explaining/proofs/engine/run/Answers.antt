@@ -3,14 +3,15 @@ use Rattle.std.proofs.lemmas.Result.{err_from_is_err_and}
 use Rattle.std.specs.Io.KnownBytes.{Appends}
 use Rattle.commands.specs.Engines.{IsInput}
 use Rattle.explaining.specs.Explained.{Explain}
-use Rattle.explaining.proofs.Endings.{not_written, refused, unread, written}
+use Rattle.commands.proofs.Endings.{written}
+use Rattle.explaining.proofs.Endings.{not_written, refused, unread}
 use Rattle.explaining.proofs.engine.run.Goals as goal
 
 pub returns-in_err-input : goal.returns-in_err-input
 returns-in_err-input g c =
     let p = err_from_is_err_and c.from_residual.result c.from_residual.ensures.1 in
     rw (p.1, p.2) (unread (Explain g.P.Program.means c.args.request) (g.R.Source.seen c.args.reader.now) (g.R.Source.seen c.read_input.new.reader) g.W.Sink.seen c.args.writer.now c.in_err-input.ensures.few
-    c.in_err-input.field-0.0 c.in_err-input.ensures.refused c.in_err-input.ensures.unended c.in_err-input.ensures.failed c.in_err-input.ensures.quiet)
+    c.in_err-input.field-0.0 c.in_err-input.ensures.refused c.in_err-input.ensures.ended c.in_err-input.ensures.failed c.in_err-input.ensures.quiet)
 
 pub returns-in_err-text : goal.returns-in_err-text
 returns-in_err-text g c =

@@ -7,7 +7,7 @@ use Rattle.operating.specs.declared.refusal.Refusal.{Refusal}
 use Rattle.operating.specs.FileTexts.{SaysDirectory}
 use Rattle.operating.specs.GatheredFiles.{IsOfFile, RefusesDirectory}
 use Rattle.bulwynef.specs.Explained.{ExplainDirectory}
-use Rattle.bulwynef.proofs.Endings.{files_refused, not_answered, not_written, written}
+use Rattle.operating.proofs.Endings.{files_refused, not_answered, not_written, written}
 use Rattle.bulwynef.proofs.explaining_files.directory.run.Goals as goal
 
 abbrev reads : ℕ → (ℕ → Option (List ℕ)) → Listing → Type 0

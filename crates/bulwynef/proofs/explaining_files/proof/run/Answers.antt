@@ -4,7 +4,7 @@ use Rattle.std.specs.Io.KnownBytes.{Appends}
 use Rattle.operating.specs.declared.asking.Ending.TheVariants as ending
 use Rattle.operating.specs.ConvictingFiles.{AreConvicting, RefusesConviction}
 use Rattle.bulwynef.specs.Explained.{ExplainProof}
-use Rattle.bulwynef.proofs.Endings.{files_refused, not_written, written}
+use Rattle.operating.proofs.Endings.{files_refused, not_written, written}
 use Rattle.bulwynef.proofs.explaining_files.proof.run.Goals as goal
 
 pub returns-in_err-text : goal.returns-in_err-text
