@@ -6,6 +6,8 @@ mod answers;
 #[cfg(test)]
 mod calls;
 #[cfg(test)]
+mod closings;
+#[cfg(test)]
 mod demands;
 #[cfg(test)]
 mod digests;

@@ -15,6 +15,4 @@ pub use workers::map_claimed;
 
 mod counter;
 mod rule;
-#[cfg(test)]
-mod tests;
 mod workers;

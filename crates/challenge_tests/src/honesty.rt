@@ -1,0 +1,4 @@
+//! Tests of the public calls of `accuracy`.
+
+mod calls;
+mod receipts;

@@ -1,5 +1,0 @@
-//! Tests of the public calls of `containers`.
-#![tactic(auto)]
-
-#[cfg(test)]
-mod calls;

@@ -1,0 +1,4 @@
+//! Tests of the public calls of `evidence_set`.
+
+mod answers;
+mod calls;

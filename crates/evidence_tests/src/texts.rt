@@ -1,0 +1,3 @@
+//! Tests of the public calls of `containers`.
+
+mod calls;

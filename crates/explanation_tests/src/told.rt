@@ -1,0 +1,6 @@
+//! Tests of what `explanations` tells.
+
+mod challenges;
+mod contradictions;
+mod deviations;
+mod told;

@@ -1,0 +1,13 @@
+//! Tests of the public calls of the foundations, of signatures and of logs.
+#![tactic(auto)]
+
+#[cfg(test)]
+mod logs;
+#[cfg(test)]
+mod numbers;
+#[cfg(test)]
+mod signatures;
+#[cfg(test)]
+mod tiers;
+#[cfg(test)]
+mod words;

@@ -1,0 +1,3 @@
+//! Values of each coded type, read from bytes and written again.
+
+mod tests;

@@ -1,7 +1,0 @@
-use Rattle.std.proofs.Common.{◌≡◌, map}
-use Rattle.std.specs.List.{All}
-use Rattle.evidence.specs.Contents.{Contents}
-use Rattle.witness_core_tests.proofs.testing.make_stores.Given as goal
-
-abbrev pub invariant-loop : goal.invariant-loop
-invariant-loop g l = All (λ (s : Contents). s.directory ≡ l.directory) (map g.S.Evidence.contents l.stores.items)

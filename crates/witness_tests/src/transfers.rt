@@ -1,0 +1,4 @@
+//! Tests of the public calls of `transfer`.
+
+mod calls;
+mod refusals;
