@@ -24,7 +24,7 @@ use Rattle.containers.specs.CheckedItems.{checked_of, is_before}
 use Rattle.containers.specs.Container.{Refusal, as_fault, import_of, items_at, of_item, refused_unless}
 use Rattle.containers.specs.DecodedItems.{decoded_of}
 use Rattle.containers.specs.Refusals.{IsBehindFirst, of_checking, of_reading}
-use Rattle.containers.specs.Rest.{Reads, ended, rest_of}
+use Rattle.containers.specs.Rest.{ItemReader, ended, rest_of}
 use Rattle.containers.proofs.CheckedLists.{above_none}
 use Rattle.containers.proofs.Rest.{Read, behind_first, count_behind, from_text, header_opened, item_read, magic_behind}
 
@@ -79,7 +79,7 @@ checks ds false (Ok x) y valid e = absurd cc
 checks ds b (Err f) y valid e = absurd cc
 
 -- What the one reads and what passes, the other reads.
-abbrev Yields : (Fields → Type 0) → Reads → Reads → Type 0
+abbrev Yields : (Fields → Type 0) → ItemReader → ItemReader → Type 0
 Yields Passes one other = (last text : List ℕ) (x : Fields) → Passes x → one last text ≡ Ok x → other last text ≡ Ok x
 
 pub is_decoded : (ds : Listing) → Yields (λ x. Unit {0}) (checked_of ds) decoded_of
@@ -92,7 +92,7 @@ is_checked ds last text x passes e = checks ds (is_before last text) (item_of te
 
 -- ---- all of them
 
-module _ (Passes : Fields → Type 0) (one other : Reads) (yields : Yields Passes one other) where
+module _ (Passes : Fields → Type 0) (one other : ItemReader) (yields : Yields Passes one other) where
   -- those that were read before are among all
   abbrev Keeps : ℕ → Type 0
   Keeps n = (last : List ℕ) (before : List Fields) (bytes : List ℕ) (out : List Fields × List ℕ) → items_at one n last before bytes ≡ Ok out → All Passes out.0 → All Passes before

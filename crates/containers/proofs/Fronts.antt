@@ -14,7 +14,7 @@ use Rattle.containers.specs.Container.{as_fault, fed_with, import_of}
 use Rattle.containers.specs.Refusals.{IsOfItems, Refuses, fault_at}
 use Rattle.containers.specs.Stages.{State, begun, len_of, items_on, state_of, go_on}
 use Rattle.containers.specs.within.Going.{at_end}
-use Rattle.containers.specs.Rest.{Reads}
+use Rattle.containers.specs.Rest.{ItemReader}
 use Rattle.containers.specs.within.Seen.{fed_of}
 use Rattle.containers.proofs.Ending.{container_ends}
 use Rattle.containers.proofs.Fed.{kept}
@@ -29,14 +29,14 @@ abbrev failed : ImportFault → Result (State Fields) ImportFault
 failed f = Err f
 
 -- an item's reading that tells this fault of each
-abbrev refusing : Cause → Reads
+abbrev refusing : Cause → ItemReader
 refusing c = λ last text. Err c
 
 -- Where the text leads it leads whatever the items are; or it has an item.
-abbrev LeadsSo : (Reads → Result (State Fields) ImportFault) → State Fields → Type 0
-LeadsSo led s = ((r : Reads) → led r ≡ Ok s) ⊎ ((c : Cause) → led (refusing c) ≡ Err (fault_at 0 c))
+abbrev LeadsSo : (ItemReader → Result (State Fields) ImportFault) → State Fields → Type 0
+LeadsSo led s = ((r : ItemReader) → led r ≡ Ok s) ⊎ ((c : Cause) → led (refusing c) ≡ Err (fault_at 0 c))
 
-items_lead : (n : ℕ) (bytes : List ℕ) (reads : Reads) (s : State Fields) → items_on reads n [] [] bytes ≡ Ok s → LeadsSo (λ r. items_on r n [] [] bytes) s
+items_lead : (n : ℕ) (bytes : List ℕ) (reads : ItemReader) (s : State Fields) → items_on reads n [] [] bytes ≡ Ok s → LeadsSo (λ r. items_on r n [] [] bytes) s
 items_lead zero [] reads s e = inl (λ r. none_held r zero [] [] ∙ sym (none_held reads zero [] []) ∙ e)
 items_lead zero (b ∷ bytes) reads s e = let wrong = sym (over reads [] [] b bytes) ∙ e in absurd cc
 items_lead (suc n) bytes reads s e =
@@ -53,7 +53,7 @@ items_lead (suc n) bytes reads s e =
           ]
     ]
 
-header_leads : (magic bytes : List ℕ) (reads : Reads) (s : State Fields) (m : Bool) → 8 ≤ length bytes → bytes_eq (take 8 bytes) magic ≡ m → state_of magic reads bytes ≡ Ok s → LeadsSo (λ r. state_of magic r bytes) s
+header_leads : (magic bytes : List ℕ) (reads : ItemReader) (s : State Fields) (m : Bool) → 8 ≤ length bytes → bytes_eq (take 8 bytes) magic ≡ m → state_of magic reads bytes ≡ Ok s → LeadsSo (λ r. state_of magic r bytes) s
 header_leads magic bytes reads s false le m e = let wrong = sym (bad_magic magic reads bytes le m) ∙ e in absurd cc
 header_leads magic bytes reads s true le m e =
     elim (cases_lt (length (drop 8 bytes)) 8) [
@@ -65,7 +65,7 @@ header_leads magic bytes reads s true le m e =
           ]
     ]
 
-text_leads : (magic bytes : List ℕ) (reads : Reads) (s : State Fields) → state_of magic reads bytes ≡ Ok s → LeadsSo (λ r. state_of magic r bytes) s
+text_leads : (magic bytes : List ℕ) (reads : ItemReader) (s : State Fields) → state_of magic reads bytes ≡ Ok s → LeadsSo (λ r. state_of magic r bytes) s
 text_leads magic bytes reads s e =
     elim (cases_lt (length bytes) 8) [
       | inl lt ↦ inl (λ r. in_magic magic r bytes lt ∙ sym (in_magic magic reads bytes lt) ∙ e)
@@ -74,7 +74,7 @@ text_leads magic bytes reads s e =
 
 -- ---- a piece more
 
-fed_is : (magic : List ℕ) (r : Reads) (text piece : List ℕ) → fed_with magic r piece (Ok text) ≡ kept (text ++ piece) (then_more magic r piece (state_of magic r text))
+fed_is : (magic : List ℕ) (r : ItemReader) (text piece : List ℕ) → fed_with magic r piece (Ok text) ≡ kept (text ++ piece) (then_more magic r piece (state_of magic r text))
 fed_is magic r text piece = kept_is magic r (text ++ piece) ∙ ap (kept (text ++ piece)) (state_joined magic r text piece)
 
 kept_fault : (text : List ℕ) (led : Result (State Fields) ImportFault) (f : ImportFault) → kept text led ≡ Err f → led ≡ Err f
@@ -85,7 +85,7 @@ cause_of : (k : ℕ) (c : Cause) (f : ImportFault) → failed (fault_at k c) ≡
 cause_of k c f e = let same : fault_at k c ≡ f = cc in ap (λ (x : ImportFault). x.cause) same
 
 -- No fault stands whatever the items are, where none does from where the text led.
-pub fed_of_items : (magic : List ℕ) (reads : Reads) (text piece : List ℕ) (s : State Fields) → state_of magic reads text ≡ Ok s → IsOfItems (λ r. go_on magic r s piece) → IsOfItems (λ r. fed_with magic r piece (Ok text))
+pub fed_of_items : (magic : List ℕ) (reads : ItemReader) (text piece : List ℕ) (s : State Fields) → state_of magic reads text ≡ Ok s → IsOfItems (λ r. go_on magic r s piece) → IsOfItems (λ r. fed_with magic r piece (Ok text))
 fed_of_items magic reads text piece s led h f all =
     elim (text_leads magic text reads s led) [
       | inl alike ↦ h f (λ r. sym (ap (then_more magic r piece) (alike r)) ∙ kept_fault (text ++ piece) (then_more magic r piece (state_of magic r text)) f (sym (fed_is magic r text piece) ∙ all r))
@@ -95,7 +95,7 @@ fed_of_items magic reads text piece s led h f all =
           absurd cc
     ]
 
-pub fed_memory : (magic : List ℕ) (reads : Reads) (refused : Option ImportFault) (text piece : List ℕ) (s : State Fields) (c : Cause) → refused ≡ None → IfOk (fed_of refused text) (λ t. state_of magic reads t ≡ Ok s) → (c ≡ cause.Memory → IsOfItems (λ r. go_on magic r s piece))
+pub fed_memory : (magic : List ℕ) (reads : ItemReader) (refused : Option ImportFault) (text piece : List ℕ) (s : State Fields) (c : Cause) → refused ≡ None → IfOk (fed_of refused text) (λ t. state_of magic reads t ≡ Ok s) → (c ≡ cause.Memory → IsOfItems (λ r. go_on magic r s piece))
     → IfOk (fed_of refused text) (λ t. c ≡ cause.Memory → IsOfItems (λ r. fed_with magic r piece (fed_of refused text)))
 fed_memory magic reads (Some f) text piece s c none led h = tt
 fed_memory magic reads None text piece s c none led h = λ memory. fed_of_items magic reads text piece s led (h memory)
@@ -103,9 +103,9 @@ fed_memory magic reads None text piece s c none led h = λ memory. fed_of_items 
 -- ---- a whole text
 
 -- what a text is read as is what its end makes of where it led
-pub import_is : (magic : List ℕ) (reads : Reads) (bytes : List ℕ) (s : State Fields) → s ≡ begun [] → import_of magic reads bytes ≡ at_end (go_on magic reads s bytes)
+pub import_is : (magic : List ℕ) (reads : ItemReader) (bytes : List ℕ) (s : State Fields) → s ≡ begun [] → import_of magic reads bytes ≡ at_end (go_on magic reads s bytes)
 import_is magic reads bytes s e = ap (told_as as_fault) (container_ends magic reads bytes) ∙ ap (λ (t : State Fields). at_end (go_on magic reads t bytes)) (sym e)
 
-pub import_refused : (magic : List ℕ) (reads : Reads) (bytes : List ℕ) (s : State Fields) (f : ImportFault) → s ≡ begun [] → Refuses f (go_on magic reads s bytes) → Refuses f (import_of magic reads bytes)
+pub import_refused : (magic : List ℕ) (reads : ItemReader) (bytes : List ℕ) (s : State Fields) (f : ImportFault) → s ≡ begun [] → Refuses f (go_on magic reads s bytes) → Refuses f (import_of magic reads bytes)
 import_refused magic reads bytes s f e (inl memory) = inl memory
 import_refused magic reads bytes s f e (inr is) = inr (import_is magic reads bytes s e ∙ ap at_end is)

@@ -12,7 +12,7 @@ use Rattle.containers.specs.declared.fault.ImportFault.{ImportFault}
 use Rattle.containers.specs.Refusals.{IsBehindFront, IsOfItems, fault_at, of_checking}
 use Rattle.containers.specs.Stages.{State, begun, go_on, state_of}
 use Rattle.containers.specs.within.Going.{IsPastHeader, at_end}
-use Rattle.containers.specs.Rest.{Reads}
+use Rattle.containers.specs.Rest.{ItemReader}
 use Rattle.containers.specs.within.Seen.{IsParted, fed_of, with_more}
 use Rattle.containers.proofs.Steps.{in_magic, bad_magic, in_count}
 use Rattle.evidence_item.specs.declared.fault.ItemFault.{ItemFault}
@@ -46,21 +46,21 @@ past_header_held led s front old body same parted some held e =
 -- ---- the text so far
 
 -- The header is cut off, or a fault stands whatever the items are.
-front_state : (magic bytes : List ℕ) → length bytes < 16 → ((r : Reads) → state_of magic r bytes ≡ Ok (begun bytes)) ⊎ ((r : Reads) → state_of magic r bytes ≡ Err (fault_at 0 cause.BadMagic))
+front_state : (magic bytes : List ℕ) → length bytes < 16 → ((r : ItemReader) → state_of magic r bytes ≡ Ok (begun bytes)) ⊎ ((r : ItemReader) → state_of magic r bytes ≡ Err (fault_at 0 cause.BadMagic))
 front_state magic bytes few =
     elim (cases_lt (length bytes) 8) [
       | inl lt ↦ inl (λ r. in_magic magic r bytes lt)
       | inr le ↦ known (bytes_eq (take 8 bytes) magic) le refl
     ]
   where
-    known : (m : Bool) → 8 ≤ length bytes → bytes_eq (take 8 bytes) magic ≡ m → ((r : Reads) → state_of magic r bytes ≡ Ok (begun bytes)) ⊎ ((r : Reads) → state_of magic r bytes ≡ Err (fault_at 0 cause.BadMagic))
+    known : (m : Bool) → 8 ≤ length bytes → bytes_eq (take 8 bytes) magic ≡ m → ((r : ItemReader) → state_of magic r bytes ≡ Ok (begun bytes)) ⊎ ((r : ItemReader) → state_of magic r bytes ≡ Err (fault_at 0 cause.BadMagic))
     known true le m = inl (λ r. in_count magic r bytes le m (omega (arith, length-drop 8 bytes)))
     known false le m = inr (λ r. bad_magic magic r bytes le m)
 
-at_header : (magic : List ℕ) (r : Reads) (text piece : List ℕ) (s : State Fields) → s ≡ begun text → go_on magic r s piece ≡ state_of magic r (text ++ piece)
+at_header : (magic : List ℕ) (r : ItemReader) (text piece : List ℕ) (s : State Fields) → s ≡ begun text → go_on magic r s piece ≡ state_of magic r (text ++ piece)
 at_header magic r text piece s e = ap (λ (t : State Fields). go_on magic r t piece) e
 
-pub header_whole : (magic : List ℕ) (reads : Reads) (text piece : List ℕ) (s : State Fields) → state_of magic reads text ≡ Ok s → IsOfItems (λ r. go_on magic r s piece) → (s.left ≡ None → IsPastHeader (go_on magic reads s piece)) → 16 ≤ length (text ++ piece)
+pub header_whole : (magic : List ℕ) (reads : ItemReader) (text piece : List ℕ) (s : State Fields) → state_of magic reads text ≡ Ok s → IsOfItems (λ r. go_on magic r s piece) → (s.left ≡ None → IsPastHeader (go_on magic reads s piece)) → 16 ≤ length (text ++ piece)
 header_whole magic reads text piece s led of_items past =
     elim (cases_lt (length (text ++ piece)) 16) [
       | inr le ↦ le
@@ -76,7 +76,7 @@ header_whole magic reads text piece s led of_items past =
           ]
     ]
 
-pub fed_header : (magic : List ℕ) (reads : Reads) (refused : Option ImportFault) (text piece : List ℕ) (s : State Fields) (c : Cause) → refused ≡ None → IfOk (fed_of refused text) (λ t. state_of magic reads t ≡ Ok s)
+pub fed_header : (magic : List ℕ) (reads : ItemReader) (refused : Option ImportFault) (text piece : List ℕ) (s : State Fields) (c : Cause) → refused ≡ None → IfOk (fed_of refused text) (λ t. state_of magic reads t ≡ Ok s)
     → (c ≡ cause.Memory → IsOfItems (λ r. go_on magic r s piece)) → (s.left ≡ None → c ≡ cause.Memory → IsPastHeader (go_on magic reads s piece)) → IfOk (fed_of refused text) (λ t. c ≡ cause.Memory → 16 ≤ length (t ++ piece))
 fed_header magic reads (Some f) text piece s c none led h past = tt
 fed_header magic reads None text piece s c none led h past = λ memory. header_whole magic reads text piece s led (h memory) (λ left. past left memory)

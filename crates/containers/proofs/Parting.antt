@@ -15,11 +15,11 @@ use Rattle.containers.specs.declared.progress.Progress.{Progress}
 use Rattle.containers.specs.CheckedItems.{fields_of}
 use Rattle.containers.specs.Refusals.{IsBehindFront, IsOfItems, Refuses, fault_at}
 use Rattle.containers.specs.Stages.{State, len_of, reads_on, go_on}
-use Rattle.containers.specs.within.Going.{EndsOn, GoesOn, IsItemRefusal, IsOneMore, IsRead, IsRefusal, LeadsAlike, LeadsOrReads, Leaves, TakesItem, at_end}
-use Rattle.containers.specs.Rest.{Reads}
+use Rattle.containers.specs.within.Going.{EndsOn, GoesOn, IsItemRefusal, IsOneMore, IsRead, IsRefusal, LeadsAlike, LeadsOrReads, ByLeft, TakesItem, at_end}
+use Rattle.containers.specs.Rest.{ItemReader}
 use Rattle.containers.specs.within.Parts.{IsCut, IsHeldOn, IsLength, IsOver, IsPart, IsTaken, IsWhole}
 use Rattle.containers.specs.within.Resting.{IsResting, Rests}
-use Rattle.containers.specs.within.Seen.{IsParted, Stands, last_text, seen, with_more}
+use Rattle.containers.specs.within.Seen.{IsParted, AwaitsMore, last_text, seen, with_more}
 use Rattle.containers.proofs.CheckedLists.{fields_count, one_waited}
 use Rattle.containers.proofs.Taking.{behind_front, cut_is, cut_of_items, held_alike, item_behind, len_front, taken_falls, taken_goes, taken_rests, whole_is, whole_of_items}
 use Rattle.containers.proofs.Turning.{is_at_rest, item_wrong, nothing_more}
@@ -102,7 +102,7 @@ over_joined f front (b ∷ body) rest is_cut whole past =
 
 -- ---- an item that is whole
 
-module _ {P : Type 0} (reads : Reads) (n len : ℕ) (old : Progress P) (rest text after : List ℕ) (stage : old.left ≡ Some n) (some : 0 < n) (length_is : IsLength (Some len) old.front.items rest) (size : length text ≡ len) (joined : text ++ after ≡ old.body.items ++ rest) where
+module _ {P : Type 0} (reads : ItemReader) (n len : ℕ) (old : Progress P) (rest text after : List ℕ) (stage : old.left ≡ Some n) (some : 0 < n) (length_is : IsLength (Some len) old.front.items rest) (size : length text ≡ len) (joined : text ++ after ≡ old.body.items ++ rest) where
   front : List ℕ
   front = old.front.items
 
@@ -160,7 +160,7 @@ any_of_items n len old rest stage some length_is magic =
     elim (cases_lt (length bytes) len) [
       | inl few ↦ held_of_items n len old rest stage some length_is few magic
       | inr le ↦
-          let none : Reads = λ last t. Err cause.BadTag in
+          let none : ItemReader = λ last t. Err cause.BadTag in
           let size : length (take len bytes) ≡ len = omega (arith, length-take len bytes, le) in
           of_items none n len old rest (take len bytes) (drop len bytes) stage some length_is size (take-append-drop len bytes) magic
     ]
@@ -183,7 +183,7 @@ held_on len old new rest after length_is few lefts items fronts joined =
 
 -- ---- where an item leads
 
-pub on_of_items : {A : Type 0} (one other : Reads → Result A ImportFault) → ((r : Reads) → one r ≡ other r) → IsOfItems other → IsOfItems one
+pub on_of_items : {A : Type 0} (one other : ItemReader → Result A ImportFault) → ((r : ItemReader) → one r ≡ other r) → IsOfItems other → IsOfItems one
 on_of_items one other same h f all = h f (λ r. sym (same r) ∙ all r)
 
 rests_some : {A : Type 0} (magic : List ℕ) (l : Option ℕ) (n : ℕ) (last : List ℕ) (items : List A) (held : List ℕ) → l ≡ Some n → 0 < n → IsCut held → Rests magic l last items held
@@ -205,8 +205,8 @@ pub parted_alike : {A : Type 0} (magic : List ℕ) (reads : List ℕ → List �
     → reads_on magic reads l last items (held ++ rest) ≡ reads_on magic reads l last items (new ++ after)
 parted_alike magic reads l last items held rest new after joined = ap (λ (t : List ℕ). reads_on magic reads l last items t) (sym joined)
 
-module _ {P : Type 0} (magic : List ℕ) (reads : Reads) (n : ℕ) (old : Progress P) (rest mid after : List ℕ) (new : Progress P) (stage : old.left ≡ Some n) (some : 0 < n) (rested : IsResting magic (seen old)) (more : 0 < length rest) (joined : mid ++ after ≡ (seen old).held ++ rest) where
-  alike : (r : Reads) → go_on magic r (seen old) rest ≡ go_on magic r (held_as (seen old) mid) after
+module _ {P : Type 0} (magic : List ℕ) (reads : ItemReader) (n : ℕ) (old : Progress P) (rest mid after : List ℕ) (new : Progress P) (stage : old.left ≡ Some n) (some : 0 < n) (rested : IsResting magic (seen old)) (more : 0 < length rest) (joined : mid ++ after ≡ (seen old).held ++ rest) where
+  alike : (r : ItemReader) → go_on magic r (seen old) rest ≡ go_on magic r (held_as (seen old) mid) after
   alike r = parted_alike magic r old.left (seen old).last (seen old).items (seen old).held rest mid after joined
 
   taken_back : (b : List ℕ) → IsTaken reads n (held_as (seen old) mid) after (seen new) b → IsTaken reads n (seen old) rest (seen new) b
@@ -239,7 +239,7 @@ module _ {P : Type 0} (magic : List ℕ) (reads : Reads) (n : ℕ) (old : Progre
         falls = omega (arith, more, none);
       }
 
-  pub goes : (x : Left) → TakesItem reads n (held_as (seen old) mid) after new x → Leaves x (GoesOn magic reads old rest new) (EndsOn magic reads old rest new)
+  pub goes : (x : Left) → TakesItem reads n (held_as (seen old) mid) after new x → ByLeft x (GoesOn magic reads old rest new) (EndsOn magic reads old rest new)
   goes (left.Behind b) t = goes_behind b.now t.0 t.1
   goes (left.CutOff b) t =
       let back = held_back b.now t.0 in
@@ -252,24 +252,24 @@ module _ {P : Type 0} (magic : List ℕ) (reads : Reads) (n : ℕ) (old : Progre
   fronts_behind b (inl t) = let back = taken_back b t in inr (whole_of_items magic n (seen old) rest back.text b stage some back.whole back.moved)
   fronts_behind b (inr h) = inl (λ r. held_alike magic r (seen old) rest (seen new) b (held_back b h.0))
 
-  pub fronts : (x : Left) → TakesItem reads n (held_as (seen old) mid) after new x → Leaves x (LeadsOrReads magic old rest new) (LeadsAlike magic old rest new)
+  pub fronts : (x : Left) → TakesItem reads n (held_as (seen old) mid) after new x → ByLeft x (LeadsOrReads magic old rest new) (LeadsAlike magic old rest new)
   fronts (left.Behind b) t = fronts_behind b.now t.0
   fronts (left.CutOff b) t = λ r. held_alike magic r (seen old) rest (seen new) b.now (held_back b.now t.0)
 
-  pub goes_ok : (r : Result Left ImportFault) → IfOk r (λ x. TakesItem reads n (held_as (seen old) mid) after new x) → IfOk r (λ x. Leaves x (GoesOn magic reads old rest new) (EndsOn magic reads old rest new))
+  pub goes_ok : (r : Result Left ImportFault) → IfOk r (λ x. TakesItem reads n (held_as (seen old) mid) after new x) → IfOk r (λ x. ByLeft x (GoesOn magic reads old rest new) (EndsOn magic reads old rest new))
   goes_ok (Ok x) t = goes x t
   goes_ok (Err f) t = tt
 
-  pub fronts_ok : (r : Result Left ImportFault) → IfOk r (λ x. TakesItem reads n (held_as (seen old) mid) after new x) → IfOk r (λ x. Leaves x (LeadsOrReads magic old rest new) (LeadsAlike magic old rest new))
+  pub fronts_ok : (r : Result Left ImportFault) → IfOk r (λ x. TakesItem reads n (held_as (seen old) mid) after new x) → IfOk r (λ x. ByLeft x (LeadsOrReads magic old rest new) (LeadsAlike magic old rest new))
   fronts_ok (Ok x) t = fronts x t
   fronts_ok (Err f) t = tt
 
 -- the same bytes, otherwise parted, are refused alike
-pub refusal_ok : {P : Type 0} (magic : List ℕ) (reads : Reads) (old mid : Progress P) (rest after : List ℕ) (r : Result Left ImportFault) → IfErr r (λ f. IsItemRefusal reads mid after f)
+pub refusal_ok : {P : Type 0} (magic : List ℕ) (reads : ItemReader) (old mid : Progress P) (rest after : List ℕ) (r : Result Left ImportFault) → IfErr r (λ f. IsItemRefusal reads mid after f)
     → seen mid ≡ held_as (seen old) (seen mid).held → mid.body.items ≡ old.body.items → (seen mid).held ++ after ≡ (seen old).held ++ rest → IfErr r (λ f. IsRefusal magic reads old rest f)
 refusal_ok magic reads old mid rest after (Ok x) h same body joined = tt
 refusal_ok magic reads old mid rest after (Err f) h same body joined =
-    let alike : (r : Reads) → go_on magic r (seen old) rest ≡ go_on magic r (seen mid) after =
+    let alike : (r : ItemReader) → go_on magic r (seen old) rest ≡ go_on magic r (seen mid) after =
     λ r. parted_alike magic r old.left (seen old).last (seen old).items (seen old).held rest (seen mid).held after joined ∙ ap (λ (s : State Fields). go_on magic r s after) (sym same) in
     record {
       refused = subst (λ (r : Result (State Fields) ImportFault). Refuses f r) (sym (alike reads)) (h.refused magic);
@@ -278,7 +278,7 @@ refusal_ok magic reads old mid rest after (Err f) h same body joined =
     }
 
 -- where something of a body is held
-pub refusal_of_pieces : {P : Type 0} (reads : Reads) (old : Progress P) (rest : List ℕ) (r : Result Left ImportFault) → 0 < length old.body.items
+pub refusal_of_pieces : {P : Type 0} (reads : ItemReader) (old : Progress P) (rest : List ℕ) (r : Result Left ImportFault) → 0 < length old.body.items
     → IfErr r (λ f. (magic : List ℕ) → Refuses f (go_on magic reads (seen old) rest)) → IfErr r (λ f. (magic : List ℕ) → IsOfItems (λ r. go_on magic r (seen old) rest)) → IfErr r (λ f. IsItemRefusal reads old rest f)
 refusal_of_pieces reads old rest (Ok x) some refused of_items = tt
 refusal_of_pieces reads old rest (Err f) some refused of_items = record {
@@ -299,11 +299,11 @@ or_items magic old piece mid rest (inl a) h = on_of_items (λ r. go_on magic r (
 or_items magic old piece mid rest (inr h) more = h
 
 -- no fault stands where a value is read
-pub value_of_items : {A : Type 0} (expected : Reads → Result A ImportFault) (r : Reads) (x : A) → expected r ≡ Ok x → IsOfItems expected
+pub value_of_items : {A : Type 0} (expected : ItemReader → Result A ImportFault) (r : ItemReader) (x : A) → expected r ≡ Ok x → IsOfItems expected
 value_of_items expected r x is f all = let wrong = sym is ∙ all r in absurd cc
 
 -- all of a piece was read
-pub all_read : {P : Type 0} (magic : List ℕ) (reads : Reads) (old : Progress P) (piece : List ℕ) (new : Progress P) (rest : List ℕ) → go_on magic reads (seen new) rest ≡ go_on magic reads (seen old) piece → rest ≡ [] → Stands magic new → EndsOn magic reads old piece new rest
+pub all_read : {P : Type 0} (magic : List ℕ) (reads : ItemReader) (old : Progress P) (piece : List ℕ) (new : Progress P) (rest : List ℕ) → go_on magic reads (seen new) rest ≡ go_on magic reads (seen old) piece → rest ≡ [] → AwaitsMore magic new → EndsOn magic reads old piece new rest
 all_read magic reads old piece new rest same none stands =
     let held : (seen new).held ++ rest ≡ (seen new).held = ap (λ (t : List ℕ). (seen new).held ++ t) none ∙ append-nil (seen new).held in
     record {

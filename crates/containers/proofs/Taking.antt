@@ -11,7 +11,7 @@ use Rattle.containers.specs.declared.fault.ImportFault.{ImportFault}
 use Rattle.containers.specs.Refusals.{IsBehindFront, IsOfItems, fault_at}
 use Rattle.containers.specs.Stages.{State, len_of, items_on, reads_on, go_on}
 use Rattle.containers.specs.within.Going.{IsRead, at_end}
-use Rattle.containers.specs.Rest.{Reads}
+use Rattle.containers.specs.Rest.{ItemReader}
 use Rattle.containers.specs.within.Parts.{IsCut, IsHeldOn, IsTaken, IsWhole}
 use Rattle.containers.specs.within.Resting.{IsResting, Rests}
 use Rattle.containers.proofs.Steps.{short, too_long, cut, whole, none_held, over}
@@ -87,21 +87,21 @@ two_faults k f a b =
 
 pub whole_of_items : (magic : List ℕ) (n : ℕ) (old : State Fields) (rest text after : List ℕ) → old.left ≡ Some n → 0 < n → IsWhole text → text ++ after ≡ old.held ++ rest → IsOfItems (λ reads. go_on magic reads old rest)
 whole_of_items magic n old rest text after stage lt w moved f all =
-    let one : Reads = λ last t. Err cause.BadTag in
-    let other : Reads = λ last t. Err cause.Trailing in
+    let one : ItemReader = λ last t. Err cause.BadTag in
+    let other : ItemReader = λ last t. Err cause.Trailing in
     let a = sym (opened magic one old n rest text after stage lt w moved) ∙ all one in
     let b = sym (opened magic other old n rest text after stage lt w moved) ∙ all other in
     two_faults (length old.items) f a b
 
 pub cut_of_items : (magic : List ℕ) (n : ℕ) (old : State Fields) (rest : List ℕ) → old.left ≡ Some n → 0 < n → IsCut (old.held ++ rest) → IsOfItems (λ reads. go_on magic reads old rest)
 cut_of_items magic n old rest stage lt is_cut f all =
-    let any : Reads = λ last t. Err cause.BadTag in
+    let any : ItemReader = λ last t. Err cause.BadTag in
     let wrong = sym (next_item magic any old n (old.held ++ rest) stage lt ∙ item_rests any (n - 1) old.last old.items (old.held ++ rest) is_cut) ∙ all any in
     absurd cc
 
 -- ---- faults of later items
 
-abbrev Falls : Reads → ℕ → Type 0
+abbrev Falls : ItemReader → ℕ → Type 0
 Falls reads n = (last : List ℕ) (items : List Fields) (bytes : List ℕ) (f : ImportFault) → at_end (items_on reads n last items bytes) ≡ Err f → length items ≤ f.item
 
 abbrev faulted : ImportFault → Result (List Fields) ImportFault
@@ -110,16 +110,16 @@ faulted f = Err f
 at_fault : (k : ℕ) (c : Cause) (f : ImportFault) → faulted (fault_at k c) ≡ faulted f → k ≤ f.item
 at_fault k c f e = let same : k ≡ f.item = cc in omega (arith, same)
 
-behind_falls : (reads : Reads) (n : ℕ) → Falls reads n → (items : List Fields) (text rest : List ℕ) (r : Result Fields Cause) (f : ImportFault)
+behind_falls : (reads : ItemReader) (n : ℕ) → Falls reads n → (items : List Fields) (text rest : List ℕ) (r : Result Fields Cause) (f : ImportFault)
     → at_end (told_as (fault_at (length items)) r >>= λ item. items_on reads n text (items ++ item ∷ []) rest) ≡ Err f → length items ≤ f.item
 behind_falls reads n falls items text rest (Ok item) f e = let later = falls text (items ++ item ∷ []) rest f e in omega (arith, later, length-append items (item ∷ []))
 behind_falls reads n falls items text rest (Err c) f e = at_fault (length items) c f e
 
-none_falls : (reads : Reads) → Falls reads zero
+none_falls : (reads : ItemReader) → Falls reads zero
 none_falls reads last items [] f e = let wrong = sym (ap at_end (none_held reads zero last items)) ∙ e in absurd cc
 none_falls reads last items (b ∷ bytes) f e = at_fault (length items) cause.Trailing f (sym (ap at_end (over reads last items b bytes)) ∙ e)
 
-one_falls : (reads : Reads) (n : ℕ) → Falls reads n → Falls reads (suc n)
+one_falls : (reads : ItemReader) (n : ℕ) → Falls reads n → Falls reads (suc n)
 one_falls reads n falls last items bytes f e =
     elim (cases_lt (length bytes) 4) [
       | inl lt ↦ at_fault (length items) cause.Truncated f (sym (ap at_end (short reads n last items bytes lt)) ∙ e)
@@ -136,11 +136,11 @@ one_falls reads n falls last items bytes f e =
           ]
     ]
 
-items_fall : (reads : Reads) (n : ℕ) → Falls reads n
+items_fall : (reads : ItemReader) (n : ℕ) → Falls reads n
 items_fall reads zero = none_falls reads
 items_fall reads (suc n) = one_falls reads n (items_fall reads n)
 
-read_behind : (reads : Reads) (n : ℕ) (items : List Fields) (text rest : List ℕ) (r : Result Fields Cause) → (length items ≡ 0 → IsRead r)
+read_behind : (reads : ItemReader) (n : ℕ) (items : List Fields) (text rest : List ℕ) (r : Result Fields Cause) → (length items ≡ 0 → IsRead r)
     → IsBehindFront (at_end (told_as (fault_at (length items)) r >>= λ item. items_on reads n text (items ++ item ∷ []) rest))
 read_behind reads n items text rest (Ok item) first f e zeroth =
     let later = items_fall reads n text (items ++ item ∷ []) rest f e in
@@ -152,7 +152,7 @@ read_behind reads n items text rest (Err c) first f e zeroth =
     (read.0, sym same ∙ read.1)
 
 -- Where the first item is read, or the item is a later one, nothing is wrong in front.
-pub item_behind : (magic : List ℕ) (reads : Reads) (n : ℕ) (old : State Fields) (rest text after : List ℕ) → old.left ≡ Some n → 0 < n → IsWhole text → text ++ after ≡ old.held ++ rest → (length old.items ≡ 0 → IsRead (reads old.last (drop 4 text)))
+pub item_behind : (magic : List ℕ) (reads : ItemReader) (n : ℕ) (old : State Fields) (rest text after : List ℕ) → old.left ≡ Some n → 0 < n → IsWhole text → text ++ after ≡ old.held ++ rest → (length old.items ≡ 0 → IsRead (reads old.last (drop 4 text)))
     → IsBehindFront (at_end (go_on magic reads old rest))
 item_behind magic reads n old rest text after stage lt w moved first f e =
     read_behind reads (n - 1) old.items (drop 4 text) after (reads old.last (drop 4 text)) first f (sym (ap at_end (opened magic reads old n rest text after stage lt w moved)) ∙ e)

@@ -11,8 +11,8 @@ use Rattle.containers.specs.Container.{Refusal, as_fault, items_at, of_item, ref
 use Rattle.containers.specs.Refusals.{fault_at}
 
 -- How a text that follows the text of the item before it is read.
-abbrev pub Reads : Type 0
-Reads = List ℕ → List ℕ → Result Fields Cause
+abbrev pub ItemReader : Type 0
+ItemReader = List ℕ → List ℕ → Result Fields Cause
 
 -- The end of a container: no byte follows its items.
 abbrev pub ended : {A : Type 0} → List A × List ℕ → Result (List A) Refusal

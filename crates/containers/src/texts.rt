@@ -6,7 +6,7 @@ ghost use Rattle.item_forms.specs.declared.forms.Fields.{Fields};
 ghost use Rattle.item_forms.specs.declared.limits.TheConstants.{LONGEST_ITEM};
 ghost use Rattle.containers.specs.declared.fault.Cause.TheVariants as cause;
 ghost use Rattle.containers.specs.Container.{as_fault, import_of, of_field};
-ghost use Rattle.containers.specs.Rest.{Reads, rest_of};
+ghost use Rattle.containers.specs.Rest.{ItemReader, rest_of};
 
 use crate::fault::{Cause, ImportFault};
 use item_forms::LONGEST_ITEM;
@@ -29,8 +29,8 @@ fn field_fault(item: u64, fault: FieldFault) -> ImportFault
 /// The first of these is told, at item 0: `Truncated` (40) where fewer than eight bytes are there, `BadMagic` (60), `Truncated` of the
 /// count.
 pub fn read_count(reader: &mut FieldReader, magic: &[u8; 8]) -> Result<u64, ImportFault>
-    ensures counted { IfOk result (λ count. (reads : Reads) → import_of magic.now reads reader.old ≡ rest_of reads count [] [] reader.new) }
-    ensures refused { IfErr result (λ f. (reads : Reads) → import_of magic.now reads reader.old ≡ Err f) }
+    ensures counted { IfOk result (λ count. (reads : ItemReader) → import_of magic.now reads reader.old ≡ rest_of reads count [] [] reader.new) }
+    ensures refused { IfErr result (λ f. (reads : ItemReader) → import_of magic.now reads reader.old ≡ Err f) }
     ensures memory { IfErr result (λ f. ¬ (f.cause ≡ cause.Memory)) }
 {
     let front = match reader.take(8) {
@@ -54,7 +54,7 @@ pub fn read_count(reader: &mut FieldReader, magic: &[u8; 8]) -> Result<u64, Impo
 /// The first of these is told, at the next item: `Truncated` (40) of its length, `TooLong` (42), `Truncated` of its bytes.
 pub fn next_text<'a>(reader: &mut FieldReader<'a>, item: u64) -> Result<&'a [u8], ImportFault>
     ensures text { IfOk result (λ text. bytes_at LONGEST_ITEM reader.old ≡ Ok (text.now, reader.new)) }
-    ensures refused { IfErr result (λ f. (reads : Reads) (n : ℕ) (last : List ℕ) (before : List Fields) → length before ≡ item → rest_of reads (suc n) last before reader.old ≡ Err f) }
+    ensures refused { IfErr result (λ f. (reads : ItemReader) (n : ℕ) (last : List ℕ) (before : List Fields) → length before ≡ item → rest_of reads (suc n) last before reader.old ≡ Err f) }
     ensures memory { IfErr result (λ f. ¬ (f.cause ≡ cause.Memory)) }
     ensures same { OnErr result (reader.new ≡ reader.old) }
 {
@@ -68,8 +68,8 @@ pub fn next_text<'a>(reader: &mut FieldReader<'a>, item: u64) -> Result<&'a [u8]
 ///
 /// `Trailing` (43) is told at the count of the items.
 pub fn read_end(reader: &FieldReader, items: u64) -> Result<(), ImportFault>
-    ensures read { OnOk result ((reads : Reads) (last : List ℕ) (before : List Fields) → rest_of reads 0 last before reader.now ≡ Ok before) }
-    ensures refused { IfErr result (λ f. (reads : Reads) (last : List ℕ) (before : List Fields) → length before ≡ items → rest_of reads 0 last before reader.now ≡ Err f) }
+    ensures read { OnOk result ((reads : ItemReader) (last : List ℕ) (before : List Fields) → rest_of reads 0 last before reader.now ≡ Ok before) }
+    ensures refused { IfErr result (λ f. (reads : ItemReader) (last : List ℕ) (before : List Fields) → length before ≡ items → rest_of reads 0 last before reader.now ≡ Err f) }
     ensures memory { IfErr result (λ f. ¬ (f.cause ≡ cause.Memory)) }
 {
     if reader.left() > 0 {

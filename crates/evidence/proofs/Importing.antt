@@ -23,7 +23,8 @@ use Rattle.evidence_set.specs.Exports.{IsTextOf, SetsHaveOneText, fields_of, mag
 use Rattle.evidence_set.specs.ItemSets.{pieces}
 use Rattle.containers.proofs.Staying.{faults_stay}
 use Rattle.evidence.specs.Importing.{RefusedPiecesStay, fed_by, import_set, imported_under}
-use Rattle.evidence.specs.within.Stages.{BeginsWith, GoesOn, IsBegun, IsKnown, IsOpen, IsStage, Reads, fed_of}
+use Rattle.containers.specs.Rest.{ItemReader}
+use Rattle.evidence.specs.within.Stages.{BeginsWith, GoesOn, IsBegun, IsKnown, IsOpen, IsStage, fed_of}
 use Rattle.evidence.specs.declared.stage.Stage.{Stage}
 use Rattle.evidence.specs.declared.stage.Stage.TheVariants as stage
 
@@ -36,15 +37,15 @@ known_magic tag rest (inr old) = subst (λ (t : List ℕ). magic_of (t ++ rest) 
 
 -- ---- pieces
 
-abbrev read_on : Reads → List ℕ → List ℕ → Result (List ℕ) ImportFault
+abbrev read_on : ItemReader → List ℕ → List ℕ → Result (List ℕ) ImportFault
 read_on reads tag text = kept_on text (container_of tag reads text)
 
 -- behind the eight bytes a piece is one of their container
-pub behind_known : (reads : Reads) (tag before old piece : List ℕ) → IsKnown tag → before ++ piece ≡ tag ++ old → fed_by reads piece (Ok before) ≡ read_on reads tag (tag ++ old)
+pub behind_known : (reads : ItemReader) (tag before old piece : List ℕ) → IsKnown tag → before ++ piece ≡ tag ++ old → fed_by reads piece (Ok before) ≡ read_on reads tag (tag ++ old)
 behind_known reads tag before old piece known same =
     ap (λ (t : List ℕ). read_on reads (magic_of t) t) same ∙ ap (λ (m : List ℕ). read_on reads m (tag ++ old)) (known_magic tag old known)
 
-pub fed_behind : (reads : Reads) (tag piece : List ℕ) (fed : Result (List ℕ) ImportFault) → IsKnown tag → IfOk fed (BeginsWith tag) → fed_by reads piece fed ≡ fed_with tag reads piece fed
+pub fed_behind : (reads : ItemReader) (tag piece : List ℕ) (fed : Result (List ℕ) ImportFault) → IsKnown tag → IfOk fed (BeginsWith tag) → fed_by reads piece fed ≡ fed_with tag reads piece fed
 fed_behind reads tag piece (Err f) known begins = refl
 fed_behind reads tag piece (Ok text) known begins =
     let same : text ++ piece ≡ tag ++ (begins.rest ++ piece) = ap (λ (t : List ℕ). t ++ piece) begins.is ∙ append_assoc tag begins.rest piece in
@@ -59,26 +60,26 @@ kept_text text t (Err (CutOff n)) e = Ok-inj {E = ImportFault} text t e
 kept_text text t (Err (Faulty f)) e = absurd cc
 
 -- a text that goes on begins as before
-begins_more : (reads : Reads) (tag piece t : List ℕ) (old : Result (List ℕ) ImportFault) → IfOk old (BeginsWith tag) → fed_with tag reads piece old ≡ Ok t → BeginsWith tag t
+begins_more : (reads : ItemReader) (tag piece t : List ℕ) (old : Result (List ℕ) ImportFault) → IfOk old (BeginsWith tag) → fed_with tag reads piece old ≡ Ok t → BeginsWith tag t
 begins_more reads tag piece t (Err f) begins e = absurd cc
 begins_more reads tag piece t (Ok text) begins e =
     let same : text ++ piece ≡ tag ++ (begins.rest ++ piece) = ap (λ (t : List ℕ). t ++ piece) begins.is ∙ append_assoc tag begins.rest piece in
     record { rest = begins.rest ++ piece; is = sym (kept_text (text ++ piece) t (container_of tag reads (text ++ piece)) e) ∙ same }
 
-pub begins_on : (reads : Reads) (tag piece : List ℕ) (result : Result (Unit {0}) ImportFault) (old new : Result (List ℕ) ImportFault) → IfOk old (BeginsWith tag) → Feeds result (fed_with tag reads piece old) new → IfOk new (BeginsWith tag)
+pub begins_on : (reads : ItemReader) (tag piece : List ℕ) (result : Result (Unit {0}) ImportFault) (old new : Result (List ℕ) ImportFault) → IfOk old (BeginsWith tag) → Feeds result (fed_with tag reads piece old) new → IfOk new (BeginsWith tag)
 begins_on reads tag piece (Ok done) old new begins feeds = subst (λ (r : Result (List ℕ) ImportFault). IfOk r (BeginsWith tag)) (sym feeds.2) (begins_more reads tag piece feeds.0 old begins feeds.1)
 begins_on reads tag piece (Err f) old new begins feeds = subst (λ (r : Result (List ℕ) ImportFault). IfOk r (BeginsWith tag)) (sym feeds.0) tt
 
 -- ---- the head
 
 -- fewer than eight bytes are cut off, whatever would follow
-pub short_kept : (reads : Reads) (tag text : List ℕ) → length text < 8 → read_on reads tag text ≡ Ok text
+pub short_kept : (reads : ItemReader) (tag text : List ℕ) → length text < 8 → read_on reads tag text ≡ Ok text
 unfolding container_of
 short_kept reads tag text lt =
     let t : ltb (length text) 8 ≡ true = lt-ltb _ _ lt in
     rw t refl
 
-pub short_fed : (reads : Reads) (before piece : List ℕ) → length (before ++ piece) < 8 → fed_by reads piece (Ok before) ≡ Ok (before ++ piece)
+pub short_fed : (reads : ItemReader) (before piece : List ℕ) → length (before ++ piece) < 8 → fed_by reads piece (Ok before) ≡ Ok (before ++ piece)
 short_fed reads before piece lt = short_kept reads (magic_of (before ++ piece)) (before ++ piece) lt
 
 -- other bytes than the known ones
@@ -94,23 +95,23 @@ magic_known text = by_test (starts_with nat_eq text old_magic)
     by_test false = inl refl
 
 -- are told so, whatever follows
-refused_kept : (reads : Reads) (tag text : List ℕ) → 8 ≤ length text → bytes_eq (take 8 text) tag ≡ false → read_on reads tag text ≡ Err (fault_at 0 cause.BadMagic)
+refused_kept : (reads : ItemReader) (tag text : List ℕ) → 8 ≤ length text → bytes_eq (take 8 text) tag ≡ false → read_on reads tag text ≡ Err (fault_at 0 cause.BadMagic)
 unfolding container_of
 refused_kept reads tag text le other =
     let t : ltb (length text) 8 ≡ false = le-ltb _ _ le in
     rw (t, other) refl
 
-abbrev read_as : Reads → List ℕ → Result (List ℕ) ImportFault
+abbrev read_as : ItemReader → List ℕ → Result (List ℕ) ImportFault
 read_as reads text = read_on reads (magic_of text) text
 
-pub other_fed : (reads : Reads) (before piece tag rest : List ℕ) → length tag ≡ 8 → ¬ IsKnown tag → tag ++ rest ≡ before ++ piece → fed_by reads piece (Ok before) ≡ Err (fault_at 0 cause.BadMagic)
+pub other_fed : (reads : ItemReader) (before piece tag rest : List ℕ) → length tag ≡ 8 → ¬ IsKnown tag → tag ++ rest ≡ before ++ piece → fed_by reads piece (Ok before) ≡ Err (fault_at 0 cause.BadMagic)
 other_fed reads before piece tag rest eight unknown moved =
     let front : take 8 (tag ++ rest) ≡ tag = take_at tag rest 8 eight in
     let other : bytes_eq (take 8 (tag ++ rest)) (magic_of (tag ++ rest)) ≡ false = ap (λ (t : List ℕ). bytes_eq t (magic_of (tag ++ rest))) front ∙ not_text tag (magic_of (tag ++ rest)) (bytes_eq tag (magic_of (tag ++ rest))) refl unknown (magic_known (tag ++ rest)) in
     ap (read_as reads) (sym moved) ∙ refused_kept reads (magic_of (tag ++ rest)) (tag ++ rest) (omega (arith, eight, length-append tag rest)) other
 
 module _ {P : Type 0} (before piece head rest : List ℕ) (eight : length head ≡ 8) (moved : head ++ rest ≡ before ++ piece) where
-  pub begun_alike : (s : Stage P) (reads : Reads) → IsBegun head s → fed_by reads piece (Ok before) ≡ fed_by reads rest (fed_of s)
+  pub begun_alike : (s : Stage P) (reads : ItemReader) → IsBegun head s → fed_by reads piece (Ok before) ≡ fed_by reads rest (fed_of s)
   begun_alike (stage.Head h) reads b = absurd b
   begun_alike (stage.Items r) reads b = ap (read_as reads) (sym moved) ∙ ap (fed_by reads rest) (sym b.2)
   begun_alike (stage.Refused f) reads b = other_fed reads before piece head rest eight b.0 moved ∙ ap (λ (g : ImportFault). let told : Result (List ℕ) ImportFault = Err g in told) (sym b.1)
@@ -141,8 +142,8 @@ on_more (Ok x) P Q f h = f h
 on_more (Err e) P Q f h = tt
 
 -- Where memory runs out, no fault stands whatever the items are, of the same bytes otherwise parted.
-pub memory_through : (old fed : Result (List ℕ) ImportFault) (result : Result (Unit {0}) ImportFault) (expected same : Reads → Result (List ℕ) ImportFault) → IfOk old (λ text. IsOk fed)
-    → IfOk fed (λ text. IfErr result (λ f. f.cause ≡ cause.Memory → IsOfItems same)) → ((r : Reads) → expected r ≡ same r) → IfOk old (λ text. IfErr result (λ f. f.cause ≡ cause.Memory → IsOfItems expected))
+pub memory_through : (old fed : Result (List ℕ) ImportFault) (result : Result (Unit {0}) ImportFault) (expected same : ItemReader → Result (List ℕ) ImportFault) → IfOk old (λ text. IsOk fed)
+    → IfOk fed (λ text. IfErr result (λ f. f.cause ≡ cause.Memory → IsOfItems same)) → ((r : ItemReader) → expected r ≡ same r) → IfOk old (λ text. IfErr result (λ f. f.cause ≡ cause.Memory → IsOfItems expected))
 memory_through (Err e) fed result expected same goes h alike = tt
 memory_through (Ok text) (Err e) result expected same goes h alike = absurd cc
 memory_through (Ok text) (Ok t) (Ok done) expected same goes h alike = tt

@@ -1,1 +1,2 @@
+mod ComingBack
 mod Importing

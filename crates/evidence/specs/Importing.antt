@@ -1,5 +1,5 @@
 -- Reading the text of a set in pieces, as contracts see it.
-use Rattle.std.specs.Prelude.{ℕ, ◌≡◌, List, [], ◌++◌, Result, Ok, Err}
+use Rattle.std.specs.Prelude.{ℕ, ◌≡◌, ◌<◌, ◌^◌, List, [], ◌++◌, Result, Ok, Err}
 use Rattle.outcome.specs.Outcome.{◌>>=◌}
 use Rattle.authenticators.specs.Directory.{Listing}
 use Rattle.item_forms.specs.declared.forms.Fields.{Fields}
@@ -7,7 +7,9 @@ use Rattle.containers.specs.declared.fault.Cause.{Cause}
 use Rattle.containers.specs.declared.fault.ImportFault.{ImportFault}
 use Rattle.containers.specs.CheckedItems.{checked_of}
 use Rattle.containers.specs.Container.{container_of, import_of, kept_on}
-use Rattle.evidence_set.specs.Exports.{magic_of}
+use Rattle.evidence_set.specs.Exports.{AreValid, export_of, fields_of, magic_of, set_text}
+use Rattle.evidence_set.specs.ItemSets.{Items, Join, count, listed, none}
+use Rattle.evidence.specs.Contents.{Contents, with_items}
 
 -- The directory under which items are checked; and the pieces so far, joined, or the fault by which they were refused.
 pub record Importing : Type 0 where
@@ -29,8 +31,18 @@ imported_under ds fed = fed >>= λ text. import_set ds text
 abbrev pub imported : Importing → Result (List Fields) ImportFault
 imported i = imported_under i.directory i.fed
 
--- ---- a law, which `laws` proves
+-- What an import adds to a store of these contents, where it is not refused: the items of which the text is the set's.
+abbrev pub Imports : List ℕ → Contents → Contents → Type 0
+Imports text old new = (added : Items) × (text ≡ set_text (magic_of text) added) × (new ≡ with_items old (Join old.items added))
+
+-- ---- laws, which `laws` proves
 
 -- A fault of the pieces so far, joined, is the one of each text that begins with them.
 abbrev pub RefusedPiecesStay : Type 0
 RefusedPiecesStay = (ds : Listing) (pieces more : List ℕ) (f : ImportFault) → fed_by (checked_of ds) pieces (Ok []) ≡ Err f → import_set ds (pieces ++ more) ≡ Err f
+
+-- What a store exports comes back. Its text is read as its items, so an import of it under the same directory is refused for want of
+-- memory alone; and the store with no item that imports it has equal contents.
+pub record ExportsComeBack : Type 0 where
+  pub read : (s : Contents) → AreValid s.directory s.items → count s.items < 2 ^ 64 → import_set s.directory (export_of s.items) ≡ Ok (fields_of (listed s.items))
+  pub equal : (s new : Contents) → count s.items < 2 ^ 64 → count new.items < 2 ^ 64 → Imports (export_of s.items) (with_items s none) new → new ≡ s

@@ -11,10 +11,10 @@ ghost use Rattle.proofs.specs.Convicting.{Convicts};
 ghost use Rattle.containers.specs.declared.fault.Cause.TheVariants as cause;
 ghost use Rattle.containers.specs.Refusals.{IsBehindFront, Refuses};
 ghost use Rattle.evidence_set.specs.Indications.{IsExposed, IsIndication, IsUnanswered};
-ghost use Rattle.evidence_set.specs.Exports.{AreValid, export_of, magic_of, set_text};
+ghost use Rattle.evidence_set.specs.Exports.{AreValid, export_of};
 ghost use Rattle.evidence_set.specs.ItemSets.{Has, IsWithin, Items, Join, contains, count, insert, listed, none, pieces, set_of};
 ghost use Rattle.evidence.specs.Contents.{Contents, with_items};
-ghost use Rattle.evidence.specs.Importing.{import_set};
+ghost use Rattle.evidence.specs.Importing.{Imports, import_set};
 ghost use Rattle.evidence.specs.declared.fault.AskFault.TheVariants as ask;
 
 use crate::adding::add_all;
@@ -144,7 +144,7 @@ pub trait Evidence<P: Program>: Drop {
     /// memory or not. The count in the header is not believed: no room is made before its items are there.
     final fn import(&mut self, program: &P, bytes: &[u8]) -> Result<u64, ImportFault>
         ensures told { IfOk result (λ new. count (contents self.old).items + new ≡ count (contents self.new).items) }
-        ensures joined { OnOk result ((added : Items) × (bytes.now ≡ set_text (magic_of bytes.now) added) × (contents self.new ≡ with_items (contents self.old) (Join (contents self.old).items added))) }
+        ensures joined { OnOk result (Imports bytes.now (contents self.old) (contents self.new)) }
         ensures fault { IfErr result (λ f. Refuses f (import_set (contents self.old).directory bytes.now)) }
         ensures memory { IfErr result (λ f. f.cause ≡ cause.Memory → IsBehindFront (import_set (contents self.old).directory bytes.now)) }
         ensures refused { OnErr result (contents self.new ≡ contents self.old) }

@@ -14,7 +14,8 @@ ghost use Rattle.containers.specs.Refusals.{IsOfItems};
 ghost use Rattle.evidence_set.specs.Exports.{magic_of, set_text};
 ghost use Rattle.evidence_set.specs.ItemSets.{pieces, set_of};
 ghost use Rattle.evidence.specs.Importing.{fed_by, imported_under};
-ghost use Rattle.evidence.specs.within.Stages.{GoesOn, IsBegun, IsOpen, IsShort, IsStage, Reads, fed_of};
+ghost use Rattle.containers.specs.Rest.{ItemReader};
+ghost use Rattle.evidence.specs.within.Stages.{GoesOn, IsBegun, IsOpen, IsShort, IsStage, fed_of};
 
 use crate::set_text::magic_of;
 use arrayvec::ArrayVec;
@@ -71,7 +72,7 @@ fn begun<P: Program>(alloc: Global, head: &[u8]) -> Stage<P>
 fn take_head<'a, P: Program>(alloc: Global, stage: &mut Stage<P>, piece: &'a [u8]) -> &'a [u8]
     requires { IsOpen stage.old }
     ensures stage { (ds : Listing) → IsStage ds P.means stage.old → IsStage ds P.means stage.new }
-    ensures alike { (ds : Listing) → IsStage ds P.means stage.old → (reads : Reads) → fed_by reads piece.now (fed_of stage.old) ≡ fed_by reads result.now (fed_of stage.new) }
+    ensures alike { (ds : Listing) → IsStage ds P.means stage.old → (reads : ItemReader) → fed_by reads piece.now (fed_of stage.old) ≡ fed_by reads result.now (fed_of stage.new) }
     ensures all { (ds : Listing) → IsStage ds P.means stage.old → IsShort stage.new → result.now ≡ [] }
     ensures again { (f : TheFault) → fed_of stage.old ≡ Err f → fed_of stage.new ≡ Err f }
     ensures goes { IfOk (fed_of stage.old) (λ text. GoesOn stage.new) }

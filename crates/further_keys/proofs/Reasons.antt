@@ -11,7 +11,7 @@ use Rattle.authenticators.specs.Directory.{Listing}
 use Rattle.replay_verifier.specs.declared.verdict.Reason.{Reason}
 use Rattle.replay_verifier.specs.declared.verdict.Reason.TheVariants as reason
 use Rattle.replay_verifier.specs.Conforming.{Act, Conforms, PrefixesConform, Setting, act, is_repeated, setting_of}
-use Rattle.replay_verifier.specs.Deviation.{DeviatesAt, Leaves, Position, After, awaited_at, first_line, is_at_rest, is_bad_content, is_bad_init, is_bad_kind, is_other, is_other_state, is_out_of_order, last_number, quotes_genuinely, reason_behind}
+use Rattle.replay_verifier.specs.Deviation.{DeviatesAt, EndsAt, Position, After, awaited_at, first_line, is_at_rest, is_bad_content, is_bad_init, is_bad_kind, is_other, is_other_state, is_out_of_order, last_number, quotes_genuinely, reason_behind}
 use Rattle.replay_verifier.specs.Meaning.{Meaning}
 use Rattle.replay_verifier.specs.Quotes.{TestsQuotes, receipt_of}
 use Rattle.replay_verifier.specs.ReplayLaws.{ConformingListsAreProper, ConformingListsBegin, ConformingListsRise}
@@ -77,7 +77,7 @@ module _ {S : Type 0} (rise : ConformingListsRise S) (begin : ConformingListsBeg
         let no : RECV ≡ CHECKPOINT = sym kind ∙ point.0 in absurd cc
   ]
 
-  fine : (before : List Entry) (e : Entry) (place : Position S) → e.kind ≡ RECV → Leaves z prev before place → Conforms z prev (before ++ e ∷ []) → AreFine place e
+  fine : (before : List Entry) (e : Entry) (place : Position S) → e.kind ≡ RECV → EndsAt z prev before place → Conforms z prev (before ++ e ∷ []) → AreFine place e
   fine [] e place kind l c = absurd (no_first e kind c)
   fine (d ∷ log) e place kind l c =
       let q = proper.receipts z prev (d ∷ log) [] e c kind in

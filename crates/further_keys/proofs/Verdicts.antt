@@ -12,7 +12,7 @@ use Rattle.replay_verifier.specs.declared.output.Output.{Output}
 use Rattle.replay_verifier.specs.declared.verdict.Reason.{Reason}
 use Rattle.replay_verifier.specs.declared.verdict.Reason.TheVariants as reason
 use Rattle.replay_verifier.specs.Conforming.{Act, Block, Receives, Ticks, Checkpoints, Conforms, Follows, IsProper, Leads, PrefixesConform, Setting, Stand, act, acts_of, head_act, is_repeated, send_act, sent_by, setting_of, state_after, step_of}
-use Rattle.replay_verifier.specs.Deviation.{DeviatesAt, Leaves, Position, awaited_at, first_line, is_at_rest, is_bad_content, is_bad_init, is_bad_kind, is_other, is_other_state, is_out_of_order, quotes_genuinely, reason_behind}
+use Rattle.replay_verifier.specs.Deviation.{DeviatesAt, EndsAt, Position, awaited_at, first_line, is_at_rest, is_bad_content, is_bad_init, is_bad_kind, is_other, is_other_state, is_out_of_order, quotes_genuinely, reason_behind}
 use Rattle.replay_verifier.specs.Meaning.{Meaning}
 use Rattle.replay_verifier.specs.Quotes.{Quote, TestsQuotes, receipt_of}
 use Rattle.replay_verifier.specs.ReplayLaws.{ConformingListsAreProper}
@@ -98,7 +98,7 @@ module _ {S : Type 0} (old new : Listing) (h : HasFurtherKeys old new) (me : ℕ
   pub conforms_new : (prev : List ℕ) (log : List Entry) → Conforms Old prev log → Conforms New prev log
   conforms_new prev log c = record { follows = follows_new prev log c.follows; once = c.once }
 
-  pub leaves_new : (prev : List ℕ) (log : List Entry) (place : Position S) → Leaves Old prev log place → Leaves New prev log place
+  pub leaves_new : (prev : List ℕ) (log : List Entry) (place : Position S) → EndsAt Old prev log place → EndsAt New prev log place
   leaves_new prev [] place l = l
   leaves_new prev (e ∷ log) place l = (l.0, l.1, l.2, leads_new (record { state = l.0; awaited = [] }) l.2 log l.3, l.4)
 

@@ -1,3 +1,4 @@
+mod Digested
 mod Gathered
 pub mod Listed
 mod Owed

@@ -13,7 +13,7 @@ use Rattle.node_tables.proofs.Many.{first_ready, rest_ready}
 use Rattle.node_tables.proofs.Reserved.{back_still, each_both, each_so, kept_released, many_none, many_push, promised_back, room_for_all}
 use Rattle.node_tables.proofs.Stepping.{each_then}
 use Rattle.indexed_store.specs.declared.index.Index.{Index}
-use Rattle.indexed_store.specs.within.Resting.{HasRoomOf, IsAtRest, IsAwaiting, IsIndex, IsMadeReady, IsReadier, Took}
+use Rattle.indexed_store.specs.within.Resting.{HasRoomOf, IsAtRest, IsAwaiting, IsIndex, IsMadeReady, IsReadier, JoinsAtMost}
 
 pub each_kept : (tables : List Table) → EachBecomes KeepsPromises tables tables
 each_kept tables i u at = (u, at, record { promised = refl; bodies = refl })
@@ -71,7 +71,7 @@ module _ {P : Type 0} (x : Checked) (xs all : List Checked) (is : all ≡ x ∷ 
         tables = first_ready x xs all index.tables.items is (λ i t at. (waits.tables i t at).room);
       }
 
-  pub rest_awaited : (old new : Index P) → IsAwaiting all old → Took x old new → IsAwaiting xs new
+  pub rest_awaited : (old new : Index P) → IsAwaiting all old → JoinsAtMost x old new → IsAwaiting xs new
   rest_awaited old new waits took =
       let count : length all ≡ length (x ∷ xs) = ap length is in
       let has = waits.places in

@@ -1,1 +1,2 @@
+pub mod Digested
 pub mod Resting

@@ -1,6 +1,6 @@
 //! The challenges against a node that are open.
 
-ghost use Rattle.std.specs.Prelude.{◌≡◌, ◌↔◌, ◌++◌, ℕ, IfOk, OnOk, map, slice_get, true};
+ghost use Rattle.std.specs.Prelude.{◌≡◌, ◌↔◌, ◌++◌, ◌<◌, ℕ, IfOk, OnOk, length, map, slice_get, slice_index_or, true};
 ghost use Rattle.std.specs.List.{Contains, flat_map};
 ghost use Rattle.std.specs.List.Sorted.{IsStrictlySortedBy};
 ghost use Rattle.authenticators.specs.Directory.{is_listed};
@@ -18,6 +18,7 @@ use outcome::Memory;
 use replay_verifier::Program;
 use replay_verifier::laws::deviating_lists_do_not_conform;
 use std::alloc::Global;
+use tiered_vec::TieredVec;
 
 /// Puts the challenge at a place behind those that were found.
 fn lend<'a, P>(
@@ -38,19 +39,37 @@ fn lend<'a, P>(
     Ok(())
 }
 
+/// The same of the challenge whose place stands somewhere among others.
+fn lend_at<'a, P>(
+    found: &mut Vec<&'a Item>,
+    items: &'a [KeptItem<P>],
+    node: NodeId,
+    places: &TieredVec<u32>,
+    at: usize,
+) -> Result<(), Memory>
+    requires against { (i : ℕ) → Contains places.now.items i → IsAgainstAt items.now node i }
+    requires inside { at < length places.now.items }
+    ensures { OnOk result ((d : ℕ) → map (λ i. i.now) found.new.items ≡ map (λ i. i.now) found.old.items ++ named_item (slice_get items.now (slice_index_or places.now.items at d))) }
+{
+    match places.get(at) {
+        None => Ok(()),
+        Some(place) => lend(found, items, node, *place),
+    }
+}
+
 /// The challenges against the node at these places, in their order.
 fn challenges_at<'a, P>(
     alloc: Global,
     items: &'a [KeptItem<P>],
     node: NodeId,
-    places: &[u32],
+    places: &TieredVec<u32>,
 ) -> Result<Vec<&'a Item>, Memory>
-    requires { (i : ℕ) → Contains places.now i → IsAgainstAt items.now node i }
-    ensures { IfOk result (λ found. map (λ i. i.now) found.items ≡ flat_map (λ i. named_item (slice_get items.now i)) places.now) }
+    requires { (i : ℕ) → Contains places.now.items i → IsAgainstAt items.now node i }
+    ensures { IfOk result (λ found. map (λ i. i.now) found.items ≡ flat_map (λ i. named_item (slice_get items.now i)) places.now.items) }
 {
     let mut found = Vec::with_capacity(alloc, places.len())?;
-    for place in places {
-        lend(&mut found, items, node, *place)?;
+    for at in 0..places.len() {
+        lend_at(&mut found, items, node, places, at)?;
     }
     Ok(found)
 }
@@ -71,6 +90,6 @@ pub(crate) fn open_challenges<'a, P: Program>(
     let Some(table) = table_of(index, node) else {
         return Ok(Vec::new(alloc));
     };
-    let found = challenges_at(alloc, &index.items, node, &table.unanswered.places)?;
+    let found = challenges_at(alloc, &index.items, node, &table.unanswered)?;
     Ok(found)
 }

@@ -10,6 +10,7 @@ ghost use Rattle.evidence.specs.Contents.{with_items};
 
 use crate::challenges::open_challenges;
 use crate::convicting::proof;
+use crate::digests::Digests;
 use crate::including::{holds, includes};
 use crate::index::Index;
 use crate::indicating::indication;
@@ -33,20 +34,22 @@ use tiered_vec::TieredVec;
 /// more touches the tables of the nodes that it speaks of alone, and a question is a look-up. Entries that several segments have are kept
 /// once. A contract sees the directory and the set of the items.
 ///
-/// It has room for 2^32 items; one more is refused as a growth is.
+/// It has room for 2^32 items; one more is refused as a growth is. Once a digest is asked for, it keeps those of all items from the next
+/// change on; before, none is made.
 #[derive(Drop)]
 pub struct IndexedStore<P: Program> {
     alloc: Global,
     directory: Directory,
     pool: EntryPool,
     index: Index<P>,
+    digests: Digests,
 }
 
 impl<P: Program> Model for IndexedStore<P> {
     ghost use Rattle.std.specs.Coded.{codes};
     ghost use Rattle.evidence.specs.Contents.{Contents, items_code};
     ghost use Rattle.evidence_set.specs.ItemSets.{set_of};
-    ghost use Rattle.indexed_store.specs.within.Resting.{IsAtRest};
+    ghost use Rattle.indexed_store.specs.within.Digested.{IsStoreAtRest};
 
     ghost Value = { Contents };
 
@@ -54,7 +57,7 @@ impl<P: Program> Model for IndexedStore<P> {
 
     ghost view = { λ s. record { directory = s.directory; items = set_of s.index.items.items } };
 
-    ghost invariant = { λ s. IsAtRest s.directory P.means s.index };
+    ghost invariant = { λ s. IsStoreAtRest s.directory P.means s.index s.digests };
 }
 
 impl<P: Program> Evidence<P> for IndexedStore<P> {
@@ -74,6 +77,7 @@ impl<P: Program> Evidence<P> for IndexedStore<P> {
                 order: TieredVec::new(alloc),
                 tables,
             },
+            digests: Digests::new(alloc),
         })
     }
 
@@ -90,7 +94,7 @@ impl<P: Program> Evidence<P> for IndexedStore<P> {
     }
 
     fn digest_at(&self, n: u64) -> Option<Hash> {
-        digest_at(&self.index, n)
+        digest_at(&self.index, &self.digests, n)
     }
 
     fn holds(&self, item: &Item) -> bool {
@@ -105,23 +109,27 @@ impl<P: Program> Evidence<P> for IndexedStore<P> {
         ensures given_back { IfErr result (λ refused. (refused.0.item ≡ checked.item) × (refused.0.verdict ≡ checked.verdict) × IsChecked self.old.directory P.means refused.0) }
         ensures refused { OnErr result (self.new ≡ self.old) }
     {
-        take(
+        let taken = take(
             self.alloc,
             &self.directory,
             &mut self.pool,
             &mut self.index,
             checked,
-        )
+        );
+        self.digests.keep_up(&self.index.items);
+        taken
     }
 
     fn merge(&mut self, other: &IndexedStore<P>) -> Result<u64, Memory> {
-        merge(
+        let merged = merge(
             self.alloc,
             &self.directory,
             &mut self.pool,
             &mut self.index,
             &other.index.items,
-        )
+        );
+        self.digests.keep_up(&self.index.items);
+        merged
     }
 
     /// It is a look-up.
@@ -167,12 +175,14 @@ impl<P: Program> Evidence<P> for IndexedStore<P> {
         ensures joined { OnOk result (self.new ≡ with_items self.old (Join self.old.items (set_of items.items))) }
         ensures refused { OnErr result (self.new ≡ self.old) }
     {
-        take_all(
+        let taken = take_all(
             self.alloc,
             &self.directory,
             &mut self.pool,
             &mut self.index,
             items,
-        )
+        );
+        self.digests.keep_up(&self.index.items);
+        taken
     }
 }

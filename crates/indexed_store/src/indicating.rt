@@ -15,13 +15,13 @@ use replay_verifier::Program;
 use replay_verifier::laws::deviating_lists_do_not_conform;
 
 /// What the table of a node tells.
-fn told(table: &Table) -> Indication
+fn indication_of(table: &Table) -> Indication
     ensures { Tells table.now result }
 {
     if table.exposure.is_some() {
         return Indication::Exposed;
     }
-    if table.unanswered.places.is_empty() {
+    if table.unanswered.len() == 0 {
         return Indication::Trusted;
     }
     Indication::Suspected
@@ -40,6 +40,6 @@ pub(crate) fn indication<P: Program>(
     deviating_lists_do_not_conform::<P::State>();
     match table_of(index, node) {
         None => Indication::Trusted,
-        Some(table) => told(table),
+        Some(table) => indication_of(table),
     }
 }

@@ -2,8 +2,7 @@
 //! say of it: a question about a node looks up what is kept of that node, and an item that is taken its place. What is taken is held
 //! against the node's segments and open challenges. A challenge looks up what answers it, and an acknowledgement or a segment closes
 //! challenges by look-up; a statement that is new looks at the segments from the first that reaches its number to the last that begins
-//! at it or before. Of a node alone that is exposed, or soon will be, or whose log ends at the greatest number, segments and audit
-//! challenges may be held against each other one by one.
+//! at it or before. Segments and audit challenges meet by hashes, so that no node, no number and no order has them compared one by one.
 //!
 //! Its contract is that of the trait `Evidence`. What it keeps of a node is in `node_tables`, how it keeps an item in `kept_items`.
 #![tactic(auto)]
@@ -12,6 +11,7 @@ pub use indexed_store::IndexedStore;
 
 mod challenges;
 mod convicting;
+mod digests;
 mod including;
 mod index;
 mod indexed_store;

@@ -7,8 +7,10 @@ ghost use Rattle.evidence_item.specs.Checking.{Checked as TheChecked};
 ghost use Rattle.evidence_set.specs.Exports.{export_of};
 ghost use Rattle.evidence_set.specs.ItemSets.{count, listed, set_of};
 ghost use Rattle.node_tables.specs.Places.{named_item};
+ghost use Rattle.indexed_store.specs.within.Digested.{AreDigests};
 ghost use Rattle.indexed_store.specs.within.Resting.{IsOrdered};
 
+use crate::digests::Digests;
 use crate::index::Index;
 use containers::{HasItem, write_all};
 use evidence::MAGIC;
@@ -57,14 +59,38 @@ pub(crate) fn item_at<P>(
     }
 }
 
-/// The digest of the item at a place of the order, where there is one.
-pub(crate) fn digest_at<P>(index: &Index<P>, n: u64) -> Option<Hash>
+/// The digest of the item at a place of the order, where there is one, hashed where the item lies.
+fn hashed_at<P>(index: &Index<P>, n: u64) -> Option<Hash>
     requires { IsOrdered index.now }
     ensures { result ≡ option_map digest_of (slice_get (listed (set_of index.now.items.items)) n) }
 {
     match kept_at(index, n) {
         None => None,
         Some(kept) => Some(kept.digest()),
+    }
+}
+
+/// That digest, if it is kept.
+fn made_at<P>(index: &Index<P>, digests: &Digests, n: u64) -> Option<Hash>
+    requires order { IsOrdered index.now }
+    requires made { AreDigests digests.now index.now.items.items }
+    ensures { IfSome result (λ d. option_map digest_of (slice_get (listed (set_of index.now.items.items)) n) ≡ Some d) }
+{
+    match index.order.get(n as usize) {
+        None => None,
+        Some(place) => digests.ask(*place),
+    }
+}
+
+/// The digest of the item at a place of the order, where there is one.
+pub(crate) fn digest_at<P>(index: &Index<P>, digests: &Digests, n: u64) -> Option<Hash>
+    requires order { IsOrdered index.now }
+    requires made { AreDigests digests.now index.now.items.items }
+    ensures { result ≡ option_map digest_of (slice_get (listed (set_of index.now.items.items)) n) }
+{
+    match made_at(index, digests, n) {
+        None => hashed_at(index, n),
+        Some(digest) => Some(digest),
     }
 }
 

@@ -7,7 +7,8 @@ ghost use Rattle.evidence_set.specs.ItemSets.{Join, count, insert, pieces, set_o
 ghost use Rattle.kept_evidence.specs.Kept.{IsWhole, is_kept};
 ghost use Rattle.node_tables.specs.Rooms.{AreReady, AreAllReleased, IsRoomier, KeepsPromises};
 ghost use Rattle.node_tables.specs.Steps.{AscendByNode, EachBecomes};
-ghost use Rattle.indexed_store.specs.within.Resting.{HasRoomOf, IsAtRest, IsAwaiting, IsIndex, IsMadeReady, IsOrdered, IsReadier, Took};
+ghost use Rattle.indexed_store.specs.within.Digested.{StandStill};
+ghost use Rattle.indexed_store.specs.within.Resting.{HasRoomOf, IsAtRest, IsAwaiting, IsIndex, IsMadeReady, IsOrdered, IsReadier, JoinsAtMost};
 
 use crate::including::{has, keeps};
 use crate::index::Index;
@@ -131,7 +132,8 @@ fn add_new<P: Program>(directory: &Directory, index: &mut Index<P>, item: KeptIt
     requires room { HasRoomOf item index.old }
     ensures store { IsIndex directory.now P.means index.new }
     ensures grown { set_of index.new.items.items ≡ insert (set_of index.old.items.items) item.item }
-    ensures took { Took item index.old index.new }
+    ensures joins { JoinsAtMost item index.old index.new }
+    ensures still { StandStill index.old.items.items index.new.items.items }
 {
     let Err(gap) = gap_of_kept(&index.items, &index.order, &item) else {
         release_item(&mut index.tables, &item);
@@ -148,6 +150,7 @@ fn add_each<P: Program>(directory: &Directory, index: &mut Index<P>, more: Vec<K
     ensures store { IsAtRest directory.now P.means index.new }
     ensures joined { set_of index.new.items.items ≡ Join (set_of index.old.items.items) (set_of more.items) }
     ensures grows { length index.old.order.items ≤ length index.new.order.items }
+    ensures still { StandStill index.old.items.items index.new.items.items }
 {
     for item in more {
         add_new(directory, index, item);
@@ -166,6 +169,7 @@ fn add_all<P: Program>(
     ensures told { IfOk result (λ new. count (set_of index.old.items.items) + new ≡ count (set_of index.new.items.items)) }
     ensures joined { OnOk result (set_of index.new.items.items ≡ Join (set_of index.old.items.items) (set_of more.items)) }
     ensures refused { OnErr result (index.new.items.items ≡ index.old.items.items) }
+    ensures still { StandStill index.old.items.items index.new.items.items }
 {
     let before = index.order.len();
     prepare_all(index, &more)?;
@@ -187,6 +191,7 @@ pub(crate) fn merge<P: Program>(
     ensures told { IfOk result (λ new. count (set_of index.old.items.items) + new ≡ count (set_of index.new.items.items)) }
     ensures joined { OnOk result (set_of index.new.items.items ≡ Join (set_of index.old.items.items) (set_of others.now)) }
     ensures refused { OnErr result (index.new.items.items ≡ index.old.items.items) }
+    ensures still { StandStill index.old.items.items index.new.items.items }
 {
     let copies = copies_of_missing(alloc, pool, index, others)?;
     let new = add_all(directory, index, copies)?;
@@ -207,6 +212,7 @@ pub(crate) fn take_all<P: Program>(
     ensures told { IfOk result (λ new. count (set_of index.old.items.items) + new ≡ count (set_of index.new.items.items)) }
     ensures joined { OnOk result (set_of index.new.items.items ≡ Join (set_of index.old.items.items) (set_of checked.items)) }
     ensures refused { OnErr result (index.new.items.items ≡ index.old.items.items) }
+    ensures still { StandStill index.old.items.items index.new.items.items }
 {
     let more = keep_missing(alloc, directory, pool, index, checked)?;
     let new = add_all(directory, index, more)?;

@@ -7,7 +7,8 @@ ghost use Rattle.kept_evidence.specs.Kept.{IsWhole};
 ghost use Rattle.node_tables.specs.Places.{IsGapAt};
 ghost use Rattle.node_tables.specs.Rooms.{KeepsPromises};
 ghost use Rattle.node_tables.specs.Steps.{AscendByNode, EachBecomes};
-ghost use Rattle.indexed_store.specs.within.Resting.{HasRoomOf, IsAtRest, IsIndex, IsMadeReady, IsReadier, Took};
+ghost use Rattle.indexed_store.specs.within.Digested.{RestsBehind};
+ghost use Rattle.indexed_store.specs.within.Resting.{HasRoomOf, IsAtRest, IsIndex, IsMadeReady, IsReadier, JoinsAtMost};
 
 use crate::index::Index;
 use authenticators::Directory;
@@ -75,7 +76,7 @@ pub(crate) fn add<P: Program>(
     ensures store { IsIndex directory.now P.means index.new }
     ensures items { index.new.items.items ≡ index.old.items.items ++ item ∷ [] }
     ensures order { length index.new.order.items ≡ length index.old.order.items + 1 }
-    ensures took { Took item index.old index.new }
+    ensures joins { JoinsAtMost item index.old index.new }
 {
     let place = index.items.len() as u32;
     index.items.push_reserved(item);
@@ -93,7 +94,7 @@ pub(crate) fn take<P: Program>(
 ) -> Result<bool, TakeRefused<P>>
     requires store { IsAtRest directory.now P.means index.old }
     requires checked { IsChecked directory.now P.means checked }
-    ensures store { IsAtRest directory.now P.means index.new }
+    ensures store { RestsBehind directory.now P.means index.old index.new }
     ensures told { IfOk result (λ new. new ≡ not (contains (set_of index.old.items.items) checked.item)) }
     ensures taken { OnOk result (set_of index.new.items.items ≡ insert (set_of index.old.items.items) checked.item) }
     ensures held { Has (set_of index.old.items.items) checked.item → result ≡ Ok false }

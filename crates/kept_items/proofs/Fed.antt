@@ -21,6 +21,10 @@ part_fed {X = X} text xs i p x y z more first second m held =
     subst (λ (ys : List X). Holds256 z (m ++ flat_map text ys)) (sym more)
     (subst (Holds256 z) (flat_map_more text m (take i xs) p) (second (m ++ flat_map text (take i xs)) (first m held)))
 
+-- bytes that are lent under another name
+pub bytes_fed : (x y : Sha256) (s t : List ℕ) → Feeds x y (bytes_text s) → s ≡ t → Feeds x y (bytes_text t)
+bytes_fed x y s t fed is = subst (λ (u : List ℕ). Feeds x y (bytes_text u)) is fed
+
 -- an entry, of which each part is hashed in turn
 pub entry_fed : (x y z w : Sha256) (e : Entry) (n k : ℕ) (t : List ℕ) → Feeds x y (to_be_bytes w64 n) → Feeds y z (k ∷ []) → Feeds z w (bytes_text t) → n ≡ e.seq → k ≡ e.kind → t ≡ e.content → Feeds x w (entry_spelling e)
 entry_fed x y z w e n k t first second third is_n is_k is_t =

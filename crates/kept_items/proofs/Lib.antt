@@ -1,6 +1,7 @@
 mod Entries
 mod Fed
 mod Found
+mod Linked
 mod Made
 mod Orders
 mod Pairs

@@ -1,4 +1,4 @@
-//! The digest of a segment whose entries are shared. Each field is hashed where it lies, and no memory is taken.
+//! The digests of statements, and of segments whose entries are shared. Each field is hashed where it lies, and no memory is taken.
 
 ghost use Rattle.std.specs.Prelude.{◌≡◌};
 ghost use Rattle.std.specs.Int.{to_be_bytes, w64};
@@ -7,13 +7,15 @@ ghost use Rattle.log_chain.specs.declared.limits.TheConstants.{MOST_ENTRIES};
 ghost use Rattle.log_chain.specs.Fields.{IsListUpTo, counted_text};
 ghost use Rattle.item_digests.specs.Digests.{digest_of};
 ghost use Rattle.item_digests.specs.Feeding.{Feeds};
-ghost use Rattle.item_forms.specs.Spelling.{FitsEntry, FitsSegment, entry_spelling, segment_spelling};
+ghost use Rattle.item_forms.specs.Spelling.{FitsAuth, FitsEntry, FitsSegment, auth_spelling, entry_spelling, segment_spelling};
 ghost use Rattle.kept_entries.specs.Shared.{entries_of};
 ghost use Rattle.kept_items.specs.within.Lent.{whole};
 ghost use Rattle.kept_items.specs.within.Shared.{FitsShared, shared_spelling};
 
 use crate::handle::Handle;
 use crate::segment::{KeptSegment, Parts};
+use crate::statement::KeptStatement;
+use authenticators::Authenticator;
 use item_digests::{feed_bytes, feed_hash, feed_u8, feed_u32};
 use kept_entries::SharedEntry;
 use log_chain::Hash;
@@ -23,6 +25,17 @@ fn feed_u64(hasher: &mut Sha256, value: u64)
     ensures { Feeds hasher.old hasher.new (to_be_bytes w64 value) }
 {
     hasher.update(value.to_be_bytes());
+}
+
+/// A statement, as its spelling has it.
+fn feed_auth(hasher: &mut Sha256, auth: &Authenticator)
+    requires { FitsAuth auth.now }
+    ensures { Feeds hasher.old hasher.new (auth_spelling auth.now) }
+{
+    feed_u32(hasher, auth.node.0);
+    feed_u64(hasher, auth.seq);
+    feed_hash(hasher, auth.hash);
+    feed_bytes(hasher, auth.sig.as_slice());
 }
 
 /// An entry, as a segment's spelling has it.
@@ -61,6 +74,16 @@ fn feed_segment(hasher: &mut Sha256, parts: &Parts<'_>)
     feed_hash(hasher, parts.prev);
     feed_entries(hasher, parts.handles);
     feed_bytes(hasher, parts.sig.as_slice());
+}
+
+/// The SHA-256 value of its spelling.
+pub(crate) fn digest_of_statement(statement: &KeptStatement) -> Hash
+    ensures { result ≡ digest_of statement.now.item }
+{
+    let mut hasher = Sha256::new();
+    feed_u8(&mut hasher, 1);
+    feed_auth(&mut hasher, statement.auth());
+    Hash(hasher.finalize())
 }
 
 /// The SHA-256 value of its spelling.

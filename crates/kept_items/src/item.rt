@@ -7,16 +7,18 @@ ghost use Rattle.evidence_set.specs.Challenges.{answers_audit, is_against};
 ghost use Rattle.item_digests.specs.Digests.{digest_of};
 ghost use Rattle.kept_evidence.specs.Telling.{denies, told_answers, told_send};
 ghost use Rattle.item_forms.specs.Forms.{shown as shown_form};
-ghost use Rattle.kept_items.specs.Keeping.{demand, is_challenge, opening_at, reach, subject};
+ghost use Rattle.kept_items.specs.Keeping.{is_challenge, reach, subject};
+ghost use Rattle.kept_items.specs.Links.{link_in};
 ghost use Rattle.kept_items.specs.Positions.{positions, shown, stated};
 ghost use Rattle.kept_items.specs.within.Items.{IsApart, checked_in};
 
-use crate::hashing::digest_of_segment;
+use crate::hashing::{digest_of_segment, digest_of_statement};
 use crate::keeping::KeepRefused;
-use crate::reach::{Demand, Reach};
+use crate::link::Link;
+use crate::reach::Reach;
 use crate::said::Said;
 use crate::segment::KeptSegment;
-use crate::single::{challenge_of, demand, positions_of, statement_of, subject_of};
+use crate::single::{challenge_of, positions_of, statement_of, subject_of};
 use crate::statement::{KeptStatement, is_bare};
 use authenticators::NodeId;
 use evidence_item::{AuditChallenge, Checked, Form, Item, Message};
@@ -40,22 +42,21 @@ pub(crate) enum Body<P> {
     Segment(Box<KeptSegment>),
 }
 
-/// A checked item as it is kept, with the digest of its spelling. A contract sees the checked item.
+/// A checked item as it is kept. A contract sees the checked item.
 ///
-/// It is 112 bytes wide, 32 of them the digest. A statement has the bytes of its signature beside it, any other item what it is made of.
+/// It is 80 bytes wide. A statement has the bytes of its signature beside it, any other item what it is made of.
 #[derive(Drop)]
 pub struct KeptItem<P> {
     pub(crate) body: Body<P>,
-    digest: Hash,
 }
 
-const _: () = prove!(size_of::<KeptItem<()>>() == 112);
+const _: () = prove!(size_of::<KeptItem<()>>() == 80);
 
 impl<P> Model for KeptItem<P> {
     ghost use Rattle.evidence_item.specs.Checking.{Checked};
     ghost use Rattle.std.specs.Coded.{codes};
     ghost use Rattle.item_forms.specs.Pieces.{fits_code};
-    ghost use Rattle.kept_items.specs.within.Items.{IsKept, checked_in};
+    ghost use Rattle.kept_items.specs.within.Items.{IsApart, checked_in};
 
     ghost Value = { Checked };
 
@@ -63,7 +64,7 @@ impl<P> Model for KeptItem<P> {
 
     ghost view = { λ k. checked_in k.body };
 
-    ghost invariant = { λ k. IsKept k.body k.digest };
+    ghost invariant = { λ k. IsApart k.body };
 }
 
 /// A copy of what is kept, whose entries the pool shares.
@@ -97,18 +98,15 @@ impl<P> KeptItem<P> {
         ensures kept { IfOk result (λ k. k ≡ checked) }
         ensures given_back { IfErr result (λ r. r.0 ≡ checked) }
     {
-        let digest = digest_of(checked.item());
         if is_bare(&checked) {
             let statement = KeptStatement::from_checked(checked);
             return Ok(KeptItem {
                 body: Body::Statement(statement),
-                digest,
             });
         }
         match Box::new(alloc, checked) {
             Ok(checked) => Ok(KeptItem {
                 body: Body::Single(checked),
-                digest,
             }),
             Err(refused) => Err(KeepRefused(refused.value)),
         }
@@ -119,10 +117,8 @@ impl<P> KeptItem<P> {
         requires { is_segment segment.value.item.fields ≡ true }
         ensures { result ≡ segment.value }
     {
-        let digest = digest_of_segment(&segment);
         KeptItem {
             body: Body::Segment(segment),
-            digest,
         }
     }
 
@@ -162,11 +158,15 @@ impl<P> KeptItem<P> {
         }
     }
 
-    /// The SHA-256 value of the item's spelling. It is kept, and nothing is hashed.
+    /// The SHA-256 value of the item's spelling. Each field is hashed where it lies; it takes no memory.
     pub fn digest(&self) -> Hash
         ensures { result ≡ digest_of self.now.item }
     {
-        self.digest
+        match &self.body {
+            Body::Statement(statement) => digest_of_statement(statement),
+            Body::Single(checked) => digest_of(checked.item()),
+            Body::Segment(segment) => digest_of_segment(segment),
+        }
     }
 
     /// What replay told, where the item is a segment.
@@ -214,7 +214,7 @@ impl<P> KeptItem<P> {
         }
     }
 
-    /// Of a segment where it begins and ends. It takes a pass over the numbers of its entries, which may not rise.
+    /// Of a segment where it begins and ends.
     pub fn reach(&self) -> Option<Reach>
         ensures { result ≡ reach self.now.item.fields }
     {
@@ -225,26 +225,14 @@ impl<P> KeptItem<P> {
         }
     }
 
-    /// Where a demand begins that the item, which is a segment, can answer: at position 0 by its beginning, and at each position behind
-    /// by an entry.
-    pub fn opening(&self, position: u32) -> Option<u64>
-        ensures { result ≡ opening_at self.now.item.fields position }
+    /// The entry at a position of a segment, as the chain of its log has it. Nothing is hashed.
+    pub fn link(&self, position: u32) -> Option<Link>
+        ensures { result ≡ link_in self.now.item.fields position }
     {
         match &self.body {
             Body::Statement(_) => None,
             Body::Single(_) => None,
-            Body::Segment(segment) => segment.opening(position),
-        }
-    }
-
-    /// What the item demands, where it is an audit challenge.
-    pub fn demand(&self) -> Option<Demand>
-        ensures { result ≡ demand self.now.item.fields }
-    {
-        match &self.body {
-            Body::Statement(_) => None,
-            Body::Single(checked) => demand(checked.item()),
-            Body::Segment(_) => None,
+            Body::Segment(segment) => segment.link(position),
         }
     }
 
@@ -311,9 +299,6 @@ impl<P> KeptItem<P> {
         ensures { IfOk result (λ k. k ≡ self.now) }
     {
         let body = shared_body(alloc, pool, &self.body)?;
-        Ok(KeptItem {
-            body,
-            digest: self.digest,
-        })
+        Ok(KeptItem { body })
     }
 }

@@ -1,6 +1,7 @@
 //! What follows of the definitions. Each function does nothing, and is called to tell the prover what its contract says.
 
-ghost use Rattle.kept_items.specs.Keeping.{AnswersAreWithinReach, CheckedItemsCanBeKept, DenialsAreWithinReach, FoundItemsCanBeKept, OpeningsAreNamed};
+ghost use Rattle.kept_items.specs.Keeping.{CheckedItemsCanBeKept, DenialsAreWithinReach, FoundItemsCanBeKept};
+ghost use Rattle.kept_items.specs.Links.{AnswersAreInherited};
 
 /// An item of which everything was found can be kept.
 pub fn found_items_can_be_kept()
@@ -17,12 +18,7 @@ pub fn denials_are_within_reach()
     ensures { DenialsAreWithinReach }
 {}
 
-/// So does what an audit challenge demands that the segment answers.
-pub fn answers_are_within_reach()
-    ensures { AnswersAreWithinReach }
-{}
-
-/// The segment names where the demand begins.
-pub fn openings_are_named()
-    ensures { OpeningsAreNamed }
+/// A segment that has the entry that tells it, and as much before it, answers an audit challenge as this one does.
+pub fn answers_are_inherited()
+    ensures { AnswersAreInherited }
 {}

@@ -3,16 +3,17 @@
 //! - A [`KeptItem`] is a checked item, which [`KeptItem::keep`] makes by way of a [`Keeping`]. A contract sees the checked item,
 //!   however it is kept.
 //! - [`Said`] lends a statement from where it lies; [`KeptItem::statement`] tells which stands at a position.
-//! - [`Reach`] tells which statements can contradict a segment, and which demands it can answer; [`Demand`] is what an audit challenge
-//!   demands.
+//! - [`Reach`] tells which statements can contradict a segment, and [`Link`] what the chain of its log has of an entry.
 //!
-//! `specs/Positions.antt` has the statements by their positions, `specs/Keeping.antt` what can be kept and of whom an item tells.
+//! `specs/Positions.antt` has the statements by their positions, `specs/Keeping.antt` what can be kept and of whom an item tells,
+//! `specs/Links.antt` the entries of segments.
 //! [`laws`] has what follows; `specs/within` has the words of private code.
 #![tactic(auto)]
 
 pub use item::KeptItem;
 pub use keeping::{KeepRefused, Keeping};
-pub use reach::{Demand, Reach};
+pub use link::Link;
+pub use reach::Reach;
 pub use said::{Said, compare_said};
 
 mod answering;
@@ -22,6 +23,7 @@ mod hashing;
 mod item;
 mod keeping;
 pub mod laws;
+mod link;
 mod lookup;
 mod numbers;
 mod ordering;

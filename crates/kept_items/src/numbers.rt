@@ -1,18 +1,14 @@
 //! The numbers of shared entries.
 
-ghost use Rattle.std.specs.Prelude.{◌≡◌, IfSome, is_some, slice_get};
-ghost use Rattle.std.specs.Option.{option_map};
-ghost use Rattle.log_chain.specs.declared.entry.Entry.{Entry as TheEntry};
+ghost use Rattle.std.specs.Prelude.{◌≡◌, IfSome, is_some};
 ghost use Rattle.log_chain.specs.Chain.{Rising};
 ghost use Rattle.log_chain.specs.History.{StandsAt, has_seq};
 ghost use Rattle.item_forms.specs.Segments.{first_seq, last_seq};
 ghost use Rattle.proofs.specs.Contradictions.{is_rising};
 ghost use Rattle.kept_entries.specs.Shared.{entries_of};
-ghost use Rattle.kept_items.specs.Keeping.{above, greatest_from, least_from, least_seq};
 ghost use Rattle.kept_items.specs.within.Shared.{rises_from};
 
 use crate::handle::Handle;
-use crate::reach::above;
 
 /// The number of the first entry; 0 where there is none.
 pub(crate) fn first_seq(handles: &[Handle]) -> u64
@@ -31,45 +27,6 @@ pub(crate) fn last_seq(handles: &[Handle]) -> u64
     match handles {
         [] => 0,
         [.., last] => last.get().seq(),
-    }
-}
-
-/// The least of this number and those of the entries.
-fn least_from(number: u64, handles: &[Handle]) -> u64
-    ensures { result ≡ least_from number (entries_of handles.now) }
-{
-    let mut least = number;
-    for handle in handles {
-        least = least.min(handle.get().seq());
-    }
-    least
-}
-
-/// The least number of the entries; 0 where there is none. It takes one pass, since the numbers may not rise.
-pub(crate) fn least_seq(handles: &[Handle]) -> u64
-    ensures { result ≡ least_seq (entries_of handles.now) }
-{
-    least_from(first_seq(handles), handles)
-}
-
-/// The greatest number of the entries; 0 where there is none. It takes one pass.
-pub(crate) fn greatest_seq(handles: &[Handle]) -> u64
-    ensures { result ≡ greatest_from 0 (entries_of handles.now) }
-{
-    let mut greatest = 0;
-    for handle in handles {
-        greatest = handle.get().seq().max(greatest);
-    }
-    greatest
-}
-
-/// Where a demand begins from the entry at a place on.
-pub(crate) fn opening_by(handles: &[Handle], place: usize) -> Option<u64>
-    ensures { result ≡ option_map (λ (e : TheEntry). above e.seq) (slice_get (entries_of handles.now) place) }
-{
-    match handles.get(place) {
-        None => None,
-        Some(handle) => Some(above(handle.get().seq())),
     }
 }
 

@@ -9,17 +9,19 @@ ghost use Rattle.item_forms.specs.declared.forms.Fields.TheVariants as form;
 ghost use Rattle.evidence_set.specs.Challenges.{answers_audit};
 ghost use Rattle.kept_entries.specs.Shared.{entries_of, hashes_of};
 ghost use Rattle.kept_evidence.specs.Telling.{denies, told_send};
-ghost use Rattle.kept_items.specs.Keeping.{opening_at, reach, subject};
+ghost use Rattle.kept_items.specs.Keeping.{reach, subject};
+ghost use Rattle.kept_items.specs.Links.{link_in};
 ghost use Rattle.kept_items.specs.Positions.{positions, shown, stated};
 ghost use Rattle.kept_items.specs.within.Parts.{fields_of, findings_in};
 ghost use Rattle.kept_items.specs.within.Lent.{whole};
 
 use crate::answering::have_receipt_of;
 use crate::handle::{Handle, share_again};
+use crate::link::{Link, link_at};
 use crate::lookup::{cover, finds_pair};
-use crate::numbers::{are_rising, first_seq, greatest_seq, last_seq, least_seq, opening_by};
+use crate::numbers::{are_rising, first_seq, last_seq};
 use crate::quoting::{end_of, quote_at};
-use crate::reach::{Reach, low_number, opening_of_log};
+use crate::reach::{Reach, low_number};
 use crate::said::Said;
 use authenticators::NodeId;
 use evidence_item::{AuditChallenge, ByteString, Hash, Message};
@@ -138,25 +140,28 @@ impl KeptSegment {
         quote_at(handles, position as usize - 1)
     }
 
-    /// Where it begins and ends. It takes a pass over the numbers.
+    /// Where it begins and ends.
     pub(crate) fn reach(&self) -> Reach
         ensures { Some result ≡ reach self.now.item.fields }
     {
+        if !self.rises {
+            return Reach {
+                low: u64::MAX,
+                last: 0,
+            };
+        }
         let handles = self.handles.as_slice();
         Reach {
-            low: low_number(self.prev, least_seq(handles)),
-            last: greatest_seq(handles),
+            low: low_number(self.prev, first_seq(handles)),
+            last: last_seq(handles),
         }
     }
 
-    /// Where a demand begins that it can answer by its beginning, or by the entry before a position.
-    pub(crate) fn opening(&self, position: u32) -> Option<u64>
-        ensures { result ≡ opening_at self.now.item.fields position }
+    /// The entry at a position.
+    pub(crate) fn link(&self, position: u32) -> Option<Link>
+        ensures { result ≡ link_in self.now.item.fields position }
     {
-        if position == 0 {
-            return opening_of_log(self.prev);
-        }
-        opening_by(self.handles.as_slice(), position as usize - 1)
+        link_at(self.prev, self.handles.as_slice(), position as usize)
     }
 
     /// Whether the statement contradicts it. It takes no pass over the numbers.

@@ -4,10 +4,9 @@ ghost use Rattle.std.specs.Prelude.{◌≡◌, IfNone, IfSome, Some, false, true
 ghost use Rattle.std.specs.Option.{option_map};
 ghost use Rattle.evidence_item.specs.Checking.{is_segment};
 ghost use Rattle.evidence_item.specs.Statements.{named, says};
-ghost use Rattle.kept_items.specs.Keeping.{demand, is_challenge, subject};
+ghost use Rattle.kept_items.specs.Keeping.{is_challenge, subject};
 ghost use Rattle.kept_items.specs.Positions.{either_at, positions, shown, stated};
 
-use crate::reach::{Demand, demand_of};
 use crate::said::Said;
 use authenticators::NodeId;
 use evidence_item::{
@@ -134,15 +133,5 @@ pub(crate) fn subject_of(item: &Item) -> Option<NodeId>
         Form::Audit(challenge) => Some(challenge.node),
         Form::Send(message) => Some(message.to),
         Form::Ack(ack) => Some(ack.message.to),
-    }
-}
-
-/// What an audit challenge demands.
-pub(crate) fn demand(item: &Item) -> Option<Demand>
-    ensures { result ≡ demand item.now.fields }
-{
-    match item.form() {
-        Form::Audit(challenge) => Some(demand_of(challenge)),
-        Form::Auth(_) | Form::Segment(_) | Form::Send(_) | Form::Ack(_) => None,
     }
 }

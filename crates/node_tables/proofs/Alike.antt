@@ -10,7 +10,6 @@ use Rattle.std.proofs.lemmas.List.Elements.{Contains-get_or}
 use Rattle.std.proofs.lemmas.Option.{same_Some}
 use Rattle.std.proofs.lemmas.Slice.Eq.{bytes_eq-Decides}
 use Rattle.authenticators.specs.declared.authenticator.Authenticator.{Authenticator}
-use Rattle.authenticators.specs.StatementSet.{NoConflict}
 use Rattle.evidence_item.specs.Checking.{Checked}
 use Rattle.item_forms.specs.declared.forms.Fields.{Fields}
 use Rattle.node_tables.specs.declared.row.Row.{Row}

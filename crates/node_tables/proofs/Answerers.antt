@@ -85,7 +85,7 @@ acknowledges m (form.Audit c) f h = absurd h
 acknowledges m (form.Send n) f h = absurd h
 acknowledges m (form.Ack a) f h = (answers_decide [] (form.Send m) (form.Ack a)).1 h
 
-answered_at : (items : List Checked) (i n : ℕ) (c d : Checked) → slice_get items i ≡ Some c → slice_get items n ≡ Some d → answers_at items i n ≡ told_answers c.item.fields d
+pub answered_at : (items : List Checked) (i n : ℕ) (c d : Checked) → slice_get items i ≡ Some c → slice_get items n ≡ Some d → answers_at items i n ≡ told_answers c.item.fields d
 answered_at items i n c d at_i at_n = ap (λ (o : Option Checked). answered_by o (slice_get items n)) at_i ∙ ap (answered_by (Some c)) at_n
 
 pub answered_means : (o p : Option Checked) → answered_by o p ≡ true → (c d : Checked) × (o ≡ Some c) × (p ≡ Some d) × (told_answers c.item.fields d ≡ true)

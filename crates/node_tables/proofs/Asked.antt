@@ -11,8 +11,7 @@ use Rattle.item_forms.proofs.ItemOrders.{by_bytes_exact}
 use Rattle.evidence_item.specs.Checking.{Checked}
 use Rattle.kept_evidence.specs.Kept.{by_item}
 use Rattle.kept_evidence.proofs.Orders.{by_item_total}
-use Rattle.node_tables.specs.declared.unanswered.Unanswered.{Unanswered}
-use Rattle.node_tables.specs.Places.{ArePlacesOf, AreAsked, AscendBySpelling, IsThere, RiseByDemand, demand_by, demand_key, item_order_by}
+use Rattle.node_tables.specs.Places.{ArePlacesOf, AscendBySpelling, item_order_by}
 use Rattle.node_tables.specs.within.Placing.{IsNewAmong}
 use Rattle.node_tables.proofs.Grown.{still_at}
 use Rattle.node_tables.proofs.RowLists.{insert_names, named_at, same_length}
@@ -44,36 +43,11 @@ pub asked_more : (items : List Checked) (x : Checked) (places : List ℕ) → As
 asked_more items x places asked = record { named = asked.named; names = places_more items x places asked.named asked.names; ascending = asked.ascending }
 
 -- at each of the places stands an item
-pub there_by : (items : List Checked) (places : List ℕ) → AscendBySpelling items places → (i : ℕ) → Contains places i → IsThere items i
+pub there_by : (items : List Checked) (places : List ℕ) → AscendBySpelling items places → (i : ℕ) → Contains places i → (c : Checked) × (slice_get items i ≡ Some c)
 there_by items places asked i (k, inside, is) =
     let here : k < length asked.named = let l = same_length (slice_get items) places asked.named asked.names in omega (arith, inside, l) in
     let e = some_of asked.named k here in
     (get_or asked.named k e, subst (λ n. slice_get items n ≡ Some (get_or asked.named k e)) is (named_at (slice_get items) places asked.named k i e asked.names here))
-
--- an item more leaves what is demanded at each place where one stands
-demand_still : (items : List Checked) (x : Checked) (i : ℕ) → IsThere items i → demand_by (slice_get (items ++ x ∷ []) i) ≡ demand_by (slice_get items i)
-demand_still items x i (c, at) = ap demand_by (still_at items x i c at ∙ sym at)
-
-pub asked_grown : (items : List Checked) (x : Checked) (u : Unanswered) → AreAsked items u → AreAsked (items ++ x ∷ []) u
-asked_grown items x u asked = record {
-  spelled = asked_more items x u.places.items asked.spelled;
-  rising = λ i j d le inside.
-      let one = ap demand_key (demand_still items x (get_or u.audits.items i d) (asked.there (get_or u.audits.items i d) (Contains-get_or u.audits.items i d (omega (arith, le, inside))))) in
-      let other = ap demand_key (demand_still items x (get_or u.audits.items j d) (asked.there (get_or u.audits.items j d) (Contains-get_or u.audits.items j d inside))) in
-      let up = asked.rising i j d le inside in
-      omega (arith, one, other, up);
-  there = λ i has. let (c, at) = asked.there i has in (c, still_at items x i c at);
-  audits = λ i d has is. asked.audits i d has (sym (demand_still items x i (there_by items u.places.items asked.spelled i has)) ∙ is);
-}
-
--- fewer challenges, whose audit challenges stand as before
-pub asked_less : (items : List Checked) (u v : Unanswered) → AreAsked items u → AscendBySpelling items v.places.items → v.audits.items ≡ u.audits.items → ((i : ℕ) → Contains v.places.items i → Contains u.places.items i) → AreAsked items v
-asked_less items u v asked spelled same fewer = record {
-  spelled = spelled;
-  rising = subst (RiseByDemand items) (sym same) asked.rising;
-  there = λ i has. asked.there i (subst (λ l. Contains l i) same has);
-  audits = λ i d has is. subst (λ l. Contains l i) (sym same) (asked.audits i d (fewer i has) is);
-}
 
 -- ---- some of them are taken away
 

@@ -1,5 +1,5 @@
 -- What comes to a table with an item, beside its statements.
-use Rattle.std.proofs.Common.{◌≡◌, ℕ, ◌-◌, true, false, not, List, Option, Some, None, refl, sym, ap, subst, ◌∙◌, ◌⊎◌, inl, inr, ⊎_elim, arith}
+use Rattle.std.proofs.Common.{◌≡◌, ℕ, ◌-◌, true, false, not, List, length, Option, Some, None, refl, sym, ap, subst, ◌∙◌, ◌⊎◌, inl, inr, ⊎_elim, arith}
 use Rattle.std.specs.Prelude.{◌↔◌, slice_get}
 use Rattle.std.specs.List.{Contains, filter}
 use Rattle.std.proofs.lemmas.Bool.Decides.{Decides-eqb}
@@ -15,8 +15,10 @@ use Rattle.kept_evidence.specs.Telling.{IsSegmentOf, is_answered, told_answers, 
 use Rattle.kept_items.specs.Keeping.{subject}
 use Rattle.kept_evidence.proofs.Members.{passes, passing}
 use Rattle.node_tables.specs.declared.table.Table.{Table}
+use Rattle.node_tables.specs.declared.hashes.Hashes.{Hashes}
+use Rattle.node_tables.specs.Hashed.{AreSame}
 use Rattle.node_tables.specs.Places.{IsAgainstAt, IsOpenAt}
-use Rattle.node_tables.specs.Tables.{IsSegmentAt, Stands}
+use Rattle.node_tables.specs.Tables.{IsSegmentAt, HasSpanAt}
 use Rattle.node_tables.specs.within.Bringing.{SegmentStep}
 use Rattle.node_tables.specs.within.Coming.{BodyCame, BodyPut, IsBodyDue}
 use Rattle.node_tables.specs.within.Placing.{BodyStep, IsAckAt, answered_by, answers_at, is_ack, subject_by}
@@ -24,6 +26,7 @@ use Rattle.item_forms.specs.declared.forms.AckItem.{AckItem}
 use Rattle.node_tables.proofs.Received.{told_receipts}
 use Rattle.node_tables.proofs.Reserved.{rooms_here, rooms_still}
 use Rattle.node_tables.proofs.Answerers.{answer_of, answered_means, answerer}
+use Rattle.node_tables.proofs.Hashed.{asked_roomier, asked_still}
 use Rattle.node_tables.proofs.Bools.{both, false_by, open_so, turned}
 
 -- What `retain` leaves are those that the item does not answer.
@@ -55,6 +58,9 @@ ack_no_segment j (form.Audit c) h s = s
 ack_no_segment j (form.Send m) h s = s
 ack_no_segment j (form.Ack a) h s = s
 
+pub ack_unsegmented : (items : List Checked) (j n : ℕ) → IsAckAt items n → IsSegmentAt items j n → ⊥
+ack_unsegmented items j n (c, here, ack) (d, at, own) = ack_no_segment j c.item.fields ack (subst (λ (k : Checked). IsSegmentOf j k.item.fields) (same_Some d c (sym at ∙ here)) own)
+
 -- what is no challenge against the node is not open
 not_open : (items : List Checked) (j n : ℕ) (c : Checked) → slice_get items n ≡ Some c → is_against j c.item.fields ≡ false → IsOpenAt items j n → ⊥
 not_open items j n c here never (d, at, h) =
@@ -64,33 +70,33 @@ not_open items j n c here never (d, at, h) =
 
 module _ (items : List Checked) (n : ℕ) (t u : Table) where
   closing_step : u.node ≡ t.node → u.rows ≡ t.rows → u.receipts ≡ t.receipts → (j : ℕ) → t.node ≡ j
-      → ((i : ℕ) → Stands u.spans.items i ↔ (Stands t.spans.items i ⊎ ((i ≡ n) × IsSegmentAt items t.node n)))
-      → (IsOpenAt items t.node n → ⊥) → u.unanswered.places.items ≡ filter (λ i. not (answers_at items i n)) t.unanswered.places.items → BodyStep items n t u
+      → ((i : ℕ) → HasSpanAt u.spans.items i ↔ (HasSpanAt t.spans.items i ⊎ ((i ≡ n) × IsSegmentAt items t.node n)))
+      → (IsOpenAt items t.node n → ⊥) → u.unanswered.items ≡ filter (λ i. not (answers_at items i n)) t.unanswered.items → BodyStep items n t u
   closing_step node rows receipts j own stands closed_here is = record {
     node = node;
     rows = rows;
     receipts = receipts;
     stands = stands;
-    unanswered = λ i. let c = closed items n t.unanswered.places.items u.unanswered.places.items is i in (
+    unanswered = λ i. let c = closed items n t.unanswered.items u.unanswered.items is i in (
       λ has. inl (c.0 has),
       λ h. ⊎_elim (λ old. c.1 old) (λ (e : (i ≡ n) × IsOpenAt items t.node n). absurd (closed_here e.1)) h,
     );
   }
 
-  pub segment_closes : (v : Table) → SegmentStep items n t v → IsSegmentAt items t.node n → u.node ≡ v.node → u.rows ≡ v.rows → u.receipts ≡ v.receipts → u.spans ≡ v.spans → u.unanswered.places.items ≡ filter (λ i. not (answers_at items i n)) v.unanswered.places.items → BodyStep items n t u
+  pub segment_closes : (v : Table) → SegmentStep items n t v → IsSegmentAt items t.node n → u.node ≡ v.node → u.rows ≡ v.rows → u.receipts ≡ v.receipts → u.spans ≡ v.spans → u.unanswered.items ≡ filter (λ i. not (answers_at items i n)) v.unanswered.items → BodyStep items n t u
   segment_closes v step segment node rows receipts spans is = closing_step (node ∙ step.node) (rows ∙ step.rows) (receipts ∙ step.receipts) t.node refl
-      (λ i. subst (λ w. Stands w.items i ↔ (Stands t.spans.items i ⊎ ((i ≡ n) × IsSegmentAt items t.node n))) (sym spans) (
+      (λ i. subst (λ w. HasSpanAt w.items i ↔ (HasSpanAt t.spans.items i ⊎ ((i ≡ n) × IsSegmentAt items t.node n))) (sym spans) (
         λ h. ⊎_elim (λ old. inl old) (λ new. inr (new, segment)) ((step.stands i).0 h),
         λ h. (step.stands i).1 (⊎_elim (λ old. inl old) (λ (e : (i ≡ n) × IsSegmentAt items t.node n). inr e.0) h),
       ))
       (not_open items t.node n segment.0 segment.1 (not_against_segment t.node t.node segment.0.item.fields segment.2))
-      (is ∙ ap (λ w. filter (λ i. not (answers_at items i n)) w.places.items) step.unanswered)
+      (is ∙ ap (λ w. filter (λ i. not (answers_at items i n)) w.items) step.unanswered)
 
-  pub ack_closes : IsAckAt items n → u.node ≡ t.node → u.rows ≡ t.rows → u.receipts ≡ t.receipts → u.spans ≡ t.spans → u.unanswered.places.items ≡ filter (λ i. not (answers_at items i n)) t.unanswered.places.items → BodyStep items n t u
+  pub ack_closes : IsAckAt items n → u.node ≡ t.node → u.rows ≡ t.rows → u.receipts ≡ t.receipts → u.spans ≡ t.spans → u.unanswered.items ≡ filter (λ i. not (answers_at items i n)) t.unanswered.items → BodyStep items n t u
   ack_closes (c, here, ack) node rows receipts spans is = closing_step node rows receipts t.node refl
       (λ i. (
-        λ h. inl (subst (λ w. Stands w.items i) spans h),
-        λ h. ⊎_elim (λ old. subst (λ w. Stands w.items i) (sym spans) old) (λ (e : (i ≡ n) × IsSegmentAt items t.node n).
+        λ h. inl (subst (λ w. HasSpanAt w.items i) spans h),
+        λ h. ⊎_elim (λ old. subst (λ w. HasSpanAt w.items i) (sym spans) old) (λ (e : (i ≡ n) × IsSegmentAt items t.node n).
             absurd (ack_no_segment t.node c.item.fields ack (subst (λ (k : Checked). IsSegmentOf t.node k.item.fields) (same_Some e.1.0 c (sym e.1.1 ∙ here)) e.1.2))) h,
       ))
       (not_open items t.node n c here (not_against_ack t.node c.item.fields ack))
@@ -131,7 +137,7 @@ module _ (items : List Checked) (n : ℕ) (t : Table) (c : Checked) (here : slic
   nothing_answered : (i : ℕ) → answers_at items i n ≡ false
   nothing_answered i = not_answered_by t.node (slice_get items i) (slice_get items n) c here against
 
-  stands_still : (i : ℕ) → Stands t.spans.items i ↔ (Stands t.spans.items i ⊎ ((i ≡ n) × IsSegmentAt items t.node n))
+  stands_still : (i : ℕ) → HasSpanAt t.spans.items i ↔ (HasSpanAt t.spans.items i ⊎ ((i ≡ n) × IsSegmentAt items t.node n))
   stands_still i = (
     λ h. inl h,
     λ h. ⊎_elim (λ old. old) (λ (e : (i ≡ n) × IsSegmentAt items t.node n).
@@ -153,16 +159,16 @@ module _ (items : List Checked) (n : ℕ) (t : Table) (c : Checked) (here : slic
     );
   }
 
-  module _ (u : Table) (node : u.node ≡ t.node) (rows : u.rows ≡ t.rows) (receipts : u.receipts ≡ t.receipts) (spans : u.spans ≡ t.spans) (unanswered : (i : ℕ) → Contains u.unanswered.places.items i ↔ (Contains t.unanswered.places.items i ⊎ (i ≡ n))) where
+  module _ (u : Table) (node : u.node ≡ t.node) (rows : u.rows ≡ t.rows) (receipts : u.receipts ≡ t.receipts) (spans : u.spans ≡ t.spans) (unanswered : (i : ℕ) → Contains u.unanswered.items i ↔ (Contains t.unanswered.items i ⊎ (i ≡ n))) where
     pub open_step : is_answered items c.item.fields ≡ false → BodyStep items n t u
     open_step not_so = record {
       node = node;
       rows = rows;
       receipts = receipts;
-      stands = λ i. subst (λ v. Stands v.items i ↔ (Stands t.spans.items i ⊎ ((i ≡ n) × IsSegmentAt items t.node n))) (sym spans) (stands_still i);
+      stands = λ i. subst (λ v. HasSpanAt v.items i ↔ (HasSpanAt t.spans.items i ⊎ ((i ≡ n) × IsSegmentAt items t.node n))) (sym spans) (stands_still i);
       unanswered = λ i. (
         λ has. ⊎_elim (λ old. inl (old, nothing_answered i)) (λ new. inr (new, (c, here, open_so (is_against t.node c.item.fields) (is_answered items c.item.fields) against not_so))) ((unanswered i).0 has),
-        λ h. (unanswered i).1 (⊎_elim (λ (old : Contains t.unanswered.places.items i × (answers_at items i n ≡ false)). inl old.0) (λ (e : (i ≡ n) × IsOpenAt items t.node n). inr e.0) h),
+        λ h. (unanswered i).1 (⊎_elim (λ (old : Contains t.unanswered.items i × (answers_at items i n ≡ false)). inl old.0) (λ (e : (i ≡ n) × IsOpenAt items t.node n). inr e.0) h),
       );
     }
 
@@ -182,7 +188,7 @@ against_subject j (form.Audit c) h = ap Some ((Decides-eqb c.node j).0 h)
 against_subject j (form.Send m) h = ap Some ((Decides-eqb m.to j).0 h)
 against_subject j (form.Ack a) h = absurd cc
 
-body_still : (items : List Checked) (n : ℕ) (t : Table) (c : Checked) → slice_get items n ≡ Some c → (subject c.item.fields ≡ Some t.node → ⊥) → ((i : ℕ) → Contains t.unanswered.places.items i → IsAgainstAt items t.node i) → BodyStep items n t t
+body_still : (items : List Checked) (n : ℕ) (t : Table) (c : Checked) → slice_get items n ≡ Some c → (subject c.item.fields ≡ Some t.node → ⊥) → ((i : ℕ) → Contains t.unanswered.items i → IsAgainstAt items t.node i) → BodyStep items n t t
 body_still items n t c here other against = record {
   node = refl;
   rows = refl;
@@ -211,18 +217,21 @@ body_still items n t c here other against = record {
 -- Nothing comes to the table of another node.
 pub body_elsewhere : (items : List Checked) (n : ℕ) (c : Checked) (t : Table) → slice_get items n ≡ Some c → IsBodyDue items n t → (subject c.item.fields ≡ Some t.node → ⊥) → BodyCame items n t t
 body_elsewhere items n c t here due other = record {
-  kept = due.others.kept;
+  kept = record {
+    told = due.others.kept.told;
+    asked = asked_still items n t (λ seg. other (segment_subject t.node c.item.fields (subst (λ (k : Checked). IsSegmentOf t.node k.item.fields) (same_Some seg.0 c (sym seg.1 ∙ here)) seg.2))) due.others.kept.asked;
+  };
   step = body_still items n t c here other due.others.against;
   rooms = rooms_still (subject_by (slice_get items n)) t (λ own. other (sym (ap subject_by here) ∙ own));
 }
 
 -- Where it was put, its promise is taken back.
-pub put_back : (items : List Checked) (n m : ℕ) (c : Checked) (t u : Table) → slice_get items n ≡ Some c → subject c.item.fields ≡ Some t.node → BodyPut items n t u → m ≡ u.bodies - 1 → BodyCame items n t (record u { bodies = m })
-put_back items n m c t u here own put is =
-    let v : Table = record u { bodies = m } in
+pub put_back : (items : List Checked) (n m : ℕ) (h : Hashes) (c : Checked) (t u : Table) → slice_get items n ≡ Some c → subject c.item.fields ≡ Some t.node → BodyPut items n t u → m ≡ u.bodies - 1 → AreSame u.hashes h → BodyCame items n t (record u { bodies = m; hashes = h })
+put_back items n m h c t u here own put is same =
+    let v : Table = record u { bodies = m; hashes = h } in
     let less : m ≡ t.bodies - 1 = omega (arith, is, put.counts.bodies) in
     record {
-      kept = record { told = told_receipts items u v refl refl refl refl put.kept.told.receipts put.kept.told; asked = put.kept.asked };
+      kept = record { told = told_receipts items u v refl refl refl refl put.kept.told.receipts put.kept.told; asked = asked_roomier items (length items) u v refl refl same put.kept.asked };
       step = record { node = put.step.node; rows = put.step.rows; receipts = put.step.receipts; stands = put.step.stands; unanswered = put.step.unanswered };
       rooms = rooms_here (subject_by (slice_get items n)) t v (ap subject_by here ∙ own) (record { span_room = put.rooms.span_room; open_room = put.rooms.open_room }) put.counts.promised less;
     }

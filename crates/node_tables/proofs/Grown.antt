@@ -4,7 +4,6 @@ use Rattle.std.specs.Prelude.{◌↔◌, ◌||◌, slice_get, map}
 use Rattle.std.specs.List.{Contains, list_any}
 use Rattle.std.proofs.lemmas.Option.{same_Some}
 use Rattle.authenticators.specs.declared.authenticator.Authenticator.{Authenticator}
-use Rattle.item_forms.specs.declared.forms.AuditChallenge.{AuditChallenge}
 use Rattle.evidence_item.specs.Checking.{Checked}
 use Rattle.node_tables.specs.declared.exposure.ExposingPlaces.{ExposingPlaces}
 use Rattle.node_tables.specs.declared.exposure.ExposingPlaces.TheVariants as exposure
@@ -13,7 +12,7 @@ use Rattle.node_tables.specs.declared.span.Span.{Span}
 use Rattle.node_tables.specs.declared.table.Table.{Table}
 use Rattle.node_tables.specs.Receipts.{AscendBySending}
 use Rattle.node_tables.specs.Rows.{AreRowsOf, stated_at, stated_by}
-use Rattle.node_tables.specs.Tables.{AreSpans, IsSpan, IsTold, IsUpToDate, Names, Says, denied_by, denies_at, deviates_at, deviating, shown_by, shows_at}
+use Rattle.node_tables.specs.Tables.{AreSpans, IsSpan, IsTold, IsUpToDate, Names, Says, denied_by, denies_at, deviates_at, deviating}
 use Rattle.node_tables.proofs.RowLists.{row_names}
 use Rattle.node_tables.proofs.Told.{held_says}
 
@@ -78,9 +77,6 @@ module _ (items : List Checked) (x : Checked) where
   denies_more : (j : ℕ) (p : Span) → IsSpan items j p → (a : Authenticator) → denies_at more a p.item ≡ denies_at items a p.item
   denies_more j p is a = let (c, at, of) = is.segment in ap (λ (o : Option Checked). denied_by o a) (still_at items x p.item c at) ∙ sym (ap (λ (o : Option Checked). denied_by o a) at)
 
-  shows_more : (j : ℕ) (p : Span) → IsSpan items j p → (d : AuditChallenge) → shows_at more d p.item ≡ shows_at items d p.item
-  shows_more j p is d = let (c, at, of) = is.segment in ap (λ (o : Option Checked). shown_by o d) (still_at items x p.item c at) ∙ sym (ap (λ (o : Option Checked). shown_by o d) at)
-
   deviates_more : (j : ℕ) (p : Span) → IsSpan items j p → deviates_at more p.item ≡ deviates_at items p.item
   deviates_more j p is = let (c, at, of) = is.segment in ap deviating (still_at items x p.item c at) ∙ sym (ap deviating at)
 
@@ -89,7 +85,6 @@ module _ (items : List Checked) (x : Checked) where
     segment = let (c, at, of) = is.segment in (c, still_at items x p.item c at, of);
     fits = is.fits;
     reach = λ a h. is.reach a (sym (denies_more j p is a) ∙ h);
-    covers = λ d h. is.covers d (sym (shows_more j p is d) ∙ h);
   }
 
   module _ (j : ℕ) (held : List Authenticator) (spans : List Span) (all : AreSpans items j spans) where

@@ -8,12 +8,16 @@ pub mod Beside
 pub mod Between
 pub mod Bodied
 pub mod Bools
-pub mod Demands
+pub mod Challenged
+pub mod Closed
 pub mod Edges
 pub mod Grown
+pub mod Hashed
+pub mod Holders
 pub mod Joined
 pub mod Lookup
 pub mod Many
+pub mod Marked
 pub mod Meant
 pub mod OneMore
 pub mod Opened
@@ -30,5 +34,6 @@ pub mod Spanned
 pub mod Spans
 pub mod Stated
 pub mod Stepping
+pub mod Taken
 pub mod Told
 pub mod Whole

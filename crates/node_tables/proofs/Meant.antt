@@ -42,7 +42,7 @@ use Rattle.node_tables.specs.declared.table.Table.{Table}
 use Rattle.node_tables.specs.Indexed.{IsSaid, IsTable, Tells}
 use Rattle.node_tables.specs.Places.{IsOrder}
 use Rattle.node_tables.specs.Rows.{stated_by}
-use Rattle.node_tables.specs.Tables.{IsQuiet, IsUpToDate, ShowsAt, Stands, denied_by, denies_at, deviates_at, deviating}
+use Rattle.node_tables.specs.Tables.{IsQuiet, IsUpToDate, ShowsAt, HasSpanAt, denied_by, denies_at, deviates_at, deviating}
 use Rattle.node_tables.proofs.Joined.{kept_items, kept_of}
 use Rattle.node_tables.proofs.Places.{at_contains, contains_at}
 use Rattle.node_tables.proofs.Stated.{has_position, stands}
@@ -111,12 +111,12 @@ module _ {S : Type 0} (ds : Listing) (program : Meaning S) (differ : DeviatingLi
     pub all_held : (a : Authenticator) → Contains all a → a.node ≡ t.node → Contains table.told.held a
     all_held a has of = says_held items t.rows.items table.told.held table.told.rows a ((table.says a).1 (all_said a has, of))
 
-    pub segment_of : (c : Checked) → IsKeptOf t.node is.kept c → (i : ℕ) × (slice_get items i ≡ Some c) × Stands t.spans.items i
+    pub segment_of : (c : Checked) → IsKeptOf t.node is.kept c → (i : ℕ) × (slice_get items i ≡ Some c) × HasSpanAt t.spans.items i
     segment_of c k =
         let (i, at) = at_contains items c (kept_items items order is c k.contains) in
         (i, at, (table.stands i).1 (c, at, k.segment))
 
-    pub kept_segment : (i : ℕ) → Stands t.spans.items i → (c : Checked) × (slice_get items i ≡ Some c) × IsKeptOf t.node is.kept c
+    pub kept_segment : (i : ℕ) → HasSpanAt t.spans.items i → (c : Checked) × (slice_get items i ≡ Some c) × IsKeptOf t.node is.kept c
     kept_segment i h =
         let (c, at, of) = (table.stands i).0 h in
         (c, at, record { contains = is.covers c (contains_at items i c at); segment = of })
@@ -184,12 +184,12 @@ module _ {S : Type 0} (ds : Listing) (program : Meaning S) (differ : DeviatingLi
     pub open_same : (y : Fields) → is_unanswered is.kept t.node y ≡ is_unanswered items t.node y
     open_same y = ap (λ b. is_against t.node y && not b) (answered_same y)
 
-    some_open : (i : ℕ) → Contains t.unanswered.places.items i → SomeItem (set_of is.kept) (IsUnanswered ds (set_of is.kept) t.node)
+    some_open : (i : ℕ) → Contains t.unanswered.items i → SomeItem (set_of is.kept) (IsUnanswered ds (set_of is.kept) t.node)
     some_open i has =
         let (c, at, h) = (table.unanswered i).0 has in
         (suspected_decides ds is.kept t.node found).0 (one_suffices (λ (k : Checked). is_unanswered is.kept t.node k.item.fields) is.kept c (is.covers c (contains_at items i c at)) (open_same c.item.fields ∙ h))
 
-    open_some : SomeItem (set_of is.kept) (IsUnanswered ds (set_of is.kept) t.node) → (i : ℕ) × Contains t.unanswered.places.items i
+    open_some : SomeItem (set_of is.kept) (IsUnanswered ds (set_of is.kept) t.node) → (i : ℕ) × Contains t.unanswered.items i
     open_some some =
         let one = some_passes (λ (k : Checked). is_unanswered is.kept t.node k.item.fields) is.kept ((suspected_decides ds is.kept t.node found).1 some) in
         let (i, at) = at_contains items one.0 (kept_items items order is one.0 one.1) in
@@ -208,8 +208,8 @@ module _ {S : Type 0} (ds : Listing) (program : Meaning S) (differ : DeviatingLi
     -- What the table tells is the indication of its node.
     pub tells_is : (r : Indication) → Tells t r → IsIndication ds program (set_of items) t.node r
     tells_is Exposed (e, some) = exposed_by e some
-    tells_is Suspected (none, some) = (unexposed_by none, let (i, has) = first_of t.unanswered.places.items some in subst IsSuspected same_set (some_open i has))
-    tells_is Trusted (none, empty) = (unexposed_by none, λ some. let (i, has) = open_some (subst IsSuspected (sym same_set) some) in none_in t.unanswered.places.items i empty has)
+    tells_is Suspected (none, some) = (unexposed_by none, let (i, has) = first_of t.unanswered.items some in subst IsSuspected same_set (some_open i has))
+    tells_is Trusted (none, empty) = (unexposed_by none, λ some. let (i, has) = open_some (subst IsSuspected (sym same_set) some) in none_in t.unanswered.items i empty has)
 
     -- ---- the list of them
 
@@ -218,7 +218,7 @@ module _ {S : Type 0} (ds : Listing) (program : Meaning S) (differ : DeviatingLi
 
     named_open : (c : Checked) → Contains table.asked.spelled.named c → IsOpen c.item
     named_open c has =
-        let (i, in_places, at) = named_by (slice_get items) t.unanswered.places.items table.asked.spelled.named c table.asked.spelled.names has 0 in
+        let (i, in_places, at) = named_by (slice_get items) t.unanswered.items table.asked.spelled.named c table.asked.spelled.names has 0 in
         let (d, there, h) = (table.unanswered i).0 in_places in
         let same : d ≡ c = same_Some d c (sym there ∙ at) in
         let is_open : is_unanswered is.kept t.node c.item.fields ≡ true = open_same c.item.fields ∙ subst (λ (k : Checked). is_unanswered items t.node k.item.fields ≡ true) same h in (
@@ -232,7 +232,7 @@ module _ {S : Type 0} (ds : Listing) (program : Meaning S) (differ : DeviatingLi
         let (i, at) = at_contains items c in_items in
         let h : is_unanswered is.kept t.node x.fields ≡ true = (unanswered_decides ds is.kept t.node x.fields found).1 (subst (λ (E : Items). IsUnanswered ds E t.node x.fields) (sym same_set) unanswered) in
         let open_c : is_unanswered items t.node c.item.fields ≡ true = sym (open_same c.item.fields) ∙ ap (λ (y : Piece). is_unanswered is.kept t.node y.fields) is_x ∙ h in
-        (c, row_names (slice_get items) t.unanswered.places.items table.asked.spelled.named i c table.asked.spelled.names ((table.unanswered i).1 (c, at, open_c)) at, is_x)
+        (c, row_names (slice_get items) t.unanswered.items table.asked.spelled.named i c table.asked.spelled.names ((table.unanswered i).1 (c, at, open_c)) at, is_x)
 
     in_pieces : (xs : List Checked) (c : Checked) → Contains xs c → Contains (pieces xs) c.item
     in_pieces xs c (k, inside, is_c) = (k, omega (arith, inside, length-map xs (λ (d : Checked). d.item)), get_or-map (λ (d : Checked). d.item) xs k c c.item inside ∙ ap (λ (d : Checked). d.item) is_c)

@@ -9,8 +9,8 @@ use Rattle.node_tables.specs.Indexed.{AreOfOthers, IsTable}
 use Rattle.node_tables.specs.Rooms.{HasRoomFor}
 use Rattle.node_tables.specs.Steps.{AllTables, EachBecomes}
 use Rattle.node_tables.specs.within.Coming.{IsDue, ItemCame}
-use Rattle.node_tables.proofs.Asked.{asked_grown}
 use Rattle.node_tables.proofs.Grown.{last_at, told_grown}
+use Rattle.node_tables.proofs.Hashed.{asked_grown}
 use Rattle.node_tables.proofs.Received.{receipts_before}
 use Rattle.node_tables.proofs.Whole.{against_here, new_here, others_here, table_more}
 
@@ -23,7 +23,7 @@ module _ (others : List Checked) (x : Checked) (tables : List Table) (each : All
       let table = each i t at in
       record {
         others = record {
-          kept = record { told = told_grown others x t t refl refl refl refl refl table.told; asked = asked_grown others x t.unanswered table.asked };
+          kept = record { told = told_grown others x t t refl refl refl refl refl table.told; asked = asked_grown others x t table.asked };
           spans = others_here others x t.node t refl table.stands;
           against = λ m has. against_here others x t.node m ((table.unanswered m).0 has);
           new = new_here others x t table absent;

@@ -17,19 +17,20 @@ use Rattle.node_tables.specs.declared.row.Row.{Row}
 use Rattle.node_tables.specs.declared.sending.Sending.{Sending}
 use Rattle.node_tables.specs.declared.span.Span.{Span}
 use Rattle.node_tables.specs.declared.table.Table.{Table}
+use Rattle.node_tables.specs.Hashed.{AreHolders, DoNotFall}
 use Rattle.node_tables.specs.Indexed.{HasNode, IsIndexed, IsTable}
 use Rattle.node_tables.specs.Receipts.{AscendBySending, by_sending}
 use Rattle.node_tables.specs.Rows.{AreRowsOf}
 use Rattle.node_tables.specs.Steps.{AllTables, AscendByNode, by_node}
-use Rattle.node_tables.specs.Places.{AscendBySpelling, RiseByDemand}
+use Rattle.node_tables.specs.Places.{AscendBySpelling}
 use Rattle.node_tables.specs.Tables.{AreSpans, IsUpToDate}
 use Rattle.node_tables.proofs.Lookup.{found}
 use Rattle.node_tables.proofs.Places.{at_contains, contains_at}
 use Rattle.node_tables.proofs.Stepping.{by_node_total}
 
 -- A table with nothing says what no items say.
-pub empty_table : (t : Table) → t.rows.items ≡ [] → t.receipts.items ≡ [] → t.spans.items ≡ [] → t.unanswered.places.items ≡ [] → t.unanswered.audits.items ≡ [] → t.exposure ≡ None → IsTable [] t
-empty_table t rows receipts spans unanswered audits exposure = record {
+pub empty_table : (t : Table) → t.rows.items ≡ [] → t.receipts.items ≡ [] → t.spans.items ≡ [] → t.unanswered.items ≡ [] → t.hashes.holders.items ≡ [] → t.hashes.lasts.items ≡ [] → t.hashes.firsts.items ≡ [] → t.exposure ≡ None → IsTable [] t
+empty_table t rows receipts spans unanswered holders lasts firsts exposure = record {
   told = record {
     held = [];
     rows = subst (λ (l : List Row). AreRowsOf [] l []) (sym rows) refl;
@@ -52,9 +53,19 @@ empty_table t rows receipts spans unanswered audits exposure = record {
   unanswered = λ i. (λ h. absurd (none_here i (subst (λ (l : List ℕ). Contains l i) unanswered h)), λ h. absurd cc);
   asked = record {
     spelled = subst (AscendBySpelling []) (sym unanswered) (record { named = []; names = refl; ascending = sorted-nil by_item });
-    rising = subst (RiseByDemand []) (sym audits) (λ i j d le inside. absurd (omega (arith, inside)));
-    there = λ i has. absurd (none_here i (subst (λ (l : List ℕ). Contains l i) audits has));
-    audits = λ i d has is. absurd (none_here i (subst (λ (l : List ℕ). Contains l i) unanswered has));
+    hashed = λ whole. record {
+      holders = subst (AreHolders [] t.node 0 0) (sym holders) (record {
+        order = λ i k d le inside. absurd (omega (arith, inside));
+        each = λ m has. absurd (none_here m has);
+        all = λ i k x came at. absurd cc;
+        one = λ i k l m x y came_x came_y at_x at_y same. absurd cc;
+        based = λ i k x came at is. absurd cc;
+      });
+      lasts = subst DoNotFall (sym lasts) (λ i k d le inside. absurd (omega (arith, inside)));
+      firsts = subst DoNotFall (sym firsts) (λ i k d le inside. absurd (omega (arith, inside)));
+      marked = λ i c g has audit named. absurd (none_here i (subst (λ (l : List ℕ). Contains l i) unanswered has));
+      quiet = λ i m c has audit seg other. absurd (none_here i (subst (λ (l : List ℕ). Contains l i) unanswered has));
+    };
   };
 }
 

@@ -118,12 +118,13 @@ module _ (items : List Checked) (row : Row) where
     receipts = λ s. (λ h. inl h, λ h. ⊎_elim (λ old. old) (λ (e : (receipt_at items row ≡ Some s) × (s.from ≡ t.node)). absurd (cc (none, e.0))) h);
     spans = refl;
     unanswered = refl;
+    hashes = refl;
     room = omega arith;
   }
 
-  pub receipt_step : (t u : Table) (s : Sending) → receipt_at items row ≡ Some s → ((a : Authenticator) → stated_at items row ≡ Some a → a.node ≡ t.node) → u.node ≡ t.node → u.rows ≡ t.rows → u.spans ≡ t.spans → u.unanswered ≡ t.unanswered
+  pub receipt_step : (t u : Table) (s : Sending) → receipt_at items row ≡ Some s → ((a : Authenticator) → stated_at items row ≡ Some a → a.node ≡ t.node) → u.node ≡ t.node → u.rows ≡ t.rows → u.spans ≡ t.spans → u.unanswered ≡ t.unanswered → u.hashes ≡ t.hashes
       → ((x : Sending) → Contains u.receipts.items x ↔ (Contains t.receipts.items x ⊎ (x ≡ s))) → t.receipts.room ≤ u.receipts.room + 1 → ReceiptStep items row t u
-  receipt_step t u s is own node rows spans unanswered members room =
+  receipt_step t u s is own node rows spans unanswered hashes members room =
       let quoted = stated_by_receipt (slice_get items row.item) row.position s is in
       let from : s.from ≡ t.node = sym quoted.2 ∙ own quoted.0 quoted.1 in
       record {
@@ -135,13 +136,14 @@ module _ (items : List Checked) (row : Row) where
         );
         spans = spans;
         unanswered = unanswered;
+        hashes = hashes;
         room = room;
       }
 
   -- A row and a receipt together.
   pub statement_step : (t u v w : Table) → RowStep items row t u → ReceiptStep items row u v → IsSome (stated_at items row) → ((a : Authenticator) → stated_at items row ≡ Some a → a.node ≡ t.node)
-      → w.node ≡ v.node → w.rows ≡ v.rows → w.receipts ≡ v.receipts → w.spans ≡ v.spans → w.unanswered ≡ v.unanswered → StatementStep items row t w
-  statement_step t u v w one two there own node rows receipts spans unanswered =
+      → w.node ≡ v.node → w.rows ≡ v.rows → w.receipts ≡ v.receipts → w.spans ≡ v.spans → w.unanswered ≡ v.unanswered → w.hashes ≡ v.hashes → StatementStep items row t w
+  statement_step t u v w one two there own node rows receipts spans unanswered hashes =
       let had : u.receipts.room ≡ t.receipts.room = ap (λ r. r.room) one.receipts in
       let kept : v.rows.room ≡ u.rows.room = ap (λ r. r.room) two.rows in
       let last : w.rows.room ≡ v.rows.room = ap (λ r. r.room) rows in
@@ -155,6 +157,7 @@ module _ (items : List Checked) (row : Row) where
             (subst (λ n. Contains v.receipts.items s ↔ (Contains u.receipts.items s ⊎ ((receipt_at items row ≡ Some s) × (s.from ≡ n)))) one.node (two.receipts s)));
         spans = spans ∙ two.spans ∙ one.spans;
         unanswered = unanswered ∙ two.unanswered ∙ one.unanswered;
+        hashes = hashes ∙ two.hashes ∙ one.hashes;
         room = omega (arith, one.room, two.room, had, kept, last, last_too);
         other_room = λ other. absurd (other some.0 some.1 (own some.0 some.1));
       }

@@ -12,17 +12,18 @@ use Rattle.tiered_vec.specs.Tiers.{Tiered}
 use Rattle.node_tables.specs.declared.row.Row.{Row}
 use Rattle.node_tables.specs.declared.sending.Sending.{Sending}
 use Rattle.node_tables.specs.declared.table.Table.{Table}
-use Rattle.node_tables.specs.Places.{asked_room, bodies, is_subject, open_room, span_room}
+use Rattle.node_tables.specs.Places.{bodies, is_subject, open_room, span_room}
 use Rattle.node_tables.specs.Rows.{stated_by}
 use Rattle.node_tables.specs.Rooms.{AreAllReleased, AreBack, AreMany, AreReady, HasRoomFor, HasRoomForAll, IsReady, IsReleased, IsRoomier, ItemRooms, KeepsPromises, Promises, TakesBack, bodies_of, rows_of, sum_of}
 use Rattle.node_tables.specs.Steps.{AscendByNode, EachBecomes, position_of, room, wanted}
 use Rattle.node_tables.specs.within.Coming.{BodyCame, StatementsCame}
 use Rattle.node_tables.specs.within.Placing.{BodyRooms, BodyRoomsOf, subject_by}
 use Rattle.node_tables.specs.within.Promising.{nothing, one_at, one_for}
+use Rattle.node_tables.proofs.Hashed.{no_same, same_then}
 use Rattle.node_tables.proofs.Stepping.{as_read, to_none, to_one, wanted_then}
 
 pub roomier_still : (t : Table) → IsRoomier t t
-roomier_still t = record { node = refl; rows = refl; receipts = refl; spans = refl; unanswered = refl; audits = refl; exposure = refl; room = omega arith; span_room = omega arith; open_room = omega arith }
+roomier_still t = record { node = refl; rows = refl; receipts = refl; spans = refl; unanswered = refl; hashes = no_same t.hashes; exposure = refl; room = omega arith; span_room = omega arith; open_room = omega arith }
 
 pub roomier_then : (t u v : Table) → IsRoomier t u → IsRoomier u v → IsRoomier t v
 roomier_then t u v a b = record {
@@ -31,7 +32,7 @@ roomier_then t u v a b = record {
   receipts = b.receipts ∙ a.receipts;
   spans = b.spans ∙ a.spans;
   unanswered = b.unanswered ∙ a.unanswered;
-  audits = b.audits ∙ a.audits;
+  hashes = same_then t.hashes u.hashes v.hashes a.hashes b.hashes;
   exposure = b.exposure ∙ a.exposure;
   room = omega (arith, a.room, b.room);
   span_room = omega (arith, a.span_room, b.span_room);
@@ -254,7 +255,7 @@ item_rooms items n k x here is t u v one other =
     let of_x : (j : ℕ) → bodies (subject_by (slice_get items n)) j ≡ bodies_of x j = λ j. ap (λ (o : Option Checked). bodies (subject_by o) j) here in
     let same : bodies (subject_by (slice_get items n)) u.node ≡ bodies_of x t.node = of_x u.node ∙ ap (bodies_of x) one.step.node in
     let had : span_room t ≡ span_room u = ap (λ s. s.room) (sym one.step.spans) in
-    let had_asked : open_room t ≡ open_room u = ap asked_room (sym one.step.unanswered) in
+    let had_asked : open_room t ≡ open_room u = ap (λ w. w.room) (sym one.step.unanswered) in
     let rows : wanted (position_of items n) k t.node ≡ rows_of x t.node = ap (λ (o : Option Checked). wanted (stated_by o) k t.node) here ∙ ap (λ m. wanted (stated x) m t.node) is in
     let kept : room u ≡ room v = subst (λ (w : Tiered Row). room u ≡ min w.room v.receipts.room) (sym other.step.rows) (subst (λ (w : Tiered Sending). room u ≡ min u.rows.room w.room) (sym other.step.receipts) refl) in
     record {

@@ -6,8 +6,7 @@ use Rattle.authenticators.specs.declared.authenticator.Authenticator.{Authentica
 use Rattle.evidence_item.specs.Checking.{Checked}
 use Rattle.kept_evidence.specs.Telling.{denies}
 use Rattle.kept_items.specs.declared.reach.Reach.{Reach}
-use Rattle.kept_items.specs.Keeping.{AnswersAreWithinReach, DenialsAreWithinReach, opening, reach}
-use Rattle.item_forms.specs.declared.forms.AuditChallenge.{AuditChallenge}
+use Rattle.kept_items.specs.Keeping.{DenialsAreWithinReach, reach}
 use Rattle.node_tables.specs.declared.exposure.ExposingPlaces.{ExposingPlaces}
 use Rattle.node_tables.specs.declared.exposure.ExposingPlaces.TheVariants as exposure
 use Rattle.node_tables.specs.declared.row.Row.{Row}
@@ -15,7 +14,7 @@ use Rattle.node_tables.specs.declared.span.Span.{Span}
 use Rattle.node_tables.specs.declared.table.Table.{Table}
 use Rattle.node_tables.specs.Receipts.{AscendBySending}
 use Rattle.node_tables.specs.Rows.{AreRowsOf}
-use Rattle.node_tables.specs.Tables.{AreSpans, IsQuiet, IsSpan, IsTold, IsUpToDate, ShowsAt, Stands, denied_by, denies_at, deviates_at, shown_by, shows_at}
+use Rattle.node_tables.specs.Tables.{AreSpans, IsQuiet, IsSpan, IsTold, IsUpToDate, ShowsAt, HasSpanAt, denied_by, denies_at, deviates_at}
 use Rattle.node_tables.specs.within.Bringing.{IsBroughtBySegment, IsNextBySegment, SegmentBringsNothing, SegmentStep}
 use Rattle.node_tables.proofs.Told.{held_says, says_held}
 
@@ -28,25 +27,22 @@ module _ (items : List Checked) (place : ℕ) (c : Checked) (here : slice_get it
   pub span_reach : DenialsAreWithinReach → (r : Reach) → reach c.item.fields ≡ Some r → (a : Authenticator) → denies_at items a place ≡ true → (r.low ≤ a.seq + 2) × (a.seq ≤ r.last)
   span_reach law r is a h = let w = law a c.item.fields r is (sym (same_denial a) ∙ h) in (w.from, w.to)
 
-  pub span_covers : AnswersAreWithinReach → (r : Reach) → reach c.item.fields ≡ Some r → (d : AuditChallenge) → shows_at items d place ≡ true → (r.low ≤ opening d.first) × (d.last.seq ≤ r.last)
-  span_covers law r is d h = let w = law d c.item.fields r is (sym (ap (λ (o : Option Checked). shown_by o d) here) ∙ h) in (w.from, w.to)
-
 -- ---- the table
 
 module _ (items : List Checked) (spans more : List Span) (p : Span) (members : (q : Span) → Contains more q ↔ (Contains spans q ⊎ (q ≡ p))) where
   in_more : (q : Span) → Contains spans q → Contains more q
   in_more q has = (members q).1 (inl has)
 
-  here : Stands more p.item
+  here : HasSpanAt more p.item
   here = (p, (members p).1 (inr refl), refl)
 
-  stands_more : (i : ℕ) → Stands spans i → Stands more i
+  stands_more : (i : ℕ) → HasSpanAt spans i → HasSpanAt more i
   stands_more i (q, has, is) = (q, in_more q has, is)
 
-  pub stands_or : (i : ℕ) → Stands more i ↔ (Stands spans i ⊎ (i ≡ p.item))
+  pub stands_or : (i : ℕ) → HasSpanAt more i ↔ (HasSpanAt spans i ⊎ (i ≡ p.item))
   stands_or i = (
     λ h. ⊎_elim (λ old. inl (h.0, old, h.2)) (λ new. inr (sym h.2 ∙ ap (λ (q : Span). q.item) new)) ((members h.0).0 h.1),
-    λ h. ⊎_elim (λ old. stands_more i old) (λ is. subst (Stands more) (sym is) here) h,
+    λ h. ⊎_elim (λ old. stands_more i old) (λ is. subst (HasSpanAt more) (sym is) here) h,
   )
 
   module _ (rows : List Row) (held : List Authenticator) (names : AreRowsOf items rows held) (d : Row) where
@@ -70,8 +66,8 @@ module _ (items : List Checked) (spans more : List Span) (p : Span) (members : (
 
     now_shows : (e : ExposingPlaces) → IsBroughtBySegment items rows p.item e → ShowsAt items held more e
     now_shows (exposure.TwoHashes r q) h = absurd h
-    now_shows (exposure.Denied r i) (at, has, (a, is, denies)) = (a, (is, says_held items rows held names a (r, has, is)), subst (Stands more) (sym at) here, subst (λ n. denies_at items a n ≡ true) (sym at) denies)
-    now_shows (exposure.Deviates i) (at, deviates) = (subst (Stands more) (sym at) here, subst (λ n. deviates_at items n ≡ true) (sym at) deviates)
+    now_shows (exposure.Denied r i) (at, has, (a, is, denies)) = (a, (is, says_held items rows held names a (r, has, is)), subst (HasSpanAt more) (sym at) here, subst (λ n. denies_at items a n ≡ true) (sym at) denies)
+    now_shows (exposure.Deviates i) (at, deviates) = (subst (HasSpanAt more) (sym at) here, subst (λ n. deviates_at items n ≡ true) (sym at) deviates)
 
     next_told : (old new : Option ExposingPlaces) → IsUpToDate items held spans old → IsNextBySegment items rows p.item old new → IsUpToDate items held more new
     next_told (Some e) new told next = subst (IsUpToDate items held more) (sym next) (still_shows e told)
@@ -91,11 +87,12 @@ module _ (items : List Checked) (t u : Table) (p : Span) (d : Row) (node : u.nod
     told = next_told items t.spans.items u.spans.items p members t.rows.items told.held told.rows d t.exposure u.exposure told.told next;
   }
 
-  pub step_segment : (place : ℕ) → p.item ≡ place → u.unanswered ≡ t.unanswered → SegmentStep items place t u
-  step_segment place at unanswered = record {
+  pub step_segment : (place : ℕ) → p.item ≡ place → u.unanswered ≡ t.unanswered → u.hashes ≡ t.hashes → SegmentStep items place t u
+  step_segment place at unanswered hashes = record {
     node = node;
     rows = rows;
     receipts = receipts;
-    stands = λ i. subst (λ n. Stands u.spans.items i ↔ (Stands t.spans.items i ⊎ (i ≡ n))) at (stands_or items t.spans.items u.spans.items p members i);
+    stands = λ i. subst (λ n. HasSpanAt u.spans.items i ↔ (HasSpanAt t.spans.items i ⊎ (i ≡ n))) at (stands_or items t.spans.items u.spans.items p members i);
     unanswered = unanswered;
+    hashes = hashes;
   }

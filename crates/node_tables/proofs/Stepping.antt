@@ -86,6 +86,7 @@ module _ (items : List Checked) (row : Row) where
     receipts = λ s. (λ has. inl has, λ h. ⊎_elim (λ has. has) (λ (e : (receipt_at items row ≡ Some s) × (s.from ≡ t.node)). let quoted = stated_by_receipt (slice_get items row.item) row.position s e.0 in absurd (other quoted.0 quoted.1 (quoted.2 ∙ e.1))) h);
     spans = refl;
     unanswered = refl;
+    hashes = refl;
     room = omega arith;
     other_room = λ _. omega arith;
   }
@@ -169,6 +170,7 @@ module _ (items : List Checked) (n : ℕ) where
     receipts = λ s. (λ has. inl has, λ h. ⊎_elim (λ has. has) (λ (e : (p : ℕ) × (p < zero) × (receipt_by (slice_get items n) p ≡ Some s) × (s.from ≡ t.node)). absurd (omega (arith, e.1))) h);
     spans = refl;
     unanswered = refl;
+    hashes = refl;
     room = omega arith;
   }
 
@@ -189,6 +191,7 @@ module _ (items : List Checked) (n : ℕ) where
         receipts = λ s. one_further k t.node u.node s.from (Contains t.receipts.items s) (Contains u.receipts.items s) (Contains v.receipts.items s) (λ p. receipt_by (slice_get items n) p ≡ Some s) before.node (before.receipts s) (step.receipts s);
         spans = step.spans ∙ before.spans;
         unanswered = step.unanswered ∙ before.unanswered;
+        hashes = step.hashes ∙ before.hashes;
         room = subst (λ m. room t ≤ room v + wanted (position_of items n) m t.node) (sym suc_k)
             (room_then k t.node (is_of t.node (position_of items n k)) (room t) (room u) (room v) refl before.room step.room
             (λ e. step.other_room (λ a is same. not_of t.node (position_of items n k) e a is (same ∙ before.node))));

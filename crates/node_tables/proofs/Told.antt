@@ -141,6 +141,7 @@ module _ (items : List Checked) (row : Row) (t : Table) (told : IsTold items t) 
     receipts = refl;
     spans = refl;
     unanswered = refl;
+    hashes = refl;
     room = omega arith;
   }
 
@@ -154,6 +155,7 @@ module _ (items : List Checked) (row : Row) (t : Table) (told : IsTold items t) 
         receipts = refl;
         spans = refl;
         unanswered = refl;
+        hashes = refl;
         room = omega arith;
       }
 
@@ -176,8 +178,8 @@ module _ (items : List Checked) (row : Row) (t : Table) (told : IsTold items t) 
     }
 
     -- And it makes a step.
-    pub step_more : t.rows.room ≤ u.rows.room + 1 → u.unanswered ≡ t.unanswered → RowStep items row t u
-    step_more room unanswered = record {
+    pub step_more : t.rows.room ≤ u.rows.room + 1 → u.unanswered ≡ t.unanswered → u.hashes ≡ t.hashes → RowStep items row t u
+    step_more room unanswered hashes = record {
       node = node;
       says = λ b. (
         λ h. ⊎_elim
@@ -192,6 +194,7 @@ module _ (items : List Checked) (row : Row) (t : Table) (told : IsTold items t) 
       receipts = receipts;
       spans = spans;
       unanswered = unanswered;
+      hashes = hashes;
       room = room;
     }
       where

@@ -11,7 +11,8 @@ use Rattle.kept_evidence.specs.Kept.{Keeps}
 use Rattle.kept_evidence.specs.Telling.{IsSegmentOf, is_answered, told_answers}
 use Rattle.node_tables.specs.declared.table.Table.{Table}
 use Rattle.node_tables.specs.Indexed.{AreReceipts, IsSaid, IsTable}
-use Rattle.node_tables.specs.Places.{AreAsked, AscendBySpelling, IsAgainstAt, IsOpenAt, RiseByDemand, asked_room}
+use Rattle.node_tables.specs.Hashed.{AreAsked}
+use Rattle.node_tables.specs.Places.{IsAgainstAt, IsOpenAt}
 use Rattle.kept_items.specs.Positions.{positions, stated}
 use Rattle.node_tables.specs.Receipts.{AscendBySending, IsReceived}
 use Rattle.node_tables.specs.Rooms.{HasRoomFor, IsRoomier}
@@ -20,12 +21,13 @@ use Rattle.node_tables.specs.declared.sending.Sending.{Sending}
 use Rattle.node_tables.specs.declared.span.Span.{Span}
 use Rattle.node_tables.specs.Rows.{AreRowsOf, stated_by}
 use Rattle.node_tables.specs.Steps.{position_of, room, wanted}
-use Rattle.node_tables.specs.Tables.{AreSpans, IsSegmentAt, IsTold, IsUpToDate, Says, Stands}
+use Rattle.node_tables.specs.Tables.{AreSpans, IsSegmentAt, IsTold, IsUpToDate, Says, HasSpanAt}
 use Rattle.node_tables.specs.within.Bringing.{StatementsStep}
 use Rattle.node_tables.specs.within.Coming.{BodyCame, IsBodyDue, IsDue, ItemCame, StatementsCame}
 use Rattle.node_tables.specs.within.Placing.{AreOthers, BodyStep, IsNewAmong, ItemStep, answered_by, answers_at, subject_by}
 use Rattle.node_tables.proofs.Grown.{any_more, at_cases, last_at, says_grown, still_at}
 use Rattle.node_tables.proofs.Bools.{both, open_so, or_rest}
+use Rattle.node_tables.proofs.Hashed.{asked_roomier, asked_same}
 use Rattle.node_tables.proofs.Places.{contains_at}
 use Rattle.node_tables.proofs.Positioned.{within}
 use Rattle.node_tables.proofs.Received.{receipts_now, receipts_still}
@@ -37,10 +39,10 @@ item_step : (items : List Checked) (n k : ℕ) (t u v : Table) → StatementsSte
 item_step items n k t u v one other = record {
   node = other.node ∙ one.node;
   says = λ a. subst (λ w. Says items w.items a ↔ (Says items t.rows.items a ⊎ ((p : ℕ) × (p < k) × (position_of items n p ≡ Some a) × (a.node ≡ t.node)))) (sym other.rows) (one.says a);
-  stands = λ i. subst (λ j. Stands v.spans.items i ↔ (Stands t.spans.items i ⊎ ((i ≡ n) × IsSegmentAt items j n))) one.node
-      (subst (λ w. Stands v.spans.items i ↔ (Stands w.items i ⊎ ((i ≡ n) × IsSegmentAt items u.node n))) one.spans (other.stands i));
-  unanswered = λ i. subst (λ j. Contains v.unanswered.places.items i ↔ ((Contains t.unanswered.places.items i × (answers_at items i n ≡ false)) ⊎ ((i ≡ n) × IsOpenAt items j n))) one.node
-      (subst (λ w. Contains v.unanswered.places.items i ↔ ((Contains w.places.items i × (answers_at items i n ≡ false)) ⊎ ((i ≡ n) × IsOpenAt items u.node n))) one.unanswered (other.unanswered i));
+  stands = λ i. subst (λ j. HasSpanAt v.spans.items i ↔ (HasSpanAt t.spans.items i ⊎ ((i ≡ n) × IsSegmentAt items j n))) one.node
+      (subst (λ w. HasSpanAt v.spans.items i ↔ (HasSpanAt w.items i ⊎ ((i ≡ n) × IsSegmentAt items u.node n))) one.spans (other.stands i));
+  unanswered = λ i. subst (λ j. Contains v.unanswered.items i ↔ ((Contains t.unanswered.items i × (answers_at items i n ≡ false)) ⊎ ((i ≡ n) × IsOpenAt items j n))) one.node
+      (subst (λ w. Contains v.unanswered.items i ↔ ((Contains w.items i × (answers_at items i n ≡ false)) ⊎ ((i ≡ n) × IsOpenAt items u.node n))) one.unanswered (other.unanswered i));
 }
 
 -- Its statements leave what the table has of the others beside theirs; then what it is beside them comes.
@@ -48,16 +50,16 @@ module _ (items : List Checked) (n k : ℕ) (x : Checked) (here : slice_get item
   pub body_due : IsBodyDue items n u
   body_due = record {
     others = record {
-      kept = record { told = came.told; asked = subst (AreAsked items) (sym came.step.unanswered) due.others.kept.asked };
+      kept = record { told = came.told; asked = asked_same items n t u came.step.node came.step.unanswered came.step.hashes due.others.kept.asked };
       spans = subst (λ j. AreOthers items j n u.spans.items) (sym came.step.node) (subst (λ w. AreOthers items t.node n w.items) (sym came.step.spans) due.others.spans);
-      against = λ m has. subst (λ j. IsAgainstAt items j m) (sym came.step.node) (due.others.against m (subst (λ w. Contains w.places.items m) came.step.unanswered has));
-      new = subst (λ w. IsNewAmong items n w.places.items) (sym came.step.unanswered) due.others.new;
+      against = λ m has. subst (λ j. IsAgainstAt items j m) (sym came.step.node) (due.others.against m (subst (λ w. Contains w.items m) came.step.unanswered has));
+      new = subst (λ w. IsNewAmong items n w.items) (sym came.step.unanswered) due.others.new;
     };
     room = λ own.
         let enough = (due.room x here).body (sym (ap subject_by here) ∙ own ∙ ap (λ j. Some j) came.step.node) in
         record {
           spans = subst (λ v. 1 ≤ v.room) (sym came.step.spans) enough.spans;
-          unanswered = subst (λ v. 1 ≤ asked_room v) (sym came.step.unanswered) enough.unanswered;
+          unanswered = subst (λ v. 1 ≤ v.room) (sym came.step.unanswered) enough.unanswered;
         };
   }
 
@@ -121,7 +123,7 @@ module _ (items : List Checked) (x : Checked) where
   not_last : (i : ℕ) (c : Checked) → slice_get items i ≡ Some c → i ≢ n
   not_last i c at same = let lt = slice_get_within items i c at in omega (arith, lt, same)
 
-  pub others_here : (j : ℕ) (t : Table) → t.node ≡ j → ((i : ℕ) → Stands t.spans.items i ↔ IsSegmentAt items j i) → AreOthers more j n t.spans.items
+  pub others_here : (j : ℕ) (t : Table) → t.node ≡ j → ((i : ℕ) → HasSpanAt t.spans.items i ↔ IsSegmentAt items j i) → AreOthers more j n t.spans.items
   others_here j t own stands i = (
     λ h. let old = (stands i).0 h in ((segment_or j i).1 (inl old), not_last i old.0 old.1),
     λ (h, other). ⊎_elim (λ old. (stands i).1 old) (λ (e : (i ≡ n) × IsSegmentAt more j n). absurd (other e.0)) ((segment_or j i).0 h),
@@ -139,7 +141,7 @@ module _ (items : List Checked) (x : Checked) where
   answers_last : (i : ℕ) (c : Checked) → slice_get items i ≡ Some c → answers_at more i n ≡ told_answers c.item.fields x
   answers_last i c at = ap (λ (o : Option Checked). answered_by o (slice_get more n)) (still_at items x i c at) ∙ ap (answered_by (Some c)) (last_at items x)
 
-  pub new_here : (t : Table) → IsTable items t → (Keeps items x.item → ⊥) → IsNewAmong more n t.unanswered.places.items
+  pub new_here : (t : Table) → IsTable items t → (Keeps items x.item → ⊥) → IsNewAmong more n t.unanswered.items
   new_here t table absent i c d has at_i at_n same =
       let (e, there, open_e) = (table.unanswered i).0 has in
       let is_x : d ≡ x = same_Some d x (sym at_n ∙ last_at items x) in
@@ -174,7 +176,7 @@ module _ (items : List Checked) (x : Checked) where
   -- ---- the table
 
   -- After the item came, the table has just what more items say of its node.
-  pub table_more : (t u : Table) → IsTable items t → ItemStep more n (positions x.item.fields) t u → IsTold more u → AreAsked more u.unanswered → AreReceipts more u → IsTable more u
+  pub table_more : (t u : Table) → IsTable items t → ItemStep more n (positions x.item.fields) t u → IsTold more u → AreAsked more (length more) u → AreReceipts more u → IsTable more u
   table_more t u before step told asked receipts = record {
     told = told;
     asked = asked;
@@ -191,13 +193,13 @@ module _ (items : List Checked) (x : Checked) where
           (λ (new : (p : ℕ) × (p < positions x.item.fields) × (position_of more n p ≡ Some a)). inr (new.0, new.1, new.2, h.1 ∙ step.node))
           ((said_or a).0 h.0)),
     );
-    stands = λ i. subst (λ j. Stands u.spans.items i ↔ IsSegmentAt more j i) (sym step.node) (
+    stands = λ i. subst (λ j. HasSpanAt u.spans.items i ↔ IsSegmentAt more j i) (sym step.node) (
       λ h. (segment_or t.node i).1 (⊎_elim (λ old. inl ((before.stands i).0 old)) (λ new. inr new) ((step.stands i).0 h)),
       λ h. (step.stands i).1 (⊎_elim (λ old. inl ((before.stands i).1 old)) (λ new. inr new) ((segment_or t.node i).0 h)),
     );
-    unanswered = λ i. subst (λ j. Contains u.unanswered.places.items i ↔ IsOpenAt more j i) (sym step.node) (
+    unanswered = λ i. subst (λ j. Contains u.unanswered.items i ↔ IsOpenAt more j i) (sym step.node) (
       λ h. (open_or t.node i).1 (⊎_elim
-          (λ (old : Contains t.unanswered.places.items i × (answers_at more i n ≡ false)). inl ((before.unanswered i).0 old.0, old.1))
+          (λ (old : Contains t.unanswered.items i × (answers_at more i n ≡ false)). inl ((before.unanswered i).0 old.0, old.1))
           (λ new. inr new) ((step.unanswered i).0 h)),
       λ h. (step.unanswered i).1 (⊎_elim
           (λ (old : IsOpenAt items t.node i × (answers_at more i n ≡ false)). inl ((before.unanswered i).1 old.0, old.1))
@@ -219,12 +221,7 @@ table_roomier items t u same before = record {
   };
   says = λ a. subst (λ j. Says items u.rows.items a ↔ (IsSaid items a × (a.node ≡ j))) (sym same.node) (subst (λ (l : List Row). Says items l a ↔ (IsSaid items a × (a.node ≡ t.node))) (sym same.rows) (before.says a));
   receipts = λ s. subst (λ j. Contains u.receipts.items s ↔ (IsReceived items s × (s.from ≡ j))) (sym same.node) (subst (λ (l : List Sending). Contains l s ↔ (IsReceived items s × (s.from ≡ t.node))) (sym same.receipts) (before.receipts s));
-  stands = λ i. subst (λ j. Stands u.spans.items i ↔ IsSegmentAt items j i) (sym same.node) (subst (λ (l : List Span). Stands l i ↔ IsSegmentAt items t.node i) (sym same.spans) (before.stands i));
-  unanswered = λ i. subst (λ j. Contains u.unanswered.places.items i ↔ IsOpenAt items j i) (sym same.node) (subst (λ (l : List ℕ). Contains l i ↔ IsOpenAt items t.node i) (sym same.unanswered) (before.unanswered i));
-  asked = record {
-    spelled = subst (AscendBySpelling items) (sym same.unanswered) before.asked.spelled;
-    rising = subst (RiseByDemand items) (sym same.audits) before.asked.rising;
-    there = λ i has. before.asked.there i (subst (λ l. Contains l i) same.audits has);
-    audits = λ i d has is. subst (λ l. Contains l i) (sym same.audits) (before.asked.audits i d (subst (λ l. Contains l i) same.unanswered has) is);
-  };
+  stands = λ i. subst (λ j. HasSpanAt u.spans.items i ↔ IsSegmentAt items j i) (sym same.node) (subst (λ (l : List Span). HasSpanAt l i ↔ IsSegmentAt items t.node i) (sym same.spans) (before.stands i));
+  unanswered = λ i. subst (λ j. Contains u.unanswered.items i ↔ IsOpenAt items j i) (sym same.node) (subst (λ (l : List ℕ). Contains l i ↔ IsOpenAt items t.node i) (sym same.unanswered) (before.unanswered i));
+  asked = asked_roomier items (length items) t u same.node same.unanswered same.hashes before.asked;
 }

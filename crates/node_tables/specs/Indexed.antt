@@ -1,6 +1,6 @@
 -- How a store with an index is kept.
 use Rattle.std.specs.List.{Contains}
-use Rattle.std.specs.Prelude.{◌≡◌, ℕ, true, List, Some, None, ◌≢◌, ◌↔◌, [], ◌∷◌, ◌++◌}
+use Rattle.std.specs.Prelude.{◌≡◌, ℕ, true, List, Some, None, ◌≢◌, ◌↔◌, [], ◌∷◌, ◌++◌, length}
 use Rattle.authenticators.specs.Directory.{Listing, is_listed}
 use Rattle.authenticators.specs.declared.authenticator.Authenticator.{Authenticator}
 use Rattle.replay_verifier.specs.Meaning.{Meaning}
@@ -8,11 +8,12 @@ use Rattle.evidence_item.specs.Checking.{Checked}
 use Rattle.evidence_set.specs.declared.indication.Indication.TheVariants.{Trusted, Suspected, Exposed}
 use Rattle.evidence_set.specs.declared.indication.Indication.{Indication}
 use Rattle.kept_evidence.specs.Kept.{Keeps, IsWhole}
-use Rattle.node_tables.specs.Places.{AreAsked, IsOpenAt, IsOrder}
+use Rattle.node_tables.specs.Hashed.{AreAsked}
+use Rattle.node_tables.specs.Places.{IsOpenAt, IsOrder}
 use Rattle.node_tables.specs.Receipts.{IsReceived}
 use Rattle.node_tables.specs.Rooms.{HasRoomFor}
 use Rattle.node_tables.specs.Steps.{AllTables, AscendByNode, position_of}
-use Rattle.node_tables.specs.Tables.{IsSegmentAt, Stands, Says, IsTold}
+use Rattle.node_tables.specs.Tables.{IsSegmentAt, HasSpanAt, Says, IsTold}
 use Rattle.node_tables.specs.declared.exposure.ExposingPlaces.{ExposingPlaces}
 use Rattle.node_tables.specs.declared.sending.Sending.{Sending}
 use Rattle.node_tables.specs.declared.table.Table.{Table}
@@ -26,15 +27,15 @@ abbrev pub IsSaid : List Checked → Authenticator → Type 0
 IsSaid items a = (n k : ℕ) × (position_of items n k ≡ Some a)
 
 -- The table of a node has just what the items say of it: their statements of it, its messages of which segments have receipts, its
--- segments, and, in their orders, the challenges against it that nothing answers; and it keeps what exposes the node, if
--- something does.
+-- segments, and the challenges against it that nothing answers, by their spellings and by hashes; and it keeps what exposes the node,
+-- if something does.
 pub record IsTable (items : List Checked) (t : Table) : Type 0 where
   pub told : IsTold items t
   pub says : (a : Authenticator) → Says items t.rows.items a ↔ (IsSaid items a × (a.node ≡ t.node))
   pub receipts : AreReceipts items t
-  pub stands : (i : ℕ) → Stands t.spans.items i ↔ IsSegmentAt items t.node i
-  pub unanswered : (i : ℕ) → Contains t.unanswered.places.items i ↔ IsOpenAt items t.node i
-  pub asked : AreAsked items t.unanswered
+  pub stands : (i : ℕ) → HasSpanAt t.spans.items i ↔ IsSegmentAt items t.node i
+  pub unanswered : (i : ℕ) → Contains t.unanswered.items i ↔ IsOpenAt items t.node i
+  pub asked : AreAsked items (length items) t
 
 -- Some table is of node j.
 abbrev pub HasNode : List Table → ℕ → Type 0
@@ -60,5 +61,5 @@ pub record AreOfOthers (items : List Checked) (tables : List Table) : Type 0 whe
 -- What the table of a node tells.
 abbrev pub Tells : Table → Indication → Type 0
 Tells t Exposed = (e : ExposingPlaces) × (t.exposure ≡ Some e)
-Tells t Suspected = (t.exposure ≡ None) × (t.unanswered.places.items ≢ [])
-Tells t Trusted = (t.exposure ≡ None) × (t.unanswered.places.items ≡ [])
+Tells t Suspected = (t.exposure ≡ None) × (t.unanswered.items ≢ [])
+Tells t Trusted = (t.exposure ≡ None) × (t.unanswered.items ≡ [])

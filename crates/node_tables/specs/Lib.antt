@@ -1,3 +1,4 @@
+pub mod Hashed
 pub mod Indexed
 pub mod Places
 pub mod Proving

@@ -3,6 +3,7 @@ use Rattle.std.specs.Prelude.{◌≡◌, ℕ, List, Some, ◌+◌, ◌≤◌, �
 use Rattle.evidence_item.specs.Checking.{Checked}
 use Rattle.kept_items.specs.Keeping.{subject}
 use Rattle.kept_items.specs.Positions.{stated, positions}
+use Rattle.node_tables.specs.Hashed.{AreSame}
 use Rattle.node_tables.specs.Places.{HasBodyRoom, bodies, open_room, span_room}
 use Rattle.node_tables.specs.Steps.{room, wanted}
 use Rattle.node_tables.specs.declared.table.Table.{Table}
@@ -13,8 +14,8 @@ pub record IsRoomier (t u : Table) : Type 0 where
   pub rows : u.rows.items ≡ t.rows.items
   pub receipts : u.receipts.items ≡ t.receipts.items
   pub spans : u.spans.items ≡ t.spans.items
-  pub unanswered : u.unanswered.places.items ≡ t.unanswered.places.items
-  pub audits : u.unanswered.audits.items ≡ t.unanswered.audits.items
+  pub unanswered : u.unanswered.items ≡ t.unanswered.items
+  pub hashes : AreSame t.hashes u.hashes
   pub exposure : u.exposure ≡ t.exposure
   pub room : room t ≤ room u
   pub span_room : span_room t ≤ span_room u

@@ -7,7 +7,6 @@ use Rattle.evidence_item.specs.Checking.{Checked}
 use Rattle.item_forms.specs.declared.forms.AuditChallenge.{AuditChallenge}
 use Rattle.evidence_set.specs.Challenges.{answers_audit}
 use Rattle.kept_evidence.specs.Telling.{IsSegmentOf, denies, deviates}
-use Rattle.kept_items.specs.Keeping.{opening}
 use Rattle.node_tables.specs.Receipts.{AscendBySending}
 use Rattle.node_tables.specs.Rows.{AreRowsOf, stated_at}
 use Rattle.node_tables.specs.declared.exposure.ExposingPlaces.TheVariants as exposure
@@ -46,19 +45,18 @@ shown_by (Some d) c = answers_audit c d.item.fields
 abbrev pub shows_at : List Checked → AuditChallenge → ℕ → Bool
 shows_at items c i = shown_by (slice_get items i) c
 
--- A segment of node j, with where the statements lie that can contradict it, and the demands that it can answer.
+-- A segment of node j, with where the statements lie that can contradict it.
 pub record IsSpan (items : List Checked) (j : ℕ) (p : Span) : Type 0 where
   pub segment : IsSegmentAt items j p.item
   pub fits : p.low < 2 ^ 64
   pub reach : (a : Authenticator) → denies_at items a p.item ≡ true → (p.low ≤ a.seq + 2) × (a.seq ≤ p.last)
-  pub covers : (c : AuditChallenge) → shows_at items c p.item ≡ true → (p.low ≤ opening c.first) × (c.last.seq ≤ p.last)
 
 abbrev pub AreSpans : List Checked → ℕ → List Span → Type 0
 AreSpans items j spans = (p : Span) → Contains spans p → IsSpan items j p
 
 -- One of the segments stands at the place.
-abbrev pub Stands : List Span → ℕ → Type 0
-Stands spans i = (p : Span) × Contains spans p × (p.item ≡ i)
+abbrev pub HasSpanAt : List Span → ℕ → Type 0
+HasSpanAt spans i = (p : Span) × Contains spans p × (p.item ≡ i)
 
 -- ---- what exposes the node
 
@@ -75,8 +73,8 @@ Names items held r a = (stated_at items r ≡ Some a) × Contains held a
 -- What is kept exposes it.
 abbrev pub ShowsAt : List Checked → List Authenticator → List Span → ExposingPlaces → Type 0
 ShowsAt items held spans (exposure.TwoHashes r q) = (a b : Authenticator) × Names items held r a × Names items held q b × Conflict a b
-ShowsAt items held spans (exposure.Denied r i) = (a : Authenticator) × Names items held r a × Stands spans i × (denies_at items a i ≡ true)
-ShowsAt items held spans (exposure.Deviates i) = Stands spans i × (deviates_at items i ≡ true)
+ShowsAt items held spans (exposure.Denied r i) = (a : Authenticator) × Names items held r a × HasSpanAt spans i × (denies_at items a i ≡ true)
+ShowsAt items held spans (exposure.Deviates i) = HasSpanAt spans i × (deviates_at items i ≡ true)
 
 abbrev pub IsUpToDate : List Checked → List Authenticator → List Span → Option ExposingPlaces → Type 0
 IsUpToDate items held spans None = IsQuiet items held spans

@@ -1,18 +1,18 @@
 //! Which challenges are answered.
 
-ghost use Rattle.std.specs.Prelude.{◌≡◌, ◌↔◌, ◌<◌, ◌≤◌, IsTrue, Some, false, length, not, slice_get, true, vec_capacity, vec_len};
+ghost use Rattle.std.specs.Prelude.{◌≡◌, ◌↔◌, ◌<◌, ◌≤◌, IsTrue, Some, false, length, not, slice_get, true};
 ghost use Rattle.std.specs.List.{filter, list_any};
 ghost use Rattle.evidence_set.specs.Challenges.{is_against};
 ghost use Rattle.kept_evidence.specs.Telling.{is_answered};
 ghost use Rattle.node_tables.specs.declared.span.Span.{Span as TheSpan};
 ghost use Rattle.node_tables.specs.declared.table.Table.{Table as TheTable};
+ghost use Rattle.node_tables.specs.Hashed.{AreAsked};
 ghost use Rattle.node_tables.specs.Places.{AscendBySpelling, IsAcknowledged, IsOrder};
 ghost use Rattle.node_tables.specs.Steps.{AllTables};
-ghost use Rattle.node_tables.specs.Tables.{IsTold};
 ghost use Rattle.node_tables.specs.within.Placing.{AreOthers, AreStanding, HasAcknowledgement, IsAckAt, answers_at};
 ghost use Rattle.node_tables.specs.within.Sendings.{acknowledged, acknowledged_by};
 
-use crate::asking::near;
+use crate::asking::one_segment_answers;
 use crate::order::GroupProbe;
 use crate::quoting::is_received;
 use crate::sending::{Sending, take_sending};
@@ -24,7 +24,7 @@ use kept_items::KeptItem;
 use tiered_vec::TieredVec;
 
 /// Whether the item at the one place answers that at the other.
-fn answers_at<P>(items: &[KeptItem<P>], challenge: u32, answer: u32) -> bool
+pub(crate) fn answers_at<P>(items: &[KeptItem<P>], challenge: u32, answer: u32) -> bool
     ensures { result ≡ answers_at items.now challenge answer }
 {
     let Some(challenge) = items.get(challenge as usize) else {
@@ -64,20 +64,23 @@ fn acknowledged_at<P>(items: &[KeptItem<P>], place: u32) -> Option<Sending>
 }
 
 /// Takes away the challenges that the acknowledgement at a place answers. They are looked up.
-pub(crate) fn close_acknowledged<P>(items: &[KeptItem<P>], unanswered: &mut Vec<u32>, answer: u32)
+pub(crate) fn close_acknowledged<P>(
+    items: &[KeptItem<P>],
+    unanswered: &mut TieredVec<u32>,
+    answer: u32,
+)
     requires here { IsAckAt items.now answer }
     requires asked { AscendBySpelling items.now unanswered.old.items }
     ensures items { unanswered.new.items ≡ filter (λ i. not (answers_at items.now i answer)) unanswered.old.items }
-    ensures len { vec_len unanswered.new ≤ vec_len unanswered.old }
-    ensures capacity { vec_capacity unanswered.new ≡ vec_capacity unanswered.old }
+    ensures room { unanswered.old.room ≤ unanswered.new.room }
 {
     if let Some(sending) = acknowledged_at(items, answer) {
         take_sending(items, unanswered, &sending);
     }
 }
 
-/// Whether one of the segments answers the challenge at a place.
-fn one_answers<P>(items: &[KeptItem<P>], spans: &[Span], challenge: u32) -> bool
+/// Whether one of the segments answers the challenge at a place. It looks at all of them.
+pub(crate) fn one_answers<P>(items: &[KeptItem<P>], spans: &[Span], challenge: u32) -> bool
     ensures { result ≡ list_any (λ (p : TheSpan). answers_at items.now challenge p.item) spans.now }
 {
     for span in spans {
@@ -120,7 +123,7 @@ fn has_acknowledgement<P>(
 }
 
 /// Whether some item answers the challenge against the table's node at the place. For a send challenge it looks up an acknowledgement, and
-/// then a receipt, which suffices where its sender has a table; for an audit challenge it looks up a segment that can answer it.
+/// then a receipt, which suffices where its sender has a table; for an audit challenge it looks up a segment that answers it.
 fn is_answered<P>(
     items: &[KeptItem<P>],
     order: &TieredVec<u32>,
@@ -130,7 +133,7 @@ fn is_answered<P>(
     place: u32,
 ) -> bool
     requires standing { AreStanding items.now order.now.items tables.now }
-    requires told { IsTold items.now table.now }
+    requires asked { AreAsked items.now place table.now }
     requires here { slice_get items.now place ≡ Some challenge.now }
     requires against { is_against table.now.node challenge.now.item.fields ≡ true }
     requires others { AreOthers items.now table.now.node place table.now.spans.items }
@@ -141,7 +144,7 @@ fn is_answered<P>(
     }
     match is_received(items, tables, challenge) {
         Some(received) => received,
-        None => one_answers(items, near(&table.spans, challenge), place),
+        None => one_segment_answers(items, table, challenge, place),
     }
 }
 
@@ -155,7 +158,7 @@ fn is_answered_in<P>(
     place: u32,
 ) -> bool
     requires standing { AreStanding items.now order.now.items tables.now }
-    requires told { IsTold items.now table.now }
+    requires asked { AreAsked items.now place table.now }
     requires here { slice_get items.now place ≡ Some kept.now }
     requires others { AreOthers items.now table.now.node place table.now.spans.items }
     ensures { is_against table.now.node kept.now.item.fields ≡ true → result ≡ is_answered items.now kept.now.item.fields }
@@ -177,6 +180,7 @@ pub(crate) fn is_answered_at<P>(
 ) -> bool
     requires standing { AreStanding items.now order.now.items tables.now }
     requires here { slice_get items.now place ≡ Some kept.now }
+    requires asked { AllTables (AreAsked items.now place) tables.now }
     requires others { AllTables (λ t. AreOthers items.now t.node place t.spans.items) tables.now }
     requires inside { i < length tables.now }
     ensures { (t : TheTable) → slice_get tables.now i ≡ Some t → is_against t.node kept.now.item.fields ≡ true → result ≡ is_answered items.now kept.now.item.fields }

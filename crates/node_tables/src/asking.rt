@@ -1,117 +1,98 @@
-//! Audit challenges by their demands, and whether a new one is answered.
+//! Whether a new audit challenge is answered.
 //!
-//! A new one costs two searches among the segments and one look: the first of those that begin early enough, and end late enough, answers
-//! it, or contradicts a statement that it names, or its numbers do not rise. So more are looked at of a node alone that is exposed, or soon
-//! will be, or whose log ends at the greatest number, which is not told apart from the one before it.
+//! A new one costs a search among the holders for each hash that it names. As hashes chain, a holder has each entry that any segment has
+//! up to the one that it holds: so it answers where any does.
 
-ghost use Rattle.std.specs.Prelude.{◌≡◌, ◌-◌, ◌↔◌, ◌⊎◌, ◌+◌, ◌<◌, ◌≤◌, ℕ, Some, drop, false, length, not, take, true, vec_capacity, vec_len};
-ghost use Rattle.std.specs.List.{Contains, filter, remove_range};
-ghost use Rattle.std.specs.List.Sorted.{IsPartitionPoint};
-ghost use Rattle.kept_items.specs.declared.reach.Demand.{Demand as TheDemand};
-ghost use Rattle.kept_items.specs.Keeping.{demand};
+ghost use Rattle.std.specs.Prelude.{◌≡◌, ◌<◌, ℕ, List, Some, false, length, slice_get, slice_index_or, true};
+ghost use Rattle.std.specs.List.{Contains, list_any};
+ghost use Rattle.evidence_set.specs.Challenges.{is_against};
+ghost use Rattle.kept_items.specs.Links.{Names};
+ghost use Rattle.node_tables.specs.declared.mark.Mark.{Mark as TheMark};
 ghost use Rattle.node_tables.specs.declared.span.Span.{Span as TheSpan};
-ghost use Rattle.node_tables.specs.Places.{RiseByDemand, demand_key, key_at};
-ghost use Rattle.node_tables.specs.within.Asking.{is_opened, is_under, is_within};
+ghost use Rattle.node_tables.specs.Hashed.{AreAsked, DoNotFall, front_of};
+ghost use Rattle.node_tables.specs.within.Placing.{AreOthers, answers_at};
 
-use crate::span::Span;
-use crate::span_list::SpanList;
-use kept_items::{Demand, KeptItem};
-use std::ops::Range;
+use crate::answering::{answers_at, one_answers};
+use crate::mark::{Mark, front_of, near};
+use crate::table::Table;
+use evidence_item::{AuditChallenge, Form, Hash};
+use kept_items::KeptItem;
+use kept_items::laws::answers_are_inherited;
+use tiered_vec::TieredVec;
 
-/// What audit challenges are ordered by: where their demands begin, and then the numbers up to which they go.
-fn key_of(demand: Demand) -> u128
-    ensures { result ≡ demand_key (Some demand) }
+/// Whether the holder that stands somewhere among others answers the challenge at a place.
+fn holder_answers<P>(
+    items: &[KeptItem<P>],
+    holders: &TieredVec<Mark>,
+    at: usize,
+    challenge: u32,
+) -> bool
+    ensures { (d : TheMark) → at < length holders.now.items → result ≡ answers_at items.now challenge (slice_index_or holders.now.items at d).item }
 {
-    u128::from(demand.opening) * 18_446_744_073_709_551_616 + u128::from(demand.last)
-}
-
-/// The same of the item at a place.
-fn key_at<P>(items: &[KeptItem<P>], place: u32) -> u128
-    ensures { result ≡ key_at items.now place }
-{
-    let Some(kept) = items.get(place as usize) else {
-        return 0;
-    };
-    match kept.demand() {
-        None => 0,
-        Some(demand) => key_of(demand),
+    match holders.get(at) {
+        None => false,
+        Some(mark) => answers_at(items, challenge, mark.item),
     }
 }
 
-fn is_under<P>(items: &[KeptItem<P>], place: u32, key: u128) -> bool
-    ensures { result ≡ is_under items.now key place }
-{
-    key_at(items, place) < key
-}
-
-fn is_within<P>(items: &[KeptItem<P>], place: u32, key: u128) -> bool
-    ensures { result ≡ is_within items.now key place }
-{
-    key_at(items, place) <= key
-}
-
-/// The place of the first audit challenge that does not stand before the key.
-fn first_from<P>(items: &[KeptItem<P>], audits: &[u32], key: u128) -> usize
-    requires { RiseByDemand items.now audits.now }
-    ensures inside { result ≤ length audits.now }
-    ensures edge { IsPartitionPoint (λ i. is_under items.now key i ≡ true) (λ i. is_under items.now key i ≡ false) audits.now result }
-{
-    audits.partition_point(|place| is_under(items, *place, key))
-}
-
-/// The place behind those that do not stand behind the key.
-fn behind<P>(items: &[KeptItem<P>], audits: &[u32], key: u128) -> usize
-    requires { RiseByDemand items.now audits.now }
-    ensures inside { result ≤ length audits.now }
-    ensures edge { IsPartitionPoint (λ i. is_within items.now key i ≡ true) (λ i. is_within items.now key i ≡ false) audits.now result }
-{
-    audits.partition_point(|place| is_within(items, *place, key))
-}
-
-/// Where the audit challenges stand whose demands begin there, and go up to the number at most. They are looked up by binary search.
-pub(crate) fn opened_at<P>(
+/// Whether a holder of the hash answers the challenge at a place.
+fn one_near_answers<P>(
     items: &[KeptItem<P>],
-    audits: &[u32],
-    opening: u64,
-    last: u64,
-) -> Range<usize>
-    requires { RiseByDemand items.now audits.now }
-    ensures order { result.start ≤ result.end }
-    ensures inside { result.end ≤ length audits.now }
-    ensures others { remove_range audits.now result.start result.end ≡ filter (λ i. not (is_opened items.now opening last i)) audits.now }
-    ensures near { (i : ℕ) → Contains audits.now i → is_opened items.now opening last i ≡ true → Contains (take (result.end - result.start) (drop result.start audits.now)) i }
+    holders: &TieredVec<Mark>,
+    hash: Hash,
+    challenge: u32,
+) -> bool
+    requires { DoNotFall holders.now.items }
+    ensures answers { result ≡ true → (m : TheMark) × Contains holders.now.items m × (answers_at items.now challenge m.item ≡ true) }
+    ensures none { result ≡ false → (m : TheMark) → Contains holders.now.items m → m.front ≡ front_of hash → answers_at items.now challenge m.item ≡ false }
 {
-    let start = first_from(items, audits, key_of(Demand { opening, last: 0 }));
-    let end = behind(items, audits, key_of(Demand { opening, last }));
-    start..end
+    let near = near(holders, front_of(hash));
+    for at in near.start..near.end {
+        if holder_answers(items, holders, at, challenge) {
+            return true;
+        }
+    }
+    false
 }
 
-/// Puts the place of an audit challenge among others, by its demand. There is room for it.
-pub(crate) fn put_by_demand<P>(
+/// Whether a holder of a hash that the challenge at a place names answers it.
+fn one_holder_answers<P>(
     items: &[KeptItem<P>],
-    audits: &mut Vec<u32>,
+    holders: &TieredVec<Mark>,
+    audit: &AuditChallenge,
     place: u32,
-    demand: Demand,
-)
-    requires rising { RiseByDemand items.now audits.old.items }
-    requires here { key_at items.now place ≡ demand_key (Some demand) }
-    requires room { vec_len audits.old < vec_capacity audits.old }
-    ensures rising { RiseByDemand items.now audits.new.items }
-    ensures members { (i : ℕ) → Contains audits.new.items i ↔ (Contains audits.old.items i ⊎ (i ≡ place)) }
-    ensures len { vec_len audits.new ≡ vec_len audits.old + 1 }
-    ensures capacity { vec_capacity audits.new ≡ vec_capacity audits.old }
+) -> bool
+    requires { DoNotFall holders.now.items }
+    ensures answers { result ≡ true → (m : TheMark) × Contains holders.now.items m × (answers_at items.now place m.item ≡ true) }
+    ensures none { result ≡ false → (m : TheMark) (h : List ℕ) → Contains holders.now.items m → Names audit.now h → m.front ≡ front_of h → answers_at items.now place m.item ≡ false }
 {
-    let gap = behind(items, audits, key_of(demand));
-    let _ = audits.insert(gap, place);
+    if one_near_answers(items, holders, audit.last.hash, place) {
+        return true;
+    }
+    match &audit.first {
+        None => false,
+        Some(first) => one_near_answers(items, holders, first.hash, place),
+    }
 }
 
-/// Those of the segments that can answer the challenge: for an audit challenge those that begin early enough, and end late enough.
-pub(crate) fn near<'a, P>(spans: &'a SpanList, challenge: &KeptItem<P>) -> &'a [Span]
-    ensures has { (p : TheSpan) → Contains spans.now.items p → ((d : TheDemand) → demand challenge.now.item.fields ≡ Some d → (p.low ≤ d.opening) × (d.last ≤ p.last)) → Contains result.now p }
-    ensures only { (p : TheSpan) → Contains result.now p → Contains spans.now.items p }
+/// Whether one of the segments answers the challenge at a place. An audit challenge is looked up.
+pub(crate) fn one_segment_answers<P>(
+    items: &[KeptItem<P>],
+    table: &Table,
+    challenge: &KeptItem<P>,
+    place: u32,
+) -> bool
+    requires here { slice_get items.now place ≡ Some challenge.now }
+    requires against { is_against table.now.node challenge.now.item.fields ≡ true }
+    requires others { AreOthers items.now table.now.node place table.now.spans.items }
+    requires asked { AreAsked items.now place table.now }
+    ensures { result ≡ list_any (λ (p : TheSpan). answers_at items.now place p.item) table.now.spans.items }
 {
-    match challenge.demand() {
-        None => spans.as_slice(),
-        Some(demand) => spans.around(demand.opening, demand.last),
+    answers_are_inherited();
+    if table.hashes.whole {
+        if let Some(Form::Audit(audit)) = challenge.form() {
+            return one_holder_answers(items, &table.hashes.holders, audit, place);
+        }
     }
+    one_answers(items, table.spans.as_slice(), place)
 }

@@ -1,90 +1,136 @@
 //! Putting what an item is, beside its statements, into the table of its node.
 
-ghost use Rattle.std.specs.Prelude.{◌≡◌, ◌↔◌, ◌⊎◌, ◌+◌, ◌<◌, ◌≤◌, ℕ, Contains, Some, false, length, slice_get, true, vec_capacity, vec_len};
+ghost use Rattle.std.specs.Prelude.{◌≡◌, ◌↔◌, ◌⊎◌, ◌+◌, ◌<◌, ◌≤◌, ℕ, List, Contains, Some, false, length, slice_get, true};
 ghost use Rattle.std.specs.List.Sorted.{IsBinarySearchResult, IsSearchInRange};
 ghost use Rattle.evidence_set.specs.Challenges.{is_against};
 ghost use Rattle.evidence_item.specs.Checking.{is_segment};
 ghost use Rattle.item_forms.specs.Forms.{shown};
-ghost use Rattle.kept_items.specs.Keeping.{demand};
-ghost use Rattle.kept_items.specs.declared.reach.Demand.{Demand as TheDemand};
-ghost use Rattle.node_tables.specs.Places.{AscendBySpelling, RiseByDemand, item_order_by};
+ghost use Rattle.item_forms.specs.declared.forms.AuditChallenge.{AuditChallenge as TheAudit};
+ghost use Rattle.item_forms.specs.declared.forms.Fields.TheVariants as form;
+ghost use Rattle.kept_items.specs.Links.{Names};
+ghost use Rattle.node_tables.specs.Hashed.{DoNotFall, HasMark};
+ghost use Rattle.node_tables.specs.Places.{AscendBySpelling, item_order_by};
+ghost use Rattle.node_tables.specs.within.Marking.{KeepMarks};
 ghost use Rattle.node_tables.specs.Steps.{AllTables, EachBecomes};
 ghost use Rattle.node_tables.specs.Tables.{IsSegmentAt};
 ghost use Rattle.node_tables.specs.within.Coming.{BodyCame, BodyPut, IsBodyDue, IsKept, IsToPut};
 ghost use Rattle.node_tables.specs.within.Placing.{AreStanding, IsAckAt, IsNewAmong};
 
 use crate::answering::{close_acknowledged, is_answered_at};
-use crate::asking::put_by_demand;
 use crate::closing::close_by_segment;
-use crate::order::compare_kept_at;
+use crate::hashes::Hashes;
+use crate::mark::{Mark, front_of, put_where_room};
+use crate::order::KeptProbe;
+use crate::releasing::entries_of;
 use crate::segments::put_segment;
 use crate::table::Table;
 use crate::tables::place_of;
-use evidence_item::Form;
+use evidence_item::{AuditChallenge, Form};
 use kept_items::KeptItem;
 use tiered_vec::TieredVec;
 
 /// Puts a segment: it may expose the node, and answers challenges.
 fn put_whole_segment<P>(items: &[KeptItem<P>], table: &mut Table, place: u32)
-    requires kept { IsKept items.now table.old }
+    requires kept { IsKept items.now place table.old }
     requires segment { IsSegmentAt items.now table.old.node place }
     requires room { 1 ≤ table.old.spans.room }
     ensures { BodyPut items.now place table.old table.new }
 {
     put_segment(items, table, place);
-    close_by_segment(items, &mut table.unanswered, table.node, place);
+    close_by_segment(
+        items,
+        table.node,
+        &mut table.unanswered,
+        &mut table.hashes,
+        place,
+    );
 }
 
 /// Puts an acknowledgement: it answers challenges.
 fn put_acknowledgement<P>(items: &[KeptItem<P>], table: &mut Table, place: u32)
-    requires kept { IsKept items.now table.old }
+    requires kept { IsKept items.now place table.old }
     requires here { IsAckAt items.now place }
     ensures { BodyPut items.now place table.old table.new }
 {
-    close_acknowledged(items, &mut table.unanswered.places, place);
+    close_acknowledged(items, &mut table.unanswered, place);
 }
 
 /// Where the item at a place, which is a new one, would stand among places that ascend by spelling.
 pub(crate) fn gap_among<P>(
     items: &[KeptItem<P>],
-    places: &[u32],
+    places: &TieredVec<u32>,
     kept: &KeptItem<P>,
 ) -> Result<usize, usize>
-    ensures bound { IsSearchInRange result (length places.now) }
-    ensures position { IsBinarySearchResult (λ i. item_order_by (slice_get items.now i) kept.now.item) places.now result }
+    ensures bound { IsSearchInRange result (length places.now.items) }
+    ensures position { IsBinarySearchResult (λ i. item_order_by (slice_get items.now i) kept.now.item) places.now.items result }
 {
-    places.binary_search_by(|place| compare_kept_at(items, *place, kept))
+    places.search(&KeptProbe { items, kept })
 }
 
 /// Puts the place of a new item among others, by its spelling. There is room for it.
-fn put_by_spelling<P>(items: &[KeptItem<P>], places: &mut Vec<u32>, place: u32, kept: &KeptItem<P>)
+fn put_by_spelling<P>(
+    items: &[KeptItem<P>],
+    places: &mut TieredVec<u32>,
+    place: u32,
+    kept: &KeptItem<P>,
+)
     requires ascending { AscendBySpelling items.now places.old.items }
     requires here { slice_get items.now place ≡ Some kept.now }
     requires new { IsNewAmong items.now place places.old.items }
-    requires room { vec_len places.old < vec_capacity places.old }
+    requires room { 1 ≤ places.old.room }
     ensures ascending { AscendBySpelling items.now places.new.items }
     ensures members { (i : ℕ) → Contains places.new.items i ↔ (Contains places.old.items i ⊎ (i ≡ place)) }
-    ensures len { vec_len places.new ≡ vec_len places.old + 1 }
-    ensures capacity { vec_capacity places.new ≡ vec_capacity places.old }
+    ensures room { places.old.room ≤ places.new.room + 1 }
 {
     let Err(gap) = gap_among(items, places, kept) else {
         return;
     };
-    let _ = places.insert(gap, place);
+    places.insert(gap, place);
 }
 
-/// Puts the place of a new audit challenge among others, by its demand; of another challenge nothing. There is room for it.
-fn put_audit<P>(items: &[KeptItem<P>], audits: &mut Vec<u32>, place: u32, kept: &KeptItem<P>)
-    requires rising { RiseByDemand items.now audits.old.items }
-    requires here { slice_get items.now place ≡ Some kept.now }
-    requires room { vec_len audits.old < vec_capacity audits.old }
-    ensures rising { RiseByDemand items.now audits.new.items }
-    ensures members { (i : ℕ) → Contains audits.new.items i ↔ (Contains audits.old.items i ⊎ ((i ≡ place) × ((d : TheDemand) × (demand kept.now.item.fields ≡ Some d)))) }
-    ensures len { vec_len audits.new ≤ vec_len audits.old + 1 }
-    ensures capacity { vec_capacity audits.new ≡ vec_capacity audits.old }
+/// Marks an open audit challenge by the hashes that it names, and tells whether there was memory for it.
+fn mark_audit(hashes: &mut Hashes, place: u32, audit: &AuditChallenge) -> bool
+    requires lasts { DoNotFall hashes.old.lasts.items }
+    requires firsts { DoNotFall hashes.old.firsts.items }
+    ensures holders { hashes.new.holders.items ≡ hashes.old.holders.items }
+    ensures marks { KeepMarks hashes.old hashes.new }
+    ensures marked { result ≡ true → (h : List ℕ) → Names audit.now h → HasMark hashes.new.lasts.items place h ⊎ HasMark hashes.new.firsts.items place h }
 {
-    if let Some(demand) = kept.demand() {
-        put_by_demand(items, audits, place, demand);
+    let last = Mark {
+        front: front_of(audit.last.hash),
+        item: place,
+        position: 0,
+    };
+    if !put_where_room(&mut hashes.lasts, last) {
+        return false;
+    }
+    let Some(first) = &audit.first else {
+        return true;
+    };
+    let first = Mark {
+        front: front_of(first.hash),
+        item: place,
+        position: 1,
+    };
+    put_where_room(&mut hashes.firsts, first)
+}
+
+/// Marks an open challenge, where it is an audit challenge.
+fn mark_challenge<P>(hashes: &mut Hashes, place: u32, kept: &KeptItem<P>)
+    requires lasts { hashes.old.whole ≡ true → DoNotFall hashes.old.lasts.items }
+    requires firsts { hashes.old.whole ≡ true → DoNotFall hashes.old.firsts.items }
+    ensures whole { hashes.new.whole ≡ true → hashes.old.whole ≡ true }
+    ensures holders { hashes.new.holders.items ≡ hashes.old.holders.items }
+    ensures marks { hashes.new.whole ≡ true → KeepMarks hashes.old hashes.new }
+    ensures marked { hashes.new.whole ≡ true → (c : TheAudit) (h : List ℕ) → kept.now.item.fields ≡ form.Audit c → Names c h → HasMark hashes.new.lasts.items place h ⊎ HasMark hashes.new.firsts.items place h }
+{
+    if !hashes.whole {
+        return;
+    }
+    if let Some(Form::Audit(audit)) = kept.form() {
+        if !mark_audit(hashes, place, audit) {
+            hashes.whole = false;
+        }
     }
 }
 
@@ -103,8 +149,8 @@ fn put_challenge<P>(
     if answered {
         return;
     }
-    put_by_spelling(items, &mut table.unanswered.places, place, kept);
-    put_audit(items, &mut table.unanswered.audits, place, kept);
+    put_by_spelling(items, &mut table.unanswered, place, kept);
+    mark_challenge(&mut table.hashes, place, kept);
 }
 
 /// Puts what an item that is no segment is, beside its statements, into the table of its node.
@@ -158,6 +204,7 @@ fn put_in<P>(
 {
     put_form(items, table, place, kept, answered);
     table.bodies = table.bodies.saturating_sub(1);
+    table.hashes.release(entries_of(kept));
 }
 
 /// Puts what the item at a place is, beside its statements, into the table of its node, where there is room for it.

@@ -4,17 +4,20 @@
 //! Items stand in a list that only grows at its end, and are named by their places in it.
 //!
 //! - A [`Table`] is what is kept of one node; [`place_of`] finds it. [`Row`] names a statement, which [`said_at`] lends, [`Span`] a
-//!   segment, and [`ExposingPlaces`] what exposes the node.
+//!   segment, [`Mark`] where a hash stands among [`Hashes`], and [`ExposingPlaces`] what exposes the node.
 //! - [`empty_tables`] makes the tables of no items. [`index`] puts the last of the items into them, for which [`promise_item`] made room:
 //!   promises add up, and each comes back by [`index`] or by [`release_item`].
 //! - [`gap_of`] and [`gap_of_kept`] look up where an item stands in the order of spellings, or would stand.
 //!
 //! `specs/Indexed.antt` has what the tables of all nodes are of a list of items, `specs/Tables.antt` what the table of one node is,
+//! `specs/Hashed.antt` what is kept by hashes,
 //! `specs/Places.antt` the order of spellings, and `specs/Rooms.antt` what is promised.
 #![tactic(auto)]
 
 pub use exposure::ExposingPlaces;
+pub use hashes::Hashes;
 pub use indexing::index;
+pub use mark::Mark;
 pub use opening::empty_tables;
 pub use order::{gap_of, gap_of_kept};
 pub use releasing::release_item;
@@ -25,7 +28,6 @@ pub use span::Span;
 pub use span_list::SpanList;
 pub use table::Table;
 pub use tables::place_of;
-pub use unanswered::Unanswered;
 
 mod answering;
 mod asking;
@@ -35,7 +37,10 @@ mod closing;
 mod edge;
 mod exposure;
 mod finding;
+mod hashes;
+mod holding;
 mod indexing;
+mod mark;
 mod opening;
 mod order;
 mod quoting;
@@ -49,4 +54,3 @@ mod span_list;
 mod table;
 mod tables;
 mod telling;
-mod unanswered;

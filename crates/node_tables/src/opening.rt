@@ -9,9 +9,9 @@ ghost use Rattle.node_tables.specs.Indexed.{HasNode, IsTable};
 ghost use Rattle.node_tables.specs.Rooms.{Owes};
 ghost use Rattle.node_tables.specs.Steps.{AllTables, AscendByNode};
 
+use crate::hashes::Hashes;
 use crate::span_list::SpanList;
 use crate::table::Table;
-use crate::unanswered::Unanswered;
 use authenticators::{Directory, NodeId};
 use outcome::Memory;
 use std::alloc::Global;
@@ -28,7 +28,8 @@ fn empty(alloc: Global, node: NodeId) -> Table
         rows: TieredVec::new(alloc),
         receipts: TieredVec::new(alloc),
         spans: SpanList::new(alloc),
-        unanswered: Unanswered::new(alloc),
+        unanswered: TieredVec::new(alloc),
+        hashes: Hashes::new(alloc),
         exposure: None,
         promised: 0,
         bodies: 0,

@@ -23,7 +23,7 @@ fn compare_at<P>(items: &[KeptItem<P>], place: u32, item: &Item) -> Ordering
 }
 
 /// How the item at a place compares with another that is kept.
-pub(crate) fn compare_kept_at<P>(items: &[KeptItem<P>], place: u32, other: &KeptItem<P>) -> Ordering
+fn compare_kept_at<P>(items: &[KeptItem<P>], place: u32, other: &KeptItem<P>) -> Ordering
     ensures { result ≡ item_order_by (slice_get items.now place) other.now.item }
 {
     match items.get(place as usize) {
@@ -62,9 +62,9 @@ impl<'a, P> Probe<u32> for ItemProbe<'a, P> {
 
 /// Looks for an item that is kept elsewhere among places.
 #[derive_where(Clone, Copy)]
-struct KeptProbe<'a, P> {
-    items: &'a [KeptItem<P>],
-    kept: &'a KeptItem<P>,
+pub(crate) struct KeptProbe<'a, P> {
+    pub items: &'a [KeptItem<P>],
+    pub kept: &'a KeptItem<P>,
 }
 
 impl<'a, P> Probe<u32> for KeptProbe<'a, P> {

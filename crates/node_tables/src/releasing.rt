@@ -47,11 +47,20 @@ pub(crate) fn release_first<P>(tables: &mut [Table], kept: &KeptItem<P>, count: 
     }
 }
 
+/// How many entries the item has, where it is a segment.
+pub(crate) fn entries_of<P>(kept: &KeptItem<P>) -> usize {
+    if kept.form().is_some() {
+        return 0;
+    }
+    kept.positions().saturating_sub(1) as usize
+}
+
 /// Takes back what was promised of one segment or challenge.
-fn release_body_here(table: &mut Table)
+fn release_body_here(table: &mut Table, entries: usize)
     ensures { AreBack 0 1 table.old table.new }
 {
     table.bodies = table.bodies.saturating_sub(1);
+    table.hashes.release(entries);
 }
 
 /// Takes back what was promised of the item beside its statements.
@@ -63,7 +72,7 @@ fn release_body<P>(tables: &mut [Table], kept: &KeptItem<P>)
         return;
     };
     if let Some(i) = place_of(tables, node) {
-        release_body_here(&mut tables[i]);
+        release_body_here(&mut tables[i], entries_of(kept));
     }
 }
 

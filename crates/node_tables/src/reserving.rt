@@ -6,7 +6,7 @@ ghost use Rattle.node_tables.specs.Rooms.{AreMany, IsReady, IsRoomier, KeepsProm
 ghost use Rattle.node_tables.specs.Steps.{AscendByNode, EachBecomes, wanted};
 ghost use Rattle.node_tables.specs.within.Promising.{nothing, one_at, one_for};
 
-use crate::releasing::release_first;
+use crate::releasing::{entries_of, release_first};
 use crate::table::Table;
 use crate::tables::place_of;
 use authenticators::NodeId;
@@ -85,8 +85,8 @@ fn promise_statements<P>(tables: &mut [Table], kept: &KeptItem<P>) -> Result<(),
     Ok(())
 }
 
-/// Promises the table one segment and one challenge more, and makes room for all that were promised.
-fn promise_body_here(table: &mut Table) -> Result<(), Memory>
+/// Promises the table one segment with so many entries and one challenge more, and makes room for all that were promised.
+fn promise_body_here(table: &mut Table, entries: usize) -> Result<(), Memory>
     ensures same { IsRoomier table.old table.new }
     ensures ok { OnOk result (AreMany 0 1 table.old table.new) }
     ensures refused { OnErr result (KeepsPromises table.old table.new) }
@@ -96,6 +96,7 @@ fn promise_body_here(table: &mut Table) -> Result<(), Memory>
     };
     table.spans.reserve(count)?;
     table.unanswered.reserve(count)?;
+    table.hashes.promise(entries, count)?;
     table.bodies = count;
     Ok(())
 }
@@ -113,7 +114,7 @@ fn promise_body<P>(tables: &mut [Table], kept: &KeptItem<P>) -> Result<(), Memor
     let Some(i) = place_of(tables, node) else {
         return Ok(());
     };
-    promise_body_here(&mut tables[i])
+    promise_body_here(&mut tables[i], entries_of(kept))
 }
 
 /// The same, or takes back what was promised of the item's statements.

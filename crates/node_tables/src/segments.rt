@@ -17,7 +17,7 @@ use crate::exposure::ExposingPlaces;
 use crate::row::{Row, said_at};
 use crate::span::Span;
 use crate::table::Table;
-use kept_items::laws::{answers_are_within_reach, denials_are_within_reach};
+use kept_items::laws::denials_are_within_reach;
 use kept_items::{KeptItem, Reach};
 use replay_verifier::Verdict;
 use std::cmp::Ordering;
@@ -246,7 +246,6 @@ fn put<P>(items: &[KeptItem<P>], table: &mut Table, place: u32, kept: &KeptItem<
     ensures { SegmentCame items.now place table.old table.new }
 {
     denials_are_within_reach();
-    answers_are_within_reach();
     let span = Span {
         item: place,
         low: reach.low,

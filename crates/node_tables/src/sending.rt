@@ -1,16 +1,19 @@
 //! Send challenges of one sender, receiver and number, which stand together among challenges and are answered together.
 
-ghost use Rattle.std.specs.Prelude.{◌≡◌, ◌≤◌, length, not, slice_get, true, false, vec_capacity, vec_len};
+ghost use Rattle.std.specs.Prelude.{◌≡◌, ◌≤◌, length, not, slice_get, true, false};
 ghost use Rattle.std.specs.List.{filter, remove_range};
 ghost use Rattle.std.specs.List.Sorted.{IsPartitionPoint};
 ghost use Rattle.node_tables.specs.Places.{AscendBySpelling};
+ghost use Rattle.node_tables.specs.within.Bringing.{side};
 ghost use Rattle.node_tables.specs.within.Sendings.{is_at, is_before, is_up_to, message_cmp, sending_cmp, sending_order_by};
 
+use crate::edge::{edge_at, side};
 use authenticators::NodeId;
 use evidence_item::{Form, Message};
 use kept_items::KeptItem;
 use std::cmp::Ordering;
 use std::ops::Range;
+use tiered_vec::{Probe, TieredVec};
 
 /// What messages are told apart by.
 #[derive(Clone, Copy, Debug, Drop)]
@@ -70,53 +73,84 @@ fn is_up_to<P>(items: &[KeptItem<P>], place: u32, sending: &Sending) -> bool
     compare_at(items, place, sending).is_le()
 }
 
+/// Looks for the edge of the places whose items stand before the send challenges of the sending.
+#[derive_where(Clone, Copy)]
+struct Before<'a, P> {
+    items: &'a [KeptItem<P>],
+    sending: &'a Sending,
+}
+
+impl<'a, P> Probe<u32> for Before<'a, P> {
+    ghost order = { λ s i. side (is_before s.sending.now (slice_get s.items.now i)) };
+
+    fn compare(&self, place: &u32) -> Ordering {
+        side(is_before(self.items, *place, self.sending))
+    }
+}
+
+/// Looks for the edge of the places whose items do not stand behind them.
+#[derive_where(Clone, Copy)]
+struct UpTo<'a, P> {
+    items: &'a [KeptItem<P>],
+    sending: &'a Sending,
+}
+
+impl<'a, P> Probe<u32> for UpTo<'a, P> {
+    ghost order = { λ s i. side (is_up_to s.sending.now (slice_get s.items.now i)) };
+
+    fn compare(&self, place: &u32) -> Ordering {
+        side(is_up_to(self.items, *place, self.sending))
+    }
+}
+
 /// The edge of the places whose items stand before the send challenges of the sending.
-fn edge_before<P>(items: &[KeptItem<P>], places: &[u32], sending: &Sending) -> usize
-    requires { AscendBySpelling items.now places.now }
-    ensures inside { result ≤ length places.now }
-    ensures edge { IsPartitionPoint (λ i. is_before sending.now (slice_get items.now i) ≡ true) (λ i. is_before sending.now (slice_get items.now i) ≡ false) places.now result }
+fn edge_before<P>(items: &[KeptItem<P>], places: &TieredVec<u32>, sending: &Sending) -> usize
+    requires { AscendBySpelling items.now places.now.items }
+    ensures inside { result ≤ length places.now.items }
+    ensures edge { IsPartitionPoint (λ i. is_before sending.now (slice_get items.now i) ≡ true) (λ i. is_before sending.now (slice_get items.now i) ≡ false) places.now.items result }
 {
-    places.partition_point(|place| is_before(items, *place, sending))
+    edge_at(places.search(&Before { items, sending }))
 }
 
 /// The edge of the places whose items do not stand behind them.
-fn edge_up_to<P>(items: &[KeptItem<P>], places: &[u32], sending: &Sending) -> usize
-    requires { AscendBySpelling items.now places.now }
-    ensures inside { result ≤ length places.now }
-    ensures edge { IsPartitionPoint (λ i. is_up_to sending.now (slice_get items.now i) ≡ true) (λ i. is_up_to sending.now (slice_get items.now i) ≡ false) places.now result }
+fn edge_up_to<P>(items: &[KeptItem<P>], places: &TieredVec<u32>, sending: &Sending) -> usize
+    requires { AscendBySpelling items.now places.now.items }
+    ensures inside { result ≤ length places.now.items }
+    ensures edge { IsPartitionPoint (λ i. is_up_to sending.now (slice_get items.now i) ≡ true) (λ i. is_up_to sending.now (slice_get items.now i) ≡ false) places.now.items result }
 {
-    places.partition_point(|place| is_up_to(items, *place, sending))
+    edge_at(places.search(&UpTo { items, sending }))
 }
 
 /// Where the send challenges of the sending stand among places that ascend by spelling. They are looked up by binary search.
-fn places_of<P>(items: &[KeptItem<P>], places: &[u32], sending: &Sending) -> Range<usize>
-    requires { AscendBySpelling items.now places.now }
+fn places_of<P>(items: &[KeptItem<P>], places: &TieredVec<u32>, sending: &Sending) -> Range<usize>
+    requires { AscendBySpelling items.now places.now.items }
     ensures order { result.start ≤ result.end }
-    ensures inside { result.end ≤ length places.now }
-    ensures others { remove_range places.now result.start result.end ≡ filter (λ i. not (is_at sending.now (slice_get items.now i))) places.now }
+    ensures inside { result.end ≤ length places.now.items }
+    ensures others { remove_range places.now.items result.start result.end ≡ filter (λ i. not (is_at sending.now (slice_get items.now i))) places.now.items }
 {
     let start = edge_before(items, places, sending);
     let end = edge_up_to(items, places, sending);
     start..end
 }
 
-/// Takes away what stands there.
-pub(crate) fn take_away(places: &mut Vec<u32>, near: Range<usize>)
+/// Takes away what stands there, one by one.
+pub(crate) fn take_away(places: &mut TieredVec<u32>, near: Range<usize>)
     requires order { near.start ≤ near.end }
-    requires inside { near.end ≤ vec_len places.old }
+    requires inside { near.end ≤ length places.old.items }
     ensures items { places.new.items ≡ remove_range places.old.items near.start near.end }
-    ensures len { vec_len places.new ≤ vec_len places.old }
-    ensures capacity { vec_capacity places.new ≡ vec_capacity places.old }
+    ensures room { places.old.room ≤ places.new.room }
 {
-    places.drain(near.start..near.end);
+    let count = near.end - near.start;
+    for gone in 0..count {
+        places.remove(near.start);
+    }
 }
 
 /// Takes away the send challenges of the sending.
-pub(crate) fn take_sending<P>(items: &[KeptItem<P>], places: &mut Vec<u32>, sending: &Sending)
+pub(crate) fn take_sending<P>(items: &[KeptItem<P>], places: &mut TieredVec<u32>, sending: &Sending)
     requires { AscendBySpelling items.now places.old.items }
     ensures items { places.new.items ≡ filter (λ i. not (is_at sending.now (slice_get items.now i))) places.old.items }
-    ensures len { vec_len places.new ≤ vec_len places.old }
-    ensures capacity { vec_capacity places.new ≡ vec_capacity places.old }
+    ensures room { places.old.room ≤ places.new.room }
 {
     let near = places_of(items, places, sending);
     take_away(places, near);

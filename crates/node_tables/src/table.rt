@@ -1,10 +1,10 @@
 //! What is kept of one node.
 
 use crate::exposure::ExposingPlaces;
+use crate::hashes::Hashes;
 use crate::row::Row;
 use crate::sending::Sending;
 use crate::span_list::SpanList;
-use crate::unanswered::Unanswered;
 use authenticators::NodeId;
 use tiered_vec::TieredVec;
 
@@ -19,8 +19,10 @@ pub struct Table {
     pub receipts: TieredVec<Sending>,
     /// Its segments, by their least numbers.
     pub spans: SpanList,
-    /// The challenges against it that nothing answers.
-    pub unanswered: Unanswered,
+    /// The places of the challenges against it that nothing answers, ascending by their spellings.
+    pub unanswered: TieredVec<u32>,
+    /// The entries of its segments, and the audit challenges among those, by hashes.
+    pub hashes: Hashes,
     /// What exposes it, if something does.
     pub exposure: Option<ExposingPlaces>,
     /// How many statements were promised room and did not come yet.

@@ -1,6 +1,6 @@
 -- What is found among the statements and the segments of one node is found among all, and what is not found is nowhere.
-use Rattle.std.proofs.Common.{◌≡◌, ℕ, zero, suc, ◌<◌, Bool, true, false, List, [], ◌∷◌, get_or, refl, sym, ap, subst, ◌∙◌, arith}
-use Rattle.std.specs.Prelude.{Option, Some, None, IfNone, IfSome, MatchOption, is_some}
+use Rattle.std.proofs.Common.{◌≡◌, ℕ, Bool, true, false, List, refl}
+use Rattle.std.specs.Prelude.{Option, Some, None, IfNone, IfSome, MatchOption}
 use Rattle.std.specs.List.{Contains, list_any}
 use Rattle.std.proofs.lemmas.List.Folds.{list_any-from_Any}
 use Rattle.authenticators.specs.declared.authenticator.Authenticator.{Authenticator}
@@ -32,24 +32,6 @@ fails p xs x true is none has = let any : list_any p xs ≡ true = list_any-from
 -- Where no element passes the test, this one does not.
 pub not_passed : {X : Type 0} (p : X → Bool) (xs : List X) (x : X) → list_any p xs ≡ false → Contains xs x → p x ≡ false
 not_passed p xs x none has = fails p xs x (p x) refl none has
-
--- ---- a list of one
-
-of_one : {X : Type 0} (x y : X) (i : ℕ) → i < 1 → get_or (x ∷ []) i y ≡ y → y ≡ x
-of_one x y zero inside is = sym is
-of_one x y (suc i) inside is = absurd (omega (arith, inside))
-
--- What a list of one contains is that one, which it contains.
-pub is_one : {X : Type 0} (xs : List X) (x y : X) → xs ≡ x ∷ [] → Contains xs y → y ≡ x
-is_one xs x y is has = let (i, inside, at) = subst (λ l. Contains l y) is has in of_one x y i inside at
-
-pub has_one : {X : Type 0} (xs : List X) (x : X) → xs ≡ x ∷ [] → Contains xs x
-has_one xs x is = subst (λ l. Contains l x) (sym is) (zero, omega arith, refl)
-
--- Whether some element was found that passes the test is whether this one does.
-pub tells_one : {A X : Type 0} (o : Option A) (seen : A → X) (p : X → Bool) (xs : List X) (x : X) → xs ≡ x ∷ [] → MatchOption o (list_any p xs ≡ false) (λ a. Contains xs (seen a) × (p (seen a) ≡ true)) → is_some o ≡ p x
-tells_one None seen p xs x is none = sym (not_passed p xs x none (has_one xs x is))
-tells_one (Some a) seen p xs x is found = sym found.1 ∙ ap p (is_one xs x (seen a) is found.0)
 
 -- ---- segments
 

@@ -6,9 +6,9 @@ ghost use Rattle.evidence_set.specs.Indications.{IsExposed};
 ghost use Rattle.evidence_set.specs.ItemSets.{set_of};
 ghost use Rattle.kept_evidence.specs.Kept.{IsStore};
 
-use crate::digested::Digested;
 use crate::exposure::exposure_of;
 use authenticators::{AuthenticatorStore, Directory, NodeId};
+use evidence_item::Checked;
 use evidence_item::laws::valid_items_are_signed;
 use kept_evidence::{Exposure, proof_of_denial, proof_of_segment, proof_of_two};
 use outcome::Memory;
@@ -21,7 +21,7 @@ use std::alloc::Global;
 pub(crate) fn proof<P: Program>(
     alloc: Global,
     directory: &Directory,
-    kept: &[Digested<P>],
+    kept: &[Checked<P>],
     held: &AuthenticatorStore,
     node: NodeId,
 ) -> Result<Option<Proof>, Memory>

@@ -3,11 +3,11 @@
 ghost use Rattle.item_forms.specs.Groups.{shown_group};
 ghost use Rattle.kept_evidence.specs.Kept.{IsAscending, IsGroupOf};
 
-use crate::digested::Digested;
+use evidence_item::Checked;
 use item_forms::Group;
 
 /// The items of the group, which stand beside each other, in their order. It takes no memory.
-pub(crate) fn group_of<'a, P>(kept: &'a [Digested<P>], group: &Group<'_>) -> &'a [Digested<P>]
+pub(crate) fn group_of<'a, P>(kept: &'a [Checked<P>], group: &Group<'_>) -> &'a [Checked<P>]
     requires { IsAscending kept.now }
     ensures members { IsGroupOf (shown_group group.now) kept.now result.now }
     ensures ascending { IsAscending result.now }

@@ -6,11 +6,11 @@ ghost use Rattle.evidence_item.specs.Checking.{Checked as TheChecked};
 ghost use Rattle.evidence_set.specs.ItemSets.{IsWithin, set_of};
 ghost use Rattle.kept_evidence.specs.Kept.{IsAscending, is_kept};
 
-use crate::digested::Digested;
 use crate::placing::keeps;
+use evidence_item::Checked;
 
 /// Whether each of the other items is kept, each looked up once.
-fn keeps_each<P>(kept: &[Digested<P>], others: &[Digested<P>]) -> bool
+fn keeps_each<P>(kept: &[Checked<P>], others: &[Checked<P>]) -> bool
     requires { IsAscending kept.now }
     ensures { result ≡ list_all (λ (c : TheChecked). is_kept kept.now c.item) others.now }
 {
@@ -23,7 +23,7 @@ fn keeps_each<P>(kept: &[Digested<P>], others: &[Digested<P>]) -> bool
 }
 
 /// Whether the set of the other items is within that of these. It takes no memory.
-pub(crate) fn includes<P>(kept: &[Digested<P>], others: &[Digested<P>]) -> bool
+pub(crate) fn includes<P>(kept: &[Checked<P>], others: &[Checked<P>]) -> bool
     requires { IsAscending kept.now }
     ensures { IsTrue result ↔ IsWithin (set_of others.now) (set_of kept.now) }
 {

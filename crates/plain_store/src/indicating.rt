@@ -5,10 +5,10 @@ ghost use Rattle.evidence_set.specs.Indications.{IsExposed, IsIndication, IsUnan
 ghost use Rattle.evidence_set.specs.ItemSets.{SomeItem, set_of};
 ghost use Rattle.kept_evidence.specs.Kept.{AreKept, IsStore};
 
-use crate::digested::Digested;
 use crate::exposure::exposure_of;
 use crate::suspicion;
 use authenticators::{AuthenticatorStore, Directory, NodeId};
+use evidence_item::Checked;
 use evidence_set::Indication;
 use replay_verifier::Program;
 use replay_verifier::laws::deviating_lists_do_not_conform;
@@ -16,7 +16,7 @@ use replay_verifier::laws::deviating_lists_do_not_conform;
 /// Whether the items expose the node.
 fn is_exposed<P: Program>(
     directory: &Directory,
-    kept: &[Digested<P>],
+    kept: &[Checked<P>],
     held: &AuthenticatorStore,
     node: NodeId,
 ) -> bool
@@ -28,7 +28,7 @@ fn is_exposed<P: Program>(
 }
 
 /// Whether a challenge against the node is open.
-fn is_suspected<P: Program>(directory: &Directory, kept: &[Digested<P>], node: NodeId) -> bool
+fn is_suspected<P: Program>(directory: &Directory, kept: &[Checked<P>], node: NodeId) -> bool
     requires { AreKept directory.now P.means kept.now }
     ensures { IsTrue result ↔ SomeItem (set_of kept.now) (IsUnanswered directory.now (set_of kept.now) node) }
 {
@@ -38,7 +38,7 @@ fn is_suspected<P: Program>(directory: &Directory, kept: &[Digested<P>], node: N
 /// What the items say of the node. It verifies no signature, hashes no content, and takes no memory.
 pub(crate) fn indication<P: Program>(
     directory: &Directory,
-    kept: &[Digested<P>],
+    kept: &[Checked<P>],
     held: &AuthenticatorStore,
     node: NodeId,
 ) -> Indication

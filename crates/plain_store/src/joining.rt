@@ -7,14 +7,13 @@ ghost use Rattle.item_forms.specs.Pieces.{Piece};
 ghost use Rattle.evidence_item.specs.Checking.{Checked as TheChecked};
 ghost use Rattle.kept_evidence.specs.Kept.{IsAscending, Keeps, by_item, is_kept};
 
-use crate::digested::Digested;
 use crate::placing::keeps;
 use evidence_item::Checked;
 use outcome::Memory;
 use std::alloc::Global;
 
 /// Takes away the items that are kept already.
-pub(crate) fn drop_kept<P>(kept: &[Digested<P>], more: &mut Vec<Checked<P>>)
+pub(crate) fn drop_kept<P>(kept: &[Checked<P>], more: &mut Vec<Checked<P>>)
     requires { IsAscending kept.now }
     ensures { more.new.items ≡ filter (λ (c : TheChecked). not (is_kept kept.now c.item)) more.old.items }
 {
@@ -28,9 +27,9 @@ pub(crate) fn drop_kept<P>(kept: &[Digested<P>], more: &mut Vec<Checked<P>>)
 /// Copies of the items that are not kept.
 pub(crate) fn copies_of_missing<P>(
     alloc: Global,
-    kept: &[Digested<P>],
-    others: &[Digested<P>],
-) -> Result<Vec<Digested<P>>, Memory>
+    kept: &[Checked<P>],
+    others: &[Checked<P>],
+) -> Result<Vec<Checked<P>>, Memory>
     requires { IsAscending kept.now }
     ensures { IfOk result (λ copies. copies.items ≡ filter (λ (c : TheChecked). not (is_kept kept.now c.item)) others.now) }
 {
@@ -45,7 +44,7 @@ pub(crate) fn copies_of_missing<P>(
 
 /// Sorts the items. Two lists that ascend, one behind the other, it joins in linear time, by way of a buffer as long as both; where there
 /// is no memory for the buffer, it sorts them in place.
-fn sort<P>(items: &mut Vec<Digested<P>>)
+fn sort<P>(items: &mut Vec<Checked<P>>)
     ensures permutation { IsPermutation items.old.items items.new.items }
     ensures len { vec_len items.new ≡ vec_len items.old }
     ensures sorted { IsSorted by_item items.new.items }
@@ -56,7 +55,7 @@ fn sort<P>(items: &mut Vec<Digested<P>>)
 }
 
 /// Puts more items, none of which is kept, into their places. There is room for all of them.
-pub(crate) fn join<P>(kept: &mut Vec<Digested<P>>, mut more: Vec<Digested<P>>)
+pub(crate) fn join<P>(kept: &mut Vec<Checked<P>>, mut more: Vec<Checked<P>>)
     requires room { vec_len kept.old + vec_len more ≤ vec_capacity kept.old }
     requires kept { IsAscending kept.old.items }
     requires more { IsAscending more.items }

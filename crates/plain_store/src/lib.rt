@@ -8,7 +8,6 @@
 pub use plain_store::PlainStore;
 
 mod convicting;
-mod digested;
 mod exposure;
 mod grouping;
 mod including;

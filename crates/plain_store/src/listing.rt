@@ -7,15 +7,15 @@ ghost use Rattle.evidence_set.specs.Exports.{export_of};
 ghost use Rattle.evidence_set.specs.ItemSets.{count, listed, set_of};
 ghost use Rattle.kept_evidence.specs.Kept.{IsAscending};
 
-use crate::digested::Digested;
 use containers::write_all;
 use evidence::MAGIC;
 use evidence_item::{Checked, Hash};
+use item_digests::digest_of;
 use outcome::Memory;
 use std::alloc::Global;
 
 /// How many items the set has.
-pub(crate) fn count<P>(kept: &[Digested<P>]) -> u64
+pub(crate) fn count<P>(kept: &[Checked<P>]) -> u64
     requires { IsAscending kept.now }
     ensures { result ≡ count (set_of kept.now) }
 {
@@ -25,7 +25,7 @@ pub(crate) fn count<P>(kept: &[Digested<P>]) -> u64
 /// A copy of the item at a place, where there is one.
 pub(crate) fn item_at<P>(
     alloc: Global,
-    kept: &[Digested<P>],
+    kept: &[Checked<P>],
     n: u64,
 ) -> Result<Option<Checked<P>>, Memory>
     requires { IsAscending kept.now }
@@ -36,11 +36,11 @@ pub(crate) fn item_at<P>(
     if place >= kept.len() {
         return Ok(None);
     }
-    Ok(Some(kept[place].checked().try_clone(alloc)?))
+    Ok(Some(kept[place].try_clone(alloc)?))
 }
 
-/// The digest of the item at a place, where there is one. It is kept.
-pub(crate) fn digest_at<P>(kept: &[Digested<P>], n: u64) -> Option<Hash>
+/// The digest of the item at a place, where there is one.
+pub(crate) fn digest_at<P>(kept: &[Checked<P>], n: u64) -> Option<Hash>
     requires { IsAscending kept.now }
     ensures { result ≡ option_map digest_of (slice_get (listed (set_of kept.now)) n) }
 {
@@ -48,11 +48,11 @@ pub(crate) fn digest_at<P>(kept: &[Digested<P>], n: u64) -> Option<Hash>
     if place >= kept.len() {
         return None;
     }
-    Some(kept[place].digest())
+    Some(digest_of(kept[place].item()))
 }
 
 /// The text of the set.
-pub(crate) fn export<P>(alloc: Global, kept: &[Digested<P>]) -> Result<Vec<u8>, Memory>
+pub(crate) fn export<P>(alloc: Global, kept: &[Checked<P>]) -> Result<Vec<u8>, Memory>
     requires { IsAscending kept.now }
     ensures { IfOk result (λ text. text.items ≡ export_of (set_of kept.now)) }
 {

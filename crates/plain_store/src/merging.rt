@@ -9,7 +9,6 @@ ghost use Rattle.evidence_set.specs.ItemSets.{Join, count, pieces, set_of};
 ghost use Rattle.kept_evidence.specs.Kept.{AreKept, IsStore, Keeps};
 ghost use Rattle.kept_evidence.specs.Telling.{told_statements};
 
-use crate::digested::{Digested, digest_each};
 use crate::joining::{copies_of_missing, drop_kept, join};
 use authenticators::{Authenticator, AuthenticatorStore, Directory};
 use evidence_item::Checked;
@@ -19,12 +18,12 @@ use replay_verifier::Program;
 use std::alloc::Global;
 
 /// The statements of all of the items, one item after the other.
-fn statements_of_each<P>(alloc: Global, items: &[Digested<P>]) -> Result<Vec<Authenticator>, Memory>
+fn statements_of_each<P>(alloc: Global, items: &[Checked<P>]) -> Result<Vec<Authenticator>, Memory>
     ensures { IfOk result (λ all. all.items ≡ flat_map (λ (c : TheChecked). told_statements c.item.fields c.findings) items.now) }
 {
     let mut statements = Vec::new(alloc);
     for item in items {
-        write_statements(alloc, &mut statements, item.checked())?;
+        write_statements(alloc, &mut statements, item)?;
     }
     Ok(statements)
 }
@@ -33,9 +32,9 @@ fn statements_of_each<P>(alloc: Global, items: &[Digested<P>]) -> Result<Vec<Aut
 pub(crate) fn add_all<P: Program>(
     alloc: Global,
     directory: &Directory,
-    kept: &mut Vec<Digested<P>>,
+    kept: &mut Vec<Checked<P>>,
     held: &mut AuthenticatorStore,
-    more: Vec<Digested<P>>,
+    more: Vec<Checked<P>>,
 ) -> Result<(), Memory>
     requires store { IsStore directory.now P.means kept.old.items held.old }
     requires more { AreKept directory.now P.means more.items }
@@ -56,9 +55,9 @@ pub(crate) fn add_all<P: Program>(
 pub(crate) fn merge<P: Program>(
     alloc: Global,
     directory: &Directory,
-    kept: &mut Vec<Digested<P>>,
+    kept: &mut Vec<Checked<P>>,
     held: &mut AuthenticatorStore,
-    others: &[Digested<P>],
+    others: &[Checked<P>],
 ) -> Result<u64, Memory>
     requires store { IsStore directory.now P.means kept.old.items held.old }
     requires others { AreKept directory.now P.means others.now }
@@ -77,7 +76,7 @@ pub(crate) fn merge<P: Program>(
 pub(crate) fn take_all<P: Program>(
     alloc: Global,
     directory: &Directory,
-    kept: &mut Vec<Digested<P>>,
+    kept: &mut Vec<Checked<P>>,
     held: &mut AuthenticatorStore,
     mut items: Vec<Checked<P>>,
 ) -> Result<u64, Memory>
@@ -92,7 +91,6 @@ pub(crate) fn take_all<P: Program>(
     find_each(alloc, directory, &mut items)?;
     drop_kept(kept, &mut items);
     let new = items.len() as u64;
-    let digested = digest_each(alloc, items)?;
-    add_all(alloc, directory, kept, held, digested)?;
+    add_all(alloc, directory, kept, held, items)?;
     Ok(new)
 }

@@ -10,11 +10,10 @@ ghost use Rattle.evidence_set.specs.ItemSets.{Has, pieces, set_of};
 ghost use Rattle.kept_evidence.specs.Kept.{AreKept, HasHashes, IsAscending};
 ghost use Rattle.kept_evidence.specs.Telling.{is_unanswered};
 
-use crate::digested::Digested;
 use crate::grouping::group_of;
 use crate::suspicion::is_unanswered;
 use authenticators::{Directory, NodeId};
-use evidence_item::Item;
+use evidence_item::{Checked, Item};
 use item_forms::Group;
 use outcome::Memory;
 use replay_verifier::Program;
@@ -23,9 +22,9 @@ use std::alloc::Global;
 /// Those of the items that are challenges against the node and that no item that is kept answers, in their order.
 fn unanswered_of<'a, P>(
     alloc: Global,
-    kept: &[Digested<P>],
+    kept: &[Checked<P>],
     node: NodeId,
-    items: &'a [Digested<P>],
+    items: &'a [Checked<P>],
 ) -> Result<Vec<&'a Item>, Memory>
     requires ascending { IsAscending kept.now }
     requires hashes { (c : TheChecked) → Contains kept.now c → HasHashes c }
@@ -46,7 +45,7 @@ fn unanswered_of<'a, P>(
 pub(crate) fn open_challenges<'a, P: Program>(
     alloc: Global,
     directory: &Directory,
-    kept: &'a [Digested<P>],
+    kept: &'a [Checked<P>],
     node: NodeId,
 ) -> Result<Vec<&'a Item>, Memory>
     requires { AreKept directory.now P.means kept.now }

@@ -5,11 +5,10 @@ ghost use Rattle.evidence_item.specs.Checking.{Checked as TheChecked};
 ghost use Rattle.evidence_set.specs.ItemSets.{contains, set_of};
 ghost use Rattle.kept_evidence.specs.Kept.{IsAscending, IsPlaceOf, Keeps, is_kept};
 
-use crate::digested::Digested;
 use evidence_item::{Checked, Item};
 
 /// Where the item stands in the list, or would stand. It takes no memory.
-pub(crate) fn place_of<P>(kept: &[Digested<P>], item: &Item) -> Result<usize, usize>
+pub(crate) fn place_of<P>(kept: &[Checked<P>], item: &Item) -> Result<usize, usize>
     requires { IsAscending kept.now }
     ensures there { IfOk result (λ i. Keeps kept.now item.now) }
     ensures place { IfErr result (λ i. IsPlaceOf item.now kept.now i) }
@@ -18,7 +17,7 @@ pub(crate) fn place_of<P>(kept: &[Digested<P>], item: &Item) -> Result<usize, us
 }
 
 /// Whether the item stands in the list.
-pub(crate) fn keeps<P>(kept: &[Digested<P>], item: &Item) -> bool
+pub(crate) fn keeps<P>(kept: &[Checked<P>], item: &Item) -> bool
     requires { IsAscending kept.now }
     ensures { result ≡ is_kept kept.now item.now }
 {
@@ -26,7 +25,7 @@ pub(crate) fn keeps<P>(kept: &[Digested<P>], item: &Item) -> bool
 }
 
 /// Whether the set has the item.
-pub(crate) fn holds<P>(kept: &[Digested<P>], item: &Item) -> bool
+pub(crate) fn holds<P>(kept: &[Checked<P>], item: &Item) -> bool
     requires { IsAscending kept.now }
     ensures { result ≡ contains (set_of kept.now) item.now }
 {
@@ -34,12 +33,12 @@ pub(crate) fn holds<P>(kept: &[Digested<P>], item: &Item) -> bool
 }
 
 /// Puts a checked item in its place, for which there is room.
-pub(crate) fn put<P>(kept: &mut Vec<Digested<P>>, place: usize, checked: Checked<P>)
+pub(crate) fn put<P>(kept: &mut Vec<Checked<P>>, place: usize, checked: Checked<P>)
     requires ascending { IsAscending kept.old.items }
     requires place { IsPlaceOf checked.item kept.old.items place }
     requires room { vec_len kept.old < vec_capacity kept.old }
     ensures ascending { IsAscending kept.new.items }
     ensures members { (x : TheChecked) → Contains kept.new.items x ↔ (Contains kept.old.items x ⊎ (x ≡ checked)) }
 {
-    let _ = kept.insert(place, Digested::new(checked));
+    let _ = kept.insert(place, checked);
 }

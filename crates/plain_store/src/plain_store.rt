@@ -9,7 +9,6 @@ ghost use Rattle.evidence_set.specs.ItemSets.{Has, Join, contains, count, insert
 ghost use Rattle.evidence.specs.Contents.{with_items};
 
 use crate::convicting::proof;
-use crate::digested::Digested;
 use crate::including::includes;
 use crate::indicating::indication;
 use crate::listing::{count, digest_at, export, item_at};
@@ -27,15 +26,15 @@ use replay_verifier::Program;
 use std::alloc::Global;
 use std::marker::Model;
 
-/// A store that keeps its items in one list, ascending by their spellings, each with its digest, its verdict and what checking found
-/// of it, and beside them the set of the statements that they hold. A contract sees the directory and the set of the items.
+/// A store that keeps its items in one list, ascending by their spellings, each with its verdict and with what checking found of
+/// it, and beside them the set of the statements that they hold. A contract sees the directory and the set of the items.
 ///
 /// A question looks at what is kept of the node alone: at its statements, its segments and the challenges against it.
 #[derive(Drop)]
 pub struct PlainStore<P: Program> {
     alloc: Global,
     directory: Directory,
-    items: Vec<Digested<P>>,
+    items: Vec<Checked<P>>,
     statements: AuthenticatorStore,
 }
 

@@ -7,20 +7,19 @@ ghost use Rattle.evidence_set.specs.Challenges.{answers_audit};
 ghost use Rattle.kept_evidence.specs.Kept.{HasHashes, IsAscending};
 ghost use Rattle.kept_evidence.specs.Telling.{is_answered, is_unanswered, told_send};
 
-use crate::digested::Digested;
 use crate::grouping::group_of;
 use authenticators::NodeId;
-use evidence_item::{AuditChallenge, Form, Item, Message};
+use evidence_item::{AuditChallenge, Checked, Form, Item, Message};
 use item_forms::Group;
 use kept_evidence::{answers_audit, answers_send, is_against};
 
 /// Whether one of the items answers the audit challenge.
-fn one_answers_audit<P>(items: &[Digested<P>], challenge: &AuditChallenge) -> bool
+fn one_answers_audit<P>(items: &[Checked<P>], challenge: &AuditChallenge) -> bool
     requires { (c : TheChecked) → Contains items.now c → HasHashes c }
     ensures { result ≡ list_any (λ (c : TheChecked). answers_audit challenge.now c.item.fields) items.now }
 {
     for item in items {
-        if answers_audit(challenge, item.checked()) {
+        if answers_audit(challenge, item) {
             return true;
         }
     }
@@ -28,7 +27,7 @@ fn one_answers_audit<P>(items: &[Digested<P>], challenge: &AuditChallenge) -> bo
 }
 
 /// Whether an item that is kept answers the audit challenge. It looks at the segments of the challenged node.
-fn audit_is_answered<P>(kept: &[Digested<P>], challenge: &AuditChallenge) -> bool
+fn audit_is_answered<P>(kept: &[Checked<P>], challenge: &AuditChallenge) -> bool
     requires ascending { IsAscending kept.now }
     requires hashes { (c : TheChecked) → Contains kept.now c → HasHashes c }
     ensures { result ≡ list_any (λ (c : TheChecked). answers_audit challenge.now c.item.fields) kept.now }
@@ -37,11 +36,11 @@ fn audit_is_answered<P>(kept: &[Digested<P>], challenge: &AuditChallenge) -> boo
 }
 
 /// Whether one of the items answers the challenge to acknowledge the message.
-fn one_answers_send<P>(items: &[Digested<P>], message: &Message) -> bool
+fn one_answers_send<P>(items: &[Checked<P>], message: &Message) -> bool
     ensures { result ≡ list_any (λ (c : TheChecked). told_send message.now c.item.fields c.findings) items.now }
 {
     for item in items {
-        if answers_send(message, item.checked()) {
+        if answers_send(message, item) {
             return true;
         }
     }
@@ -50,7 +49,7 @@ fn one_answers_send<P>(items: &[Digested<P>], message: &Message) -> bool
 
 /// Whether an item that is kept answers the challenge to acknowledge the message. It looks for acknowledgements of its sender, receiver and number, and
 /// where there is none at the segments of its receiver.
-fn send_is_answered<P>(kept: &[Digested<P>], message: &Message) -> bool
+fn send_is_answered<P>(kept: &[Checked<P>], message: &Message) -> bool
     requires ascending { IsAscending kept.now }
     ensures { result ≡ list_any (λ (c : TheChecked). told_send message.now c.item.fields c.findings) kept.now }
 {
@@ -61,7 +60,7 @@ fn send_is_answered<P>(kept: &[Digested<P>], message: &Message) -> bool
 }
 
 /// Whether an item that is kept answers the challenge.
-fn is_answered<P>(kept: &[Digested<P>], item: &Item) -> bool
+fn is_answered<P>(kept: &[Checked<P>], item: &Item) -> bool
     requires ascending { IsAscending kept.now }
     requires hashes { (c : TheChecked) → Contains kept.now c → HasHashes c }
     ensures { result ≡ is_answered kept.now item.now.fields }
@@ -74,7 +73,7 @@ fn is_answered<P>(kept: &[Digested<P>], item: &Item) -> bool
 }
 
 /// Whether the item is a challenge against the node that no item that is kept answers. It takes no memory.
-pub(crate) fn is_unanswered<P>(kept: &[Digested<P>], node: NodeId, item: &Item) -> bool
+pub(crate) fn is_unanswered<P>(kept: &[Checked<P>], node: NodeId, item: &Item) -> bool
     requires ascending { IsAscending kept.now }
     requires hashes { (c : TheChecked) → Contains kept.now c → HasHashes c }
     ensures { result ≡ is_unanswered kept.now node item.now.fields }
@@ -83,7 +82,7 @@ pub(crate) fn is_unanswered<P>(kept: &[Digested<P>], node: NodeId, item: &Item) 
 }
 
 /// Whether one of the items is a challenge against the node that no item that is kept answers.
-fn one_is_unanswered<P>(kept: &[Digested<P>], node: NodeId, items: &[Digested<P>]) -> bool
+fn one_is_unanswered<P>(kept: &[Checked<P>], node: NodeId, items: &[Checked<P>]) -> bool
     requires ascending { IsAscending kept.now }
     requires hashes { (c : TheChecked) → Contains kept.now c → HasHashes c }
     ensures { result ≡ list_any (λ (c : TheChecked). is_unanswered kept.now node c.item.fields) items.now }
@@ -97,7 +96,7 @@ fn one_is_unanswered<P>(kept: &[Digested<P>], node: NodeId, items: &[Digested<P>
 }
 
 /// Whether a challenge against the node is kept that no item that is kept answers. It takes no memory.
-pub(crate) fn is_suspected<P>(kept: &[Digested<P>], node: NodeId) -> bool
+pub(crate) fn is_suspected<P>(kept: &[Checked<P>], node: NodeId) -> bool
     requires ascending { IsAscending kept.now }
     requires hashes { (c : TheChecked) → Contains kept.now c → HasHashes c }
     ensures { result ≡ list_any (λ (c : TheChecked). is_unanswered kept.now node c.item.fields) kept.now }

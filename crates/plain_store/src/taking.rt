@@ -7,7 +7,6 @@ ghost use Rattle.authenticators.specs.StatementSet.{IsUnion};
 ghost use Rattle.kept_evidence.specs.Kept.{IsStore, IsWhole};
 ghost use Rattle.kept_evidence.specs.Telling.{told_statements};
 
-use crate::digested::Digested;
 use crate::placing::{place_of, put};
 use authenticators::{AuthenticatorStore, Directory};
 use evidence::TakeRefused;
@@ -22,7 +21,7 @@ use std::alloc::Global;
 fn prepare<P: Program>(
     alloc: Global,
     directory: &Directory,
-    kept: &mut Vec<Digested<P>>,
+    kept: &mut Vec<Checked<P>>,
     held: &mut AuthenticatorStore,
     checked: &mut Checked<P>,
 ) -> Result<(), Memory>
@@ -46,7 +45,7 @@ fn prepare<P: Program>(
 pub(crate) fn take<P: Program>(
     alloc: Global,
     directory: &Directory,
-    kept: &mut Vec<Digested<P>>,
+    kept: &mut Vec<Checked<P>>,
     held: &mut AuthenticatorStore,
     mut checked: Checked<P>,
 ) -> Result<bool, TakeRefused<P>>

@@ -8,7 +8,7 @@ use Rattle.replay_verifier.specs.declared.verdict.Verdict.{Verdict}
 use Rattle.replay_verifier.specs.declared.verdict.Verdict.TheVariants as verdict
 use Rattle.replay_verifier.specs.Conforming.{Setting, act, Begins, Stand, at_rest, Leads, Conforms}
 use Rattle.replay_verifier.specs.Deviation.{IsVerdict, Position, First, After, reason_at}
-use Rattle.replay_verifier.specs.Stands.{Stands}
+use Rattle.replay_verifier.specs.Stands.{IsStandBehind}
 use Rattle.replay_verifier.specs.within.Courses.{ended, position_of}
 use Rattle.replay_verifier.specs.within.Following.{following, repeated_from, with_repeat, with_repeats}
 use Rattle.replay_verifier.specs.within.Stepping.{next_place, next_stand, arrived, arrive, judge}
@@ -64,7 +64,7 @@ module _ {S : Type 0} (IsState : S → Type 0) (z : Setting S) (sound : IsSound 
         behind = arrive_leads z prev rest e.seq (at_rest b.0) p (sym (ap (λ (q : Position S). arrive z prev q rest) b.2) ∙ a.1);
       }
 
-  pub stands : (log : List Entry) (p : Position S) (last : ℕ) (y : Stand S) → Conforms z prev log → arrive z prev First log ≡ Some p → p ≡ After last y → Stands z prev log y
+  pub stands : (log : List Entry) (p : Position S) (last : ℕ) (y : Stand S) → Conforms z prev log → arrive z prev First log ≡ Some p → p ≡ After last y → IsStandBehind z prev log y
   stands [] p last y c h k = cc (h, k)
   stands (e ∷ rest) p last y c h k =
       let b = arrive_begun e rest p h in

@@ -5,7 +5,7 @@ use Rattle.log_chain.specs.Chain.{Rising}
 use Rattle.replay_verifier.specs.Conforming.{Setting, act, Begins, Stand, at_rest, Leads, ComeOnce, Conforms}
 
 -- The entries after the hash prev are some, they conform, and they lead to the stand y from where the first of them begins the log.
-pub record Stands {S : Type 0} (z : Setting S) (prev : List ℕ) (log : List Entry) (y : Stand S) : Type 0 where
+pub record IsStandBehind {S : Type 0} (z : Setting S) (prev : List ℕ) (log : List Entry) (y : Stand S) : Type 0 where
   pub first : Entry
   pub rest : List Entry
   pub parts : log ≡ first ∷ rest
@@ -18,4 +18,4 @@ pub record Stands {S : Type 0} (z : Setting S) (prev : List ℕ) (log : List Ent
 -- Where the entries leave the log: there, or nowhere, since they do not conform, or there are none.
 abbrev pub IsStanding : {S : Type 0} → Setting S → List ℕ → List Entry → Option (Stand S) → Type 0
 IsStanding z prev log None = Conforms z prev log → log ≡ []
-IsStanding z prev log (Some y) = Stands z prev log y
+IsStanding z prev log (Some y) = IsStandBehind z prev log y

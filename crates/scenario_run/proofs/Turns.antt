@@ -4,7 +4,7 @@ use Rattle.std.proofs.Math.ListN.{set}
 use Rattle.std.proofs.lemmas.Bool.{cases_lt}
 use Rattle.std.proofs.lemmas.List.{append-nil, get_or-set_other, get_or-set_same}
 use Rattle.scenario_run.specs.declared.opening.TheConstants.{CALLERS}
-use Rattle.scenario_run.specs.within.Dealt.{AreDealt, Gives, IsEmpty, every}
+use Rattle.scenario_run.specs.within.Dealt.{AreDealt, GivesTo, IsEmpty, every}
 
 -- ---- one hand
 
@@ -16,7 +16,7 @@ pub record Fills {A : Type 0} (turn : Bool) (one two left all : List A) : Type 0
 hand_begins : {A : Type 0} (turn : Bool) (one two all : List A) → IsEmpty turn one two → Fills turn one two all all
 hand_begins turn one two all (is, none, nothing) = rw (is, none, nothing) (record { first = refl; second = refl })
 
-hand_goes_on : {A : Type 0} (turn next : Bool) (x : A) (one two new_one new_two left all : List A) → Gives turn x one two next new_one new_two → Fills turn one two (x ∷ left) all → Fills next new_one new_two left all
+hand_goes_on : {A : Type 0} (turn next : Bool) (x : A) (one two new_one new_two left all : List A) → GivesTo turn x one two next new_one new_two → Fills turn one two (x ∷ left) all → Fills next new_one new_two left all
 unfolding every
 hand_goes_on false next x one two new_one new_two left all (is, given, other) so_far = rw (is, given, other) (record { first = append_assoc one (x ∷ []) (every 1 CALLERS left) ∙ so_far.first; second = so_far.second })
 hand_goes_on true next x one two new_one new_two left all (is, other, given) so_far = rw (is, other, given) (record { first = so_far.first; second = append_assoc two (x ∷ []) (every 1 CALLERS left) ∙ so_far.second })
@@ -90,7 +90,7 @@ module _ {H A : Type 0} (turn : H → Bool) (first second : H → List A) (count
   ]
 
   pub dealing_goes_on : (hands : List H) (left rest : List A) (next after : ℕ) (x : A) (old new : H) → length hands ≡ count → next < count → IsAfter count next after → left ≡ x ∷ rest → old ≡ get_or hands next old
-      → Gives (turn old) x (first old) (second old) (turn new) (first new) (second new) → Dealing next left hands → Dealing after rest (set hands next new)
+      → GivesTo (turn old) x (first old) (second old) (turn new) (first new) (second new) → Dealing next left hands → Dealing after rest (set hands next new)
   dealing_goes_on hands left rest next after x old new many below behind taken at gives so_far j ahead h inside place = elim (nearer next after j ahead below inside behind place) [
     | inl (last, here) ↦
         let own : get_or (set hands next new) j h ≡ new = ap (λ (n : ℕ). get_or (set hands next new) n h) here ∙ get_or-set_same hands next new h (omega (arith, many, below)) in

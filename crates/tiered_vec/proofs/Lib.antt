@@ -4,4 +4,5 @@ pub mod Grown
 pub mod Narrowed
 pub mod Whole
 mod Products
+mod Pulled
 mod Widened

@@ -1,10 +1,10 @@
 -- The tiers of a list, whole again after each step, and the element at a place.
-use Rattle.std.proofs.Common.{◌≡◌, ℕ, ◌+◌, ◌*◌, ◌/◌, ◌%◌, ◌<◌, ◌≤◌, List, ◌++◌, length, get_or, take, drop, sym, ap, ◌∙◌, subst, arith}
+use Rattle.std.proofs.Common.{◌≡◌, ℕ, ◌+◌, ◌-◌, ◌*◌, ◌/◌, ◌%◌, ◌<◌, ◌≤◌, List, ◌++◌, length, get_or, take, drop, sym, ap, ◌∙◌, subst, arith}
 use Rattle.std.proofs.lemmas.Nat.{mod_below}
 use Rattle.std.proofs.lemmas.List.{length-map, take_at}
 use Rattle.std.proofs.lemmas.List.Concat.{get_or-flat_map}
-use Rattle.std.proofs.lemmas.List.Edits.{length-insert}
-use Rattle.std.specs.List.{insert}
+use Rattle.std.proofs.lemmas.List.Edits.{length-insert, length-remove}
+use Rattle.std.specs.List.{insert, remove}
 use Rattle.std.specs.VecDeque.{deque_capacity, deque_items, deque_len}
 use Rattle.std.specs.declared.collections.VecDeque.{VecDeque}
 use Rattle.tiered_vec.proofs.Carried.{length_before, length_is, size_at}
@@ -59,6 +59,26 @@ module _ {X Z : Type 0} where
         filled = subst Q now filled;
         room = room most (subst R (sym e) a.room);
         within = omega arith;
+        some = a.some;
+      })
+
+  pub tiers_cut : (size : ℕ) (old lent new : List (VecDeque X Z)) (m len most place : ℕ) → AreTiers size old len most → lent ≡ old → m ≡ length old → length new ≡ length lent → place < len → items_of new ≡ remove (items_of lent) place → AreFilled size (lengths new) (length (items_of lent) - 1) → ((n : ℕ) → HaveRoom size (capacities lent) n → HaveRoom size (capacities new) n) → AreTiers size (take m (new ++ drop (length new) old)) (len - 1) most
+  tiers_cut size old lent new m len most place a e n long inside items filled room =
+      let same_length = ap (λ (ts : List (VecDeque X Z)). length ts) e in
+      let count = ap (λ (ts : List (VecDeque X Z)). length (items_of ts)) e in
+      let total = a.total in
+      let within = a.within in
+      let left = ap (λ (xs : List X). length xs) items in
+      let one = length-remove (items_of lent) place (omega (arith, inside, count, total)) in
+      let now : length (items_of lent) - 1 ≡ len - 1 = omega (arith, count, total) in
+      let P : List (VecDeque X Z) → Type 0 = λ ts. AreTiers size ts (len - 1) most in
+      let Q : ℕ → Type 0 = λ z. AreFilled size (lengths new) z in
+      let R : List (VecDeque X Z) → Type 0 = λ ts. HaveRoom size (capacities ts) most in
+      subst P (sym (refilled old new m (omega (arith, n, long, same_length)))) (record {
+        total = omega (arith, left, one, count, total);
+        filled = subst Q now filled;
+        room = room most (subst R (sym e) a.room);
+        within = omega (arith, within);
         some = a.some;
       })
 

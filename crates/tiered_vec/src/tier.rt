@@ -1,7 +1,7 @@
 //! One tier, a ring of at most so many elements as each tier of its list.
 
 ghost use Rattle.std.specs.Prelude.{◌≡◌, ◌↔◌, ◌+◌, ◌<◌, ◌≤◌, ◌++◌, IsSome, OnOk, min};
-ghost use Rattle.std.specs.List.{insert};
+ghost use Rattle.std.specs.List.{insert, remove};
 ghost use Rattle.std.specs.Option.{option_to_list};
 ghost use Rattle.std.specs.VecDeque.{deque_capacity, deque_len};
 
@@ -81,4 +81,16 @@ pub(crate) fn grow<T>(tier: &mut VecDeque<T>, size: usize, most: usize) -> Resul
         return tier.reserve_exact(size - tier.len());
     }
     tier.reserve(most - tier.len())
+}
+
+/// Takes out the element at a place that is there.
+pub(crate) fn take<T: Drop>(tier: &mut VecDeque<T>, place: usize)
+    requires { place < deque_len tier.old }
+    ensures items { tier.new.items ≡ remove tier.old.items place }
+    ensures len { deque_len tier.new + 1 ≡ deque_len tier.old }
+    ensures capacity { deque_capacity tier.new ≡ deque_capacity tier.old }
+{
+    if tier.remove(place).is_none() {
+        unreachable!();
+    }
 }

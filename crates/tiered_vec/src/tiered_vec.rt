@@ -1,12 +1,13 @@
 //! The list in tiers.
 
 ghost use Rattle.std.specs.Prelude.{◌≡◌, ◌+◌, ◌<◌, ◌≤◌, [], OnOk, length, option_copied, slice_get, slice_index_or};
-ghost use Rattle.std.specs.List.{insert};
+ghost use Rattle.std.specs.List.{insert, remove};
 ghost use Rattle.std.specs.List.Sorted.{IsBinarySearchResult, IsSearchInRange};
 
 use crate::growing::{add_tiers, grow_tiers};
 use crate::probe::Probe;
 use crate::putting::put_in;
+use crate::removing::take_out;
 use crate::tier::{LEAST, size_for};
 use crate::widening::append_all;
 use outcome::Memory;
@@ -144,6 +145,16 @@ impl<T: Drop> TieredVec<T> {
     {
         put_in(&mut self.tiers, self.size, place, x);
         self.len += 1;
+    }
+
+    /// Takes out the element at a place. It moves at most half a tier, and one element of each tier behind.
+    pub fn remove(&mut self, place: usize)
+        requires { place < length self.old.items }
+        ensures items { self.new.items ≡ remove self.old.items place }
+        ensures room { self.new.room ≡ self.old.room + 1 }
+    {
+        take_out(&mut self.tiers, self.size, place);
+        self.len -= 1;
     }
 
     /// The element at a place that is there.

@@ -1,10 +1,11 @@
 -- What a witness takes in a run is valid.
-use Rattle.std.proofs.Common.{◌≡◌, ◌==◌, ◌<◌, ◌+◌, ℕ, zero, suc, Bool, true, false, List, [], ◌∷◌, ◌++◌, length, reverse, get_or, Option, None, Result, Ok, Err, refl, sym, ap, subst, ◌∙◌, inl, inr, append_assoc, append-nil, arith}
+use Rattle.std.proofs.Common.{◌≡◌, ◌==◌, ◌<◌, ◌+◌, ℕ, zero, suc, Bool, true, false, List, [], ◌∷◌, ◌++◌, length, reverse, take, get_or, Option, None, Result, Ok, Err, refl, sym, ap, subst, ◌∙◌, inl, inr, append_assoc, append-nil, arith}
 use Rattle.std.specs.Prelude.{IfErr, IfOk, IsTrue, nat_lt}
 use Rattle.std.specs.Bool.{MatchBool}
 use Rattle.std.specs.List.{All, AllByRecursion, Contains}
 use Rattle.std.proofs.lemmas.Bool.{ltb-true}
 use Rattle.std.proofs.lemmas.Grind.{reverse_onto}
+use Rattle.std.proofs.Math.Seq.{take-append_seam}
 use Rattle.std.proofs.lemmas.List.Elements.{All-contains, All-from_recursion, recursion_from_All}
 use Rattle.authenticators.specs.Directory.{Listing}
 use Rattle.replay_verifier.specs.Meaning.{Meaning}
@@ -28,7 +29,7 @@ use Rattle.witness_core.specs.declared.fault.RunFault.{RunFault}
 use Rattle.witness_core.specs.declared.fault.EventFault.TheVariants.{NoWitness}
 use Rattle.witness_core.specs.Answering.{AreChecked, AreReplies, IsCheckedFor, IsReply, has_witness, refusal_of, unless}
 use Rattle.witness_core.specs.Running.{Ran, Stopped}
-use Rattle.witness_core.specs.Worlds.{HasJust, IsOfOneProgram, IsPacked, IsTaken, IsTold, Took, World, directory_of, nothing, pack_of, packs_made}
+use Rattle.witness_core.specs.Worlds.{HasJust, IsOfOneProgram, IsPacked, IsTaken, IsTold, HasTaken, World, directory_of, nothing, pack_of, packs_made}
 use Rattle.witness_core.specs.Soundness.{AnswersAreOfValidItems, IsAsked, ExposesNoHonestNode, IsRun, IsSound, RunsAreSound}
 use Rattle.witness_core.specs.within.ValidStores.{HasValidItems}
 
@@ -87,16 +88,16 @@ module _ {S : Type 0} (program : Meaning S) (W : World) (sound : IsSound W) wher
 
     -- what was taken and what is packed is valid
     record AreFine (past : List (Event P)) : Type 0 where
-      took : (w : ℕ) → w < length W.stores → (x : Piece) → Took W w past x → IsFine w x
+      took : (w : ℕ) → w < length W.stores → (x : Piece) → HasTaken W w past x → IsFine w x
       packed : (k w : ℕ) → w < length W.stores → (x : Piece) → IsPacked W k past x → IsFine w x
 
     made : (b : Bool) (v s w : ℕ) (before : List (Event P)) (x : Piece) → v < length W.stores → w < length W.stores → AreFine before
-        → (k : ℕ) → MatchBool b ((E : Items) × (told : Summary) × HasJust E (Took W v before) × IsTold W s before told × Has E x × ¬ (IsTrue (names told E x))) (IsPacked W k before x) → IsFine w x
+        → (k : ℕ) → MatchBool b ((E : Items) × (told : Summary) × HasJust E (HasTaken W v before) × IsTold W s before told × Has E x × ¬ (IsTrue (names told E x))) (IsPacked W k before x) → IsFine w x
     made true v s w before x in_v in_w fine k p = elsewhere v w x in_v in_w (fine.took v in_v x ((p.2 x).0 p.4))
     made false v s w before x in_v in_w fine k p = fine.packed k w in_w x p
 
     step : (e : Event P) (past : List (Event P)) → refusal_of W past e ≡ None → IsCheckedFor program W e → AreFine past → AreFine (e ∷ past)
-    unfolding Took IsPacked
+    unfolding HasTaken IsPacked
     step (Take v item) past done checked fine = record {
       took = λ w lt x t. elim t [
         | inl before ↦ fine.took w lt x before
@@ -125,7 +126,7 @@ module _ {S : Type 0} (program : Meaning S) (W : World) (sound : IsSound W) wher
     step (Export v) past done checked fine = record { took = λ w lt x t. fine.took w lt x t; packed = λ k w lt x p. fine.packed k w lt x p }
 
     begun : AreFine []
-    unfolding Took IsPacked
+    unfolding HasTaken IsPacked
     begun = record { took = λ w lt x t. sound.stores w lt x t; packed = λ k w lt x p. sound.packs k w lt x p }
 
     fine : (past : List (Event P)) → AreDone past → AreFine past
@@ -188,6 +189,16 @@ sound_now lists sets program W one valid = record {
   packs = λ k w lt x held. kept_packs lists sets program W one k w lt x held;
 }
 
+-- The events before the one at which a run stopped are the first of them, and were checked.
+module _ {P S : Type 0} (program : Meaning S) (W : World) (events : List (Event P)) (f : RunFault) (V : World) (stopped : Stopped program W events f.done f.replies.items f.cause V) where
+  first_is : stopped.first ≡ take f.done events
+  first_is = sym (ap (λ n. take n events) (sym stopped.count) ∙ ap (take (length stopped.first)) stopped.split ∙ take-append_seam stopped.first (stopped.next ∷ stopped.others))
+
+  first_checked : AreChecked program W events → AreChecked program W stopped.first
+  first_checked checked =
+      let each = recursion_from_All (IsCheckedFor program W) (stopped.first ++ stopped.next ∷ stopped.others) (subst (AreChecked program W) stopped.split checked) in
+      All-from_recursion (IsCheckedFor program W) stopped.first (front_all (IsCheckedFor program W) stopped.first (stopped.next ∷ stopped.others) each)
+
 module _ {P S : Type 0} (program : Meaning S) where
   pub keep : (W V : World) (events : List (Event P)) (replies : List Reply) → IsRun program W events replies V → IsSound V
   keep W V events replies run = keeps program W run.sound V events replies run.checked run.ran
@@ -211,9 +222,14 @@ module _ {P S : Type 0} (program : Meaning S) where
     accurate_where_done W V events (Ok y) replies checked ran sound = accurate W V events (replies y) (record { sound = sound; checked = checked; ran = ran })
     accurate_where_done W V events (Err f) replies checked ran sound = tt
 
+    pub accurate_where_stopped : {Y : Type 0} (W V : World) (events : List (Event P)) (result : Result Y RunFault) → AreChecked program W events
+        → IfErr result (λ f. Stopped program W events f.done f.replies.items f.cause V) → IsSound W → IfErr result (λ f. ExposesNoHonestNode program W (take f.done events) f.replies.items)
+    accurate_where_stopped W V events (Ok y) checked stopped sound = tt
+    accurate_where_stopped W V events (Err f) checked stopped sound =
+        subst (λ (l : List (Event P)). ExposesNoHonestNode program W l f.replies.items) (first_is program W events f V stopped)
+        (accurate W V stopped.first f.replies.items (record { sound = sound; checked = first_checked program W events f V stopped checked; ran = stopped.ran }))
+
   pub sound_either_way : {Y : Type 0} (W V : World) (events : List (Event P)) (result : Result Y RunFault) (replies : Y → List Reply) → AreChecked program W events
       → IfOk result (λ y. Ran program W events (replies y) V) → IfErr result (λ f. Stopped program W events f.done f.replies.items f.cause V) → IsSound W → IsSound V
   sound_either_way W V events (Ok y) replies checked ran stopped sound = keeps program W sound V events (replies y) checked ran
-  sound_either_way W V events (Err f) replies checked ran stopped sound =
-      let each = recursion_from_All (IsCheckedFor program W) (stopped.first ++ stopped.next ∷ stopped.others) (subst (AreChecked program W) stopped.split checked) in
-      keeps program W sound V stopped.first f.replies.items (All-from_recursion (IsCheckedFor program W) stopped.first (front_all (IsCheckedFor program W) stopped.first (stopped.next ∷ stopped.others) each)) stopped.ran
+  sound_either_way W V events (Err f) replies checked ran stopped sound = keeps program W sound V stopped.first f.replies.items (first_checked program W events f V stopped checked) stopped.ran

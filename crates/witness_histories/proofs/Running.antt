@@ -16,7 +16,7 @@ use Rattle.witness_core.specs.declared.event.Event.TheVariants as event
 use Rattle.witness_core.specs.declared.fault.EventFault.{EventFault}
 use Rattle.witness_core.specs.declared.fault.EventFault.TheVariants as cause
 use Rattle.witness_core.specs.Answering.{AreReplies, IsOfPack, IsReply, refusal_of, unless}
-use Rattle.witness_core.specs.Worlds.{World, IsPacked, IsTaken, Took, directory_of, nothing, pack_of, packs_made}
+use Rattle.witness_core.specs.Worlds.{World, IsPacked, IsTaken, HasTaken, directory_of, nothing, pack_of, packs_made}
 use Rattle.shared_stores.specs.declared.history.Call.{Call}
 use Rattle.shared_stores.specs.declared.history.Call.TheVariants as call
 use Rattle.shared_stores.specs.declared.history.Given.{Given}
@@ -43,39 +43,39 @@ there v n at one = grind (arith, nat_tests)
 module _ {P S : Type 0} (sets : SetsAsExpected) (joins : JoinsAsExpected) (ds : Listing) (program : Meaning S) (W : World) (dir : directory_of W 0 ≡ ds) (count : length W.stores ≡ 1) where
   -- The set is what the witness took, and each pack is as the world keeps it.
   record Stands (past : List (Event P)) (E : Items) : Type 0 where
-    taken : (x : Piece) → Has E x ↔ Took W 0 past x
+    taken : (x : Piece) → Has E x ↔ HasTaken W 0 past x
     packs : (k : ℕ) (x : Piece) → Has (pack_of W k) x ↔ IsPacked W k past x
 
   took_one : (past : List (Event P)) (E : Items) (v : ℕ) (item : Checked) → Stands past E → v ≡ 0 → Stands (event.Take v item ∷ past) (insert E item.item)
-  unfolding Took IsPacked
+  unfolding HasTaken IsPacked
   took_one past E v item s at = record {
     taken = λ x. (
       λ has.
           ⊎_elim (λ (here : x ≡ item.item). inr (at, sym here)) (λ (had : Has E x). inl ((s.taken x).0 had)) ((sets.insert E item.item x).0 has),
-      λ took. ⊎_elim (λ (had : Took W 0 past x). (sets.insert E item.item x).1 (inr ((s.taken x).1 had)))
+      λ took. ⊎_elim (λ (had : HasTaken W 0 past x). (sets.insert E item.item x).1 (inr ((s.taken x).1 had)))
           (λ (here : (v ≡ 0) × (item.item ≡ x)). (sets.insert E item.item x).1 (inl (sym here.1))) took,
     );
     packs = s.packs;
   }
 
   delivered : (past : List (Event P)) (E M : Items) (k v : ℕ) → Stands past E → v ≡ 0 → pack_of W k ≡ M → Stands (event.Deliver k v ∷ past) (Join E M)
-  unfolding Took IsPacked
+  unfolding HasTaken IsPacked
   delivered past E M k v s at is = record {
     taken = λ x. (
       λ has.
           ⊎_elim (λ (had : Has E x). inl ((s.taken x).0 had)) (λ (new : Has M x). inr (at, (s.packs k x).0 (subst (λ A. Has A x) (sym is) new))) ((joins.members E M x).0 has),
-      λ took. ⊎_elim (λ (had : Took W 0 past x). (joins.members E M x).1 (inl ((s.taken x).1 had)))
+      λ took. ⊎_elim (λ (had : HasTaken W 0 past x). (joins.members E M x).1 (inl ((s.taken x).1 had)))
           (λ (new : (v ≡ 0) × IsPacked W k past x). (joins.members E M x).1 (inr (subst (λ A. Has A x) is ((s.packs k x).1 new.1)))) took,
     );
     packs = s.packs;
   }
 
   asked_one : (past : List (Event P)) (E : Items) (v node : ℕ) → Stands past E → Stands (event.Ask v node ∷ past) E
-  unfolding Took IsPacked
+  unfolding HasTaken IsPacked
   asked_one past E v node s = record { taken = s.taken; packs = s.packs }
 
   exported : (past : List (Event P)) (E : Items) (v : ℕ) → Stands past E → Stands (event.Export v ∷ past) E
-  unfolding Took IsPacked
+  unfolding HasTaken IsPacked
   exported past E v s = record { taken = s.taken; packs = s.packs }
 
   -- What the world has after the event is what the store has after the call.
@@ -89,10 +89,10 @@ module _ {P S : Type 0} (sets : SetsAsExpected) (joins : JoinsAsExpected) (ds : 
   at_one : (past : List (Event P)) (E : Items) (v : ℕ) → Stands past E → v ≡ 0 → IsTaken W v past E
   at_one past E v s at = subst (λ w. IsTaken W w past E) (sym at) s.taken
 
-  took_reply : (past : List (Event P)) (E : Items) (v : ℕ) (x : Piece) (new : Bool) → Stands past E → v ≡ 0 → new ≡ not (contains E x) → IsTrue new ↔ ¬ (Took W v past x)
+  took_reply : (past : List (Event P)) (E : Items) (v : ℕ) (x : Piece) (new : Bool) → Stands past E → v ≡ 0 → new ≡ not (contains E x) → IsTrue new ↔ ¬ (HasTaken W v past x)
   took_reply past E v x new s at is =
-      subst (λ w. IsTrue new ↔ ¬ (Took W w past x)) (sym at)
-      (subst (λ b. IsTrue b ↔ ¬ (Took W 0 past x)) (sym is)
+      subst (λ w. IsTrue new ↔ ¬ (HasTaken W w past x)) (sym at)
+      (subst (λ b. IsTrue b ↔ ¬ (HasTaken W 0 past x)) (sym is)
       (λ n. λ took. (is_true_not (contains E x)).0 n ((s.taken x).1 took), λ n. (is_true_not (contains E x)).1 (λ has. n ((s.taken x).0 has))))
 
   -- What the call is answered is what the event answers.
@@ -130,16 +130,16 @@ module _ {P S : Type 0} (sets : SetsAsExpected) (joins : JoinsAsExpected) (ds : 
   turned_over f events past = ap (λ (l : List (Event P)). l ++ past) (reverse_onto events f []) ∙ append_assoc (reverse events) (f ∷ []) past
 
   runs : (past : List (Event P)) (E F : Items) (history : List Recorded) (events : List (Event P)) → Stands past E → AreEventsOf W history events → Replays ds program E history F
-      → ((x : Piece) → Has F x ↔ Took W 0 (reverse events ++ past) x) × AreReplies program W past events (told_in history)
-  runs past E F [] [] s are legal = (subst (λ A. (x : Piece) → Has A x ↔ Took W 0 past x) legal s.taken, tt)
+      → ((x : Piece) → Has F x ↔ HasTaken W 0 (reverse events ++ past) x) × AreReplies program W past events (told_in history)
+  runs past E F [] [] s are legal = (subst (λ A. (x : Piece) → Has A x ↔ HasTaken W 0 past x) legal s.taken, tt)
   runs past E F [] (e ∷ events) s are legal = absurd are
   runs past E F (r ∷ history) [] s are legal = absurd are
   runs past E F (r ∷ history) (e ∷ events) s are legal =
       let go = runs (e ∷ past) (after E r.call) F history events (stands_on past E r.call e s are.0) are.1 legal.2 in
-      (subst (λ (l : List (Event P)). (x : Piece) → Has F x ↔ Took W 0 l x) (sym (turned_over e events past)) go.0, (not_refused past r.call e are.0 legal.0, replied past E r.call r.reply e s are.0 legal.1, go.1))
+      (subst (λ (l : List (Event P)). (x : Piece) → Has F x ↔ HasTaken W 0 l x) (sym (turned_over e events past)) go.0, (not_refused past r.call e are.0 legal.0, replied past E r.call r.reply e s are.0 legal.1, go.1))
 
   begins : (E : Items) → (slice_index_or W.stores 0 nothing).items ≡ E → Stands [] E
-  unfolding Took IsPacked
+  unfolding HasTaken IsPacked
   begins E is = record {
     taken = λ x. (λ has. subst (λ A. Has A x) (sym is) has, λ took. subst (λ A. Has A x) is took);
     packs = λ k x. (λ has. has, λ has. has);
@@ -151,4 +151,4 @@ histories_run {P} sets joins ds program W E F history events one are legal =
     let set_is : (slice_index_or W.stores 0 nothing).items ≡ E = ap (λ (l : List Contents). (slice_index_or l 0 nothing).items) one in
     let count : length W.stores ≡ 1 = ap length one in
     let run = runs {P = P} sets joins ds program W dir count [] E F history events (begins {P = P} sets joins ds program W dir count E set_is) are legal in
-    record { answered = run.1; took = subst (λ (l : List (Event P)). (x : Piece) → Has F x ↔ Took W 0 l x) (append-nil (reverse events)) run.0 }
+    record { answered = run.1; took = subst (λ (l : List (Event P)). (x : Piece) → Has F x ↔ HasTaken W 0 l x) (append-nil (reverse events)) run.0 }

@@ -9,7 +9,7 @@ use Rattle.witness_core.specs.declared.event.Event.TheVariants as event
 use Rattle.witness_core.specs.declared.event.Reply.{Reply}
 use Rattle.witness_core.specs.declared.event.Reply.TheVariants as reply
 use Rattle.witness_core.specs.Answering.{AreChecked, AreReplies}
-use Rattle.witness_core.specs.Worlds.{World, IsOfOneProgram, Took, pack_of}
+use Rattle.witness_core.specs.Worlds.{World, IsOfOneProgram, HasTaken, pack_of}
 use Rattle.shared_stores.specs.declared.history.Call.{Call}
 use Rattle.shared_stores.specs.declared.history.Call.TheVariants as call
 use Rattle.shared_stores.specs.declared.history.Given.{Given}
@@ -49,7 +49,7 @@ told_in history = map (λ (r : Recorded). told r.reply) history
 -- The events are done: none is refused, each is answered by its reply, and what the one witness took in them is the set.
 pub record IsRun {P S : Type 0} (program : Meaning S) (W : World) (events : List (Event P)) (replies : List Reply) (F : Items) : Type 0 where
   pub answered : AreReplies program W [] events replies
-  pub took : (x : Piece) → Has F x ↔ Took W 0 (reverse events) x
+  pub took : (x : Piece) → Has F x ↔ HasTaken W 0 (reverse events) x
 
 -- A world in which the events may happen that the history's calls are: what is kept there, and what is taken, is checked.
 pub record IsWorldOf {P S : Type 0} (program : Meaning S) (ds : Listing) (E : Items) (history : List Recorded) (W : World) (events : List (Event P)) : Type 0 where

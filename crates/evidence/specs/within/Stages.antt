@@ -4,16 +4,11 @@ use Rattle.authenticators.specs.Directory.{Listing}
 use Rattle.replay_verifier.specs.Meaning.{Meaning}
 use Rattle.containers.specs.declared.fault.ImportFault.{ImportFault}
 use Rattle.containers.specs.Feeding.{IsReadUnder}
-use Rattle.item_forms.specs.declared.forms.Fields.{Fields}
-use Rattle.containers.specs.declared.fault.Cause.{Cause}
 use Rattle.containers.specs.declared.fault.Cause.TheVariants as cause
 use Rattle.containers.specs.Refusals.{fault_at}
 use Rattle.evidence_set.specs.Exports.{magic, old_magic}
 use Rattle.evidence.specs.declared.stage.Stage.{Stage}
 use Rattle.evidence.specs.declared.stage.Stage.TheVariants as stage
-
-abbrev pub Reads : Type 0
-Reads = List ℕ → List ℕ → Result Fields Cause
 
 -- The pieces so far, joined, or the fault by which they were refused.
 abbrev pub fed_of : {P : Type 0} → Stage P → Result (List ℕ) ImportFault

@@ -60,7 +60,7 @@ pub record IsReadier {P : Type 0} (old new : Index P) : Type 0 where
   pub long : length new.tables.items ≡ length old.tables.items
 
 -- At most this item came, and took of its room what was made for it.
-pub record Took {P : Type 0} (x : Checked) (old new : Index P) : Type 0 where
+pub record JoinsAtMost {P : Type 0} (x : Checked) (old new : Index P) : Type 0 where
   pub tables : EachBecomes (ItemRooms x) old.tables.items new.tables.items
   pub len : vec_len new.items ≤ vec_len old.items + 1
   pub capacity : vec_capacity new.items ≡ vec_capacity old.items

@@ -1,7 +1,6 @@
 -- How an item is kept: a segment by its shared entries, a statement by its fields, and any other as it is.
-use Rattle.std.specs.Prelude.{◌≡◌, ℕ, List, true, false, Option, Some, None}
+use Rattle.std.specs.Prelude.{◌≡◌, true, false, Option, Some, None}
 use Rattle.evidence_item.specs.Checking.{Checked, is_segment}
-use Rattle.item_digests.specs.Digests.{digest_of}
 use Rattle.kept_items.specs.declared.item.Body.{Body}
 use Rattle.kept_items.specs.declared.item.Body.TheVariants as body
 use Rattle.kept_items.specs.within.Bare.{is_statement}
@@ -16,11 +15,6 @@ abbrev pub IsApart : {P : Type 0} → Body P → Type 0
 IsApart (body.Statement c) = is_statement c.item.fields ≡ true
 IsApart (body.Single c) = is_segment c.value.item.fields ≡ false
 IsApart (body.Segment c) = is_segment c.value.item.fields ≡ true
-
--- So it is, and its digest is kept with it.
-pub record IsKept {P : Type 0} (k : Body P) (digest : List ℕ) : Type 0 where
-  pub apart : IsApart k
-  pub digested : digest ≡ digest_of (checked_in k).item
 
 -- Beside an item that will be kept stands what it is given back of: nothing where it is no segment.
 abbrev pub IsGivenBy : Checked → Option Checked → Type 0

@@ -1,5 +1,5 @@
 -- The segment that shared entries and what stands beside them make.
-use Rattle.std.specs.Prelude.{◌≡◌, ℕ, Bool, List, Option, Some}
+use Rattle.std.specs.Prelude.{◌≡◌, ℕ, zero, suc, Bool, List, [], ◌∷◌, Option, Some}
 use Rattle.log_chain.specs.Chain.{hashes}
 use Rattle.replay_verifier.specs.declared.verdict.Verdict.{Verdict}
 use Rattle.item_forms.specs.declared.forms.Fields.{Fields}
@@ -21,6 +21,12 @@ fields_of node prev shared sig = form.Segment (segment_of node prev shared sig)
 
 abbrev pub findings_in : List SharedEntry → Option Findings
 findings_in shared = Some (found.Segment (record { hashes = hashes_of shared; quotes = quotes_of shared }))
+
+-- The hash before the entry at a place.
+abbrev pub before : List ℕ → List SharedEntry → ℕ → List ℕ
+before prev [] k = prev
+before prev (x ∷ xs) zero = prev
+before prev (x ∷ xs) (suc k) = before x.hash xs k
 
 -- The checked item that they make.
 abbrev pub checked_of : (node : ℕ) (prev : List ℕ) (shared : List SharedEntry) (sig : List ℕ) → Fits (fields_of node prev shared sig) → Option Verdict → Checked

@@ -12,7 +12,7 @@ use Rattle.kept_evidence.specs.Telling.{denies}
 use Rattle.node_tables.specs.Receipts.{receipt_at, receipt_by}
 use Rattle.node_tables.specs.Rows.{stated_at}
 use Rattle.node_tables.specs.Steps.{room, wanted, position_of, is_of}
-use Rattle.node_tables.specs.Tables.{Stands, Says, denies_at, deviates_at}
+use Rattle.node_tables.specs.Tables.{HasSpanAt, Says, denies_at, deviates_at}
 use Rattle.node_tables.specs.declared.exposure.ExposingPlaces.TheVariants as exposure
 use Rattle.node_tables.specs.declared.exposure.ExposingPlaces.{ExposingPlaces}
 use Rattle.node_tables.specs.declared.row.Row.{Row}
@@ -71,7 +71,7 @@ pub record BringsNothing (items : List Checked) (rows : List Row) (spans : List 
 -- It exposes the node, with a row or a segment that is kept.
 abbrev pub IsBrought : List Checked → List Row → List Span → Row → Authenticator → ExposingPlaces → Type 0
 IsBrought items rows spans row a (exposure.TwoHashes r q) = (r ≡ row) × Contains rows q × (two_at items q a ≡ true)
-IsBrought items rows spans row a (exposure.Denied r i) = (r ≡ row) × Stands spans i × (denies_at items a i ≡ true)
+IsBrought items rows spans row a (exposure.Denied r i) = (r ≡ row) × HasSpanAt spans i × (denies_at items a i ≡ true)
 IsBrought items rows spans row a (exposure.Deviates i) = ⊥
 
 -- What exposes the node after the statement, by what did before.
@@ -87,6 +87,7 @@ pub record RowStep (items : List Checked) (row : Row) (t u : Table) : Type 0 whe
   pub receipts : u.receipts ≡ t.receipts
   pub spans : u.spans ≡ t.spans
   pub unanswered : u.unanswered ≡ t.unanswered
+  pub hashes : u.hashes ≡ t.hashes
   pub room : t.rows.room ≤ u.rows.room + 1
 
 -- A receipt comes, where the statement is quoted.
@@ -96,6 +97,7 @@ pub record ReceiptStep (items : List Checked) (row : Row) (t u : Table) : Type 0
   pub receipts : (s : Sending) → Contains u.receipts.items s ↔ (Contains t.receipts.items s ⊎ ((receipt_at items row ≡ Some s) × (s.from ≡ t.node)))
   pub spans : u.spans ≡ t.spans
   pub unanswered : u.unanswered ≡ t.unanswered
+  pub hashes : u.hashes ≡ t.hashes
   pub room : t.receipts.room ≤ u.receipts.room + 1
 
 -- A statement comes.
@@ -105,6 +107,7 @@ pub record StatementStep (items : List Checked) (row : Row) (t u : Table) : Type
   pub receipts : (s : Sending) → Contains u.receipts.items s ↔ (Contains t.receipts.items s ⊎ ((receipt_at items row ≡ Some s) × (s.from ≡ t.node)))
   pub spans : u.spans ≡ t.spans
   pub unanswered : u.unanswered ≡ t.unanswered
+  pub hashes : u.hashes ≡ t.hashes
   pub other_room : ((a : Authenticator) → stated_at items row ≡ Some a → a.node ≢ t.node) → room t ≤ room u
   pub room : room t ≤ room u + 1
 
@@ -157,8 +160,9 @@ pub record SegmentStep (items : List Checked) (place : ℕ) (t u : Table) : Type
   pub node : u.node ≡ t.node
   pub rows : u.rows ≡ t.rows
   pub receipts : u.receipts ≡ t.receipts
-  pub stands : (i : ℕ) → Stands u.spans.items i ↔ (Stands t.spans.items i ⊎ (i ≡ place))
+  pub stands : (i : ℕ) → HasSpanAt u.spans.items i ↔ (HasSpanAt t.spans.items i ⊎ (i ≡ place))
   pub unanswered : u.unanswered ≡ t.unanswered
+  pub hashes : u.hashes ≡ t.hashes
 
 -- The first statements of the item at a place come.
 pub record StatementsStep (items : List Checked) (n k : ℕ) (t u : Table) : Type 0 where
@@ -167,6 +171,7 @@ pub record StatementsStep (items : List Checked) (n k : ℕ) (t u : Table) : Typ
   pub receipts : (s : Sending) → Contains u.receipts.items s ↔ (Contains t.receipts.items s ⊎ ((p : ℕ) × (p < k) × (receipt_by (slice_get items n) p ≡ Some s) × (s.from ≡ t.node)))
   pub spans : u.spans ≡ t.spans
   pub unanswered : u.unanswered ≡ t.unanswered
+  pub hashes : u.hashes ≡ t.hashes
   pub room : room t ≤ room u + wanted (position_of items n) k t.node
 
 -- Whether the statement is of the node, as a number.

@@ -1,12 +1,13 @@
 -- What the coming of an item asks of one table, and what it leaves there. To all tables it comes one by one.
-use Rattle.std.specs.Prelude.{◌≡◌, ℕ, Bool, true, List, Some, slice_get, ◌+◌, ◌≤◌}
+use Rattle.std.specs.Prelude.{◌≡◌, ℕ, Bool, true, List, Some, length, slice_get, ◌+◌, ◌≤◌}
 use Rattle.evidence_item.specs.Checking.{Checked}
 use Rattle.evidence_set.specs.Challenges.{is_against}
 use Rattle.kept_evidence.specs.Telling.{is_answered}
 use Rattle.kept_items.specs.Keeping.{subject}
 use Rattle.kept_items.specs.Positions.{positions}
 use Rattle.node_tables.specs.Indexed.{AreReceipts}
-use Rattle.node_tables.specs.Places.{AreAsked, HasBodyRoom, span_room}
+use Rattle.node_tables.specs.Hashed.{AreAsked}
+use Rattle.node_tables.specs.Places.{HasBodyRoom, span_room}
 use Rattle.node_tables.specs.Rooms.{HasRoomFor, ItemRooms, KeepsPromises}
 use Rattle.node_tables.specs.Rows.{stated_at}
 use Rattle.node_tables.specs.Tables.{IsTold}
@@ -15,10 +16,10 @@ use Rattle.node_tables.specs.declared.table.Table.{Table}
 use Rattle.node_tables.specs.within.Bringing.{OneTakenBack, SegmentStep, StatementStep, StatementsStep, TakenBack}
 use Rattle.node_tables.specs.within.Placing.{AreAgainst, AreOtherReceipts, AreOthers, BodyRooms, BodyRoomsOf, BodyStep, IsNewAmong, ItemStep, subject_by}
 
--- What is kept of a node is told of the items, and its challenges stand in their orders.
-pub record IsKept (items : List Checked) (t : Table) : Type 0 where
+-- What is kept of a node is told of the items, and its challenges stand in their orders; of the segment at place n they need not be told.
+pub record IsKept (items : List Checked) (n : ℕ) (t : Table) : Type 0 where
   pub told : IsTold items t
-  pub asked : AreAsked items t.unanswered
+  pub asked : AreAsked items n t
 
 -- ---- statements
 
@@ -45,10 +46,10 @@ pub record SegmentCame (items : List Checked) (n : ℕ) (t u : Table) : Type 0 w
 
 -- The table is kept, and of segments and challenges it has those of the items at other places.
 pub record IsOfOthers (items : List Checked) (n : ℕ) (t : Table) : Type 0 where
-  pub kept : IsKept items t
+  pub kept : IsKept items n t
   pub spans : AreOthers items t.node n t.spans.items
   pub against : AreAgainst items t
-  pub new : IsNewAmong items n t.unanswered.places.items
+  pub new : IsNewAmong items n t.unanswered.items
 
 -- Such a table has room for it, where it is of its subject.
 pub record IsBodyDue (items : List Checked) (n : ℕ) (t : Table) : Type 0 where
@@ -64,13 +65,13 @@ pub record IsToPut (items : List Checked) (n : ℕ) (x : Checked) (b : Bool) (t 
 
 -- It came to the table of its subject; to any table, and its promise is taken back.
 pub record BodyPut (items : List Checked) (n : ℕ) (t u : Table) : Type 0 where
-  pub kept : IsKept items u
+  pub kept : IsKept items (length items) u
   pub step : BodyStep items n t u
   pub rooms : BodyRooms t u
   pub counts : KeepsPromises t u
 
 pub record BodyCame (items : List Checked) (n : ℕ) (t u : Table) : Type 0 where
-  pub kept : IsKept items u
+  pub kept : IsKept items (length items) u
   pub step : BodyStep items n t u
   pub rooms : BodyRoomsOf (subject_by (slice_get items n)) t u
 
@@ -84,7 +85,7 @@ pub record IsDue (items : List Checked) (n : ℕ) (t : Table) : Type 0 where
 
 -- It came, and its promise is taken back.
 pub record ItemCame (items : List Checked) (n : ℕ) (t u : Table) : Type 0 where
-  pub kept : IsKept items u
+  pub kept : IsKept items (length items) u
   pub receipts : AreReceipts items u
   pub step : (x : Checked) → slice_get items n ≡ Some x → ItemStep items n (positions x.item.fields) t u
   pub rooms : (x : Checked) → slice_get items n ≡ Some x → ItemRooms x t u

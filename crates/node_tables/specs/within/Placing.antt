@@ -14,7 +14,7 @@ use Rattle.node_tables.specs.Indexed.{AreReceipts}
 use Rattle.node_tables.specs.Places.{bodies, open_room, span_room, IsOpenAt, IsAcknowledged, IsAgainstAt, IsOrder}
 use Rattle.node_tables.specs.Receipts.{IsReceived, receipt_by}
 use Rattle.node_tables.specs.Steps.{AllTables, AscendByNode, position_of}
-use Rattle.node_tables.specs.Tables.{IsSegmentAt, IsTold, Stands, Says}
+use Rattle.node_tables.specs.Tables.{IsSegmentAt, IsTold, HasSpanAt, Says}
 use Rattle.node_tables.specs.declared.sending.Sending.{Sending}
 use Rattle.node_tables.specs.declared.span.Span.{Span}
 use Rattle.node_tables.specs.declared.table.Table.{Table}
@@ -63,7 +63,7 @@ HasAcknowledgement items (form.Ack a) = ⊥
 
 -- What a table keeps as unanswered are challenges against its node.
 abbrev pub AreAgainst : List Checked → Table → Type 0
-AreAgainst items t = (i : ℕ) → Contains t.unanswered.places.items i → IsAgainstAt items t.node i
+AreAgainst items t = (i : ℕ) → Contains t.unanswered.items i → IsAgainstAt items t.node i
 
 -- The item at place n has another spelling than those at the places.
 abbrev pub IsNewAmong : List Checked → ℕ → List ℕ → Type 0
@@ -78,7 +78,7 @@ pub record AreStanding (items : List Checked) (places : List ℕ) (tables : List
 
 -- The spans are all segments of node j but that at place n.
 abbrev pub AreOthers : List Checked → ℕ → ℕ → List Span → Type 0
-AreOthers items j n spans = (i : ℕ) → Stands spans i ↔ (IsSegmentAt items j i × (i ≢ n))
+AreOthers items j n spans = (i : ℕ) → HasSpanAt spans i ↔ (IsSegmentAt items j i × (i ≢ n))
 
 -- The item at a place acknowledges a message.
 abbrev pub is_ack : Fields → Bool
@@ -111,12 +111,12 @@ pub record BodyStep (items : List Checked) (n : ℕ) (t u : Table) : Type 0 wher
   pub node : u.node ≡ t.node
   pub rows : u.rows ≡ t.rows
   pub receipts : u.receipts ≡ t.receipts
-  pub stands : (i : ℕ) → Stands u.spans.items i ↔ (Stands t.spans.items i ⊎ ((i ≡ n) × IsSegmentAt items t.node n))
-  pub unanswered : (i : ℕ) → Contains u.unanswered.places.items i ↔ ((Contains t.unanswered.places.items i × (answers_at items i n ≡ false)) ⊎ ((i ≡ n) × IsOpenAt items t.node n))
+  pub stands : (i : ℕ) → HasSpanAt u.spans.items i ↔ (HasSpanAt t.spans.items i ⊎ ((i ≡ n) × IsSegmentAt items t.node n))
+  pub unanswered : (i : ℕ) → Contains u.unanswered.items i ↔ ((Contains t.unanswered.items i × (answers_at items i n ≡ false)) ⊎ ((i ≡ n) × IsOpenAt items t.node n))
 
 -- The item at place n comes, whole.
 pub record ItemStep (items : List Checked) (n k : ℕ) (t u : Table) : Type 0 where
   pub node : u.node ≡ t.node
   pub says : (a : Authenticator) → Says items u.rows.items a ↔ (Says items t.rows.items a ⊎ ((p : ℕ) × (p < k) × (position_of items n p ≡ Some a) × (a.node ≡ t.node)))
-  pub stands : (i : ℕ) → Stands u.spans.items i ↔ (Stands t.spans.items i ⊎ ((i ≡ n) × IsSegmentAt items t.node n))
-  pub unanswered : (i : ℕ) → Contains u.unanswered.places.items i ↔ ((Contains t.unanswered.places.items i × (answers_at items i n ≡ false)) ⊎ ((i ≡ n) × IsOpenAt items t.node n))
+  pub stands : (i : ℕ) → HasSpanAt u.spans.items i ↔ (HasSpanAt t.spans.items i ⊎ ((i ≡ n) × IsSegmentAt items t.node n))
+  pub unanswered : (i : ℕ) → Contains u.unanswered.items i ↔ ((Contains t.unanswered.items i × (answers_at items i n ≡ false)) ⊎ ((i ≡ n) × IsOpenAt items t.node n))

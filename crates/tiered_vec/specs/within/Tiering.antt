@@ -1,5 +1,5 @@
 -- How the elements lie in tiers.
-use Rattle.std.specs.Prelude.{◌≡◌, ℕ, ◌*◌, ◌-◌, ◌<◌, ◌≤◌, List, length, map, min, slice_index}
+use Rattle.std.specs.Prelude.{◌≡◌, ℕ, ◌*◌, ◌+◌, ◌-◌, ◌<◌, ◌≤◌, List, length, map, min, slice_index, slice_set}
 use Rattle.std.specs.List.{flat_map}
 use Rattle.std.specs.VecDeque.{deque_capacity, deque_items, deque_len}
 use Rattle.std.specs.declared.collections.VecDeque.{VecDeque}
@@ -33,3 +33,9 @@ pub record AreTiers {X Z : Type 0} (size : ℕ) (tiers : List (VecDeque X Z)) (n
   pub room : HaveRoom size (capacities tiers) most
   pub within : n ≤ most
   pub some : 0 < size
+
+-- A tier that is there got one element more, and the one behind it, which has some, one less.
+pub record IsPulled (old new : List ℕ) (tier : ℕ) : Type 0 where
+  pub inside : tier + 1 < length old
+  pub some : 1 ≤ slice_index old (tier + 1)
+  pub moved : new ≡ slice_set (slice_set old (tier + 1) (slice_index old (tier + 1) - 1)) tier (slice_index old tier + 1)

@@ -1,6 +1,18 @@
-use Rattle.std.proofs.Common.{get_or}
-use Rattle.std.proofs.lemmas.List.Elements.{Contains-get_or}
+use Rattle.std.proofs.Common.{◌++◌, [], ℕ, List, get_or, take, sym, ap, ◌∙◌}
+use Rattle.std.specs.Prelude.{slice_get}
+use Rattle.std.specs.List.{flat_map}
+use Rattle.std.proofs.lemmas.List.{flat_map_more, take_more}
+use Rattle.item_forms.specs.Pieces.{Piece}
+use Rattle.node_tables.specs.Places.{named_item}
 use Rattle.indexed_store.proofs.challenges.challenges_at.Goals as goal
 
-pub lend-requires : goal.lend-requires
-lend-requires g c = c.requires (get_or c.args.places.now c.loop-place.place-index 0) (Contains-get_or c.args.places.now c.loop-place.place-index 0 c.loop-place-test.true)
+pub loop-at-preserved : goal.loop-at-preserved
+loop-at-preserved g c =
+    let places = c.args.places.now.items in
+    let at = c.loop-at.at in
+    let named : ℕ → List Piece = λ i. named_item (slice_get c.args.items.now i) in
+    let inside = rw c.len-at-end.ensures at c.loop-at-test.true in
+    c.in_ok-lend_at.ensures 0
+    ∙ ap (λ (l : List Piece). l ++ named (get_or places at 0)) c.loop-at.invariant
+    ∙ flat_map_more named [] (take at places) (get_or places at 0)
+    ∙ ap (flat_map named) (sym (take_more places at 0 inside))

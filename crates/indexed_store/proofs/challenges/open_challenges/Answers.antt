@@ -1,4 +1,4 @@
-use Rattle.std.proofs.Common.{◌≡◌, ℕ, List, map, subst, ◌∙◌}
+use Rattle.std.proofs.Common.{◌≡◌, map, subst, ◌∙◌}
 use Rattle.std.specs.Prelude.{◌↔◌}
 use Rattle.std.specs.List.{Contains}
 use Rattle.item_forms.specs.Pieces.{Piece}
@@ -16,9 +16,8 @@ pub challenges_at-requires : goal.challenges_at-requires
 challenges_at-requires g c = λ i has.
     let t = c.in-Some.table.now in
     let (k, at, own) = c.in-Some.ensures.some in
-    let here : Contains t.unanswered.places.items i = subst (λ (l : List ℕ). Contains l i) c.deref-2.ensures.value has in
     let items = c.args.index.now.items.items in
-    rw c.deref.ensures.value (subst (λ j. IsAgainstAt items j i) own (open_against items t.node i (((c.requires.store.each k t at).unanswered i).0 here)))
+    rw c.deref.ensures.value (subst (λ j. IsAgainstAt items j i) own (open_against items t.node i (((c.requires.store.each k t at).unanswered i).0 has)))
 
 pub returns : goal.returns
 returns g c =
@@ -28,7 +27,7 @@ returns g c =
     let (k, at, own) = c.in-Some.ensures.some in
     let table = store.each k t at in
     let found = map (λ i. i.now) c.in_ok-found.found.items in
-    let listed : found ≡ pieces table.asked.spelled.named = (rw (c.deref.ensures.value, c.deref-2.ensures.value) at c.in_ok-found.ensures) ∙ lent_named items t.unanswered.places.items table.asked.spelled.named table.asked.spelled.names in
+    let listed : found ≡ pieces table.asked.spelled.named = (rw c.deref.ensures.value at c.in_ok-found.ensures) ∙ lent_named items t.unanswered.items table.asked.spelled.named table.asked.spelled.names in
     record {
       members = subst (λ j. (x : Piece) → Contains found x ↔ (Has (set_of items) x × IsUnanswered c.args.directory.now (set_of items) j x.fields)) own
           (open_members c.args.directory.now g.P.Program.means c.deviating_lists_do_not_conform.ensures items c.args.index.now.order.items store.ordered store.whole t table found listed);

@@ -12,5 +12,5 @@ returns-in-Some g c =
     let store = c.requires.store in
     let t = c.in-Some.table.now in
     let (i, at, own) = c.in-Some.ensures.some in
-    subst (λ j. IsIndication c.args.directory.now g.P.Program.means (set_of c.args.index.now.items.items) j c.told.result) own
-    (tells_is c.args.directory.now g.P.Program.means c.deviating_lists_do_not_conform.ensures c.args.index.now.items.items c.args.index.now.order.items store.ordered store.whole t (store.each i t at) c.told.result c.told.ensures)
+    subst (λ j. IsIndication c.args.directory.now g.P.Program.means (set_of c.args.index.now.items.items) j c.indication_of.result) own
+    (tells_is c.args.directory.now g.P.Program.means c.deviating_lists_do_not_conform.ensures c.args.index.now.items.items c.args.index.now.order.items store.ordered store.whole t (store.each i t at) c.indication_of.result c.indication_of.ensures)

@@ -1,6 +1,7 @@
 use Rattle.std.proofs.Common.{◌≡◌, List, length, ap, subst, arith}
 use Rattle.evidence_item.specs.Checking.{Checked}
 use Rattle.indexed_store.specs.within.Resting.{IsAwaiting}
+use Rattle.indexed_store.proofs.Digested.{same_still, then_still}
 use Rattle.indexed_store.proofs.Listed.{counts}
 use Rattle.indexed_store.proofs.Owed.{awaits, readier_store, still_rests}
 use Rattle.indexed_store.proofs.merging.add_all.Goals as goal
@@ -21,3 +22,9 @@ returns-clause-told g c =
     let after = counts c.add_each.new.index.items.items c.add_each.new.index.order.items c.add_each.ensures.store.indexed.ordered in
     let same : length c.prepare_all.new.index.order.items ≡ length c.args.index.now.order.items = ap length c.prepare_all.ensures.same.order in
     omega (arith, before, after, same, c.len.ensures, c.len-before.ensures, c.add_each.ensures.grows)
+
+pub returns-in_err-prepare_all-clause-still : goal.returns-in_err-prepare_all-clause-still
+returns-in_err-prepare_all-clause-still g c = same_still _ _ c.prepare_all.ensures.same.items
+
+pub returns-clause-still : goal.returns-clause-still
+returns-clause-still g c = then_still _ _ _ (same_still _ _ c.prepare_all.ensures.same.items) c.add_each.ensures.still

@@ -6,6 +6,7 @@ use Rattle.evidence_set.specs.ItemSets.{Join, set_of}
 use Rattle.kept_evidence.specs.Kept.{IsWhole}
 use Rattle.node_tables.proofs.Many.{at_end, empty_end, step_joins, whole_behind, whole_first}
 use Rattle.indexed_store.specs.within.Resting.{IsAwaiting}
+use Rattle.indexed_store.proofs.Digested.{then_still}
 use Rattle.indexed_store.proofs.Owed.{comes_to_rest, first_room, rest_awaited}
 use Rattle.indexed_store.proofs.merging.add_each.Goals as goal
 
@@ -18,6 +19,7 @@ loop-item-init g c =
       awaiting = subst (λ (l : List Checked). IsAwaiting l c.args.index.now) (sym given) c.requires.awaiting;
       joined = ap (λ (l : List Checked). Join (set_of c.args.index.now.items.items) (set_of l)) given;
       grows = omega arith;
+      still = λ i k at. at;
     }
 
 pub add_new-requires-clause-whole : goal.add_new-requires-clause-whole
@@ -37,9 +39,10 @@ loop-item-preserved g c =
     record {
       store = c.add_new.ensures.store;
       whole = whole_behind (IsWhole c.args.directory.now g.P.Program.means) _ _ _ next before.whole;
-      awaiting = rest_awaited _ _ _ next _ _ before.awaiting c.add_new.ensures.took;
+      awaiting = rest_awaited _ _ _ next _ _ before.awaiting c.add_new.ensures.joins;
       joined = step_joins (set_of c.loop-item.index.items.items) (set_of c.add_new.new.index.items.items) _ _ _ _ next c.add_new.ensures.grown before.joined;
-      grows = omega (arith, before.grows, c.add_new.ensures.took.grows);
+      grows = omega (arith, before.grows, c.add_new.ensures.joins.grows);
+      still = then_still _ _ _ before.still c.add_new.ensures.still;
     }
 
 pub returns-clause-store : goal.returns-clause-store

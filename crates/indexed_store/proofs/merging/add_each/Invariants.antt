@@ -4,6 +4,7 @@ use Rattle.std.specs.Vec.Iter.{into_iter_items}
 use Rattle.evidence_item.specs.Checking.{Checked}
 use Rattle.evidence_set.specs.ItemSets.{Join, set_of}
 use Rattle.kept_evidence.specs.Kept.{IsWhole}
+use Rattle.indexed_store.specs.within.Digested.{StandStill}
 use Rattle.indexed_store.specs.within.Resting.{IsAwaiting, IsIndex}
 use Rattle.indexed_store.proofs.merging.add_each.Given as goal
 
@@ -14,4 +15,5 @@ invariant-loop-item g l = record {
   awaiting : IsAwaiting (into_iter_items l.item-iterator) l.index;
   joined : Join (set_of l.index.items.items) (set_of (into_iter_items l.item-iterator)) ≡ Join (set_of l.initial.index.items.items) (set_of l.fn.more.items);
   grows : length l.initial.index.order.items ≤ length l.index.order.items;
+  still : StandStill l.initial.index.items.items l.index.items.items;
 }

@@ -46,8 +46,8 @@ returns-clause-store g c =
     (order_more items order c.requires.store.ordered x c.args.gap c.requires.gap.inside c.requires.gap.searched) (c.index.auto.tables ∙ ap length c.deref_mut.ensures.value) c.index.ensures.ascending each (rw c.deref_mut.ensures.value at (c.index.ensures.rooms items x e1)) in
     rw (c.push_reserved.ensures.items, e2, with_items_is c.args.index.now.tables c.index.new.tables (c.index.auto.tables ∙ c.deref_mut.ensures.len)) store
 
-pub returns-clause-took : goal.returns-clause-took
-returns-clause-took g c =
+pub returns-clause-joins : goal.returns-clause-joins
+returns-clause-joins g c =
     let longer : length c.insert.new.self.items ≡ length c.args.index.now.order.items + 1 = ap length c.insert.ensures.items ∙ length-insert c.args.index.now.order.items c.args.gap _ c.requires.gap.inside in
     record {
       tables = stepped (ItemRooms c.args.item) c.args.index.now _ c.index.new.tables c.deref_mut.ensures.value (c.index.auto.tables ∙ c.deref_mut.ensures.len) (c.index.ensures.rooms c.args.index.now.items.items c.args.item (c.deref.ensures.value ∙ c.push_reserved.ensures.items));

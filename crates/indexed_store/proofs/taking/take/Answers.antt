@@ -5,6 +5,7 @@ use Rattle.evidence_set.proofs.SetLists.{sets_count}
 use Rattle.kept_evidence.proofs.Bridge.{set_has}
 use Rattle.kept_evidence.proofs.Taken.{is_new, not_new}
 use Rattle.node_tables.proofs.Many.{one_grows}
+use Rattle.indexed_store.proofs.Digested.{pushed_still, same_still}
 use Rattle.indexed_store.proofs.Owed.{awaits, comes_to_rest, first_room, readier_store, rest_awaited, still_rests}
 use Rattle.indexed_store.proofs.taking.take.Goals as goal
 
@@ -35,7 +36,16 @@ returns-clause-taken g c =
     one_grows old c.add.new.index.items.items x is ∙ ap (insert (set_of old)) (ap (λ (k : Checked). k.item) c.commit.ensures ∙ c.in_ok-keeping.ensures.kept.0)
 
 pub returns-in_default-prepare-clause-store : goal.returns-in_default-prepare-clause-store
-returns-in_default-prepare-clause-store g c = still_rests _ _ _ _ c.prepare.ensures.same c.in_default-prepare.ensures.refused c.requires.store
+returns-in_default-prepare-clause-store g c = record {
+  rest = still_rests _ _ _ _ c.prepare.ensures.same c.in_default-prepare.ensures.refused c.requires.store;
+  still = same_still _ _ c.prepare.ensures.same.items;
+}
+
+pub returns-in_default-clause-store : goal.returns-in_default-clause-store
+returns-in_default-clause-store g c = record { rest = c.requires.store; still = λ i k at. at }
+
+pub returns-in_err-keeping-clause-store : goal.returns-in_err-keeping-clause-store
+returns-in_err-keeping-clause-store g c = record { rest = c.requires.store; still = λ i k at. at }
 
 pub add-requires-clause-store : goal.add-requires-clause-store
 add-requires-clause-store g c = readier_store _ _ _ _ c.prepare.ensures.same c.requires.store.indexed
@@ -56,4 +66,7 @@ add-requires-clause-room g c =
 pub returns-clause-store : goal.returns-clause-store
 returns-clause-store g c =
     let is : c.item-2.result.now ∷ [] ≡ c.commit.result ∷ [] = ap (λ (x : Checked). x ∷ []) (c.item-2.ensures ∙ sym c.commit.ensures) in
-    comes_to_rest _ _ [] _ refl c.add.ensures.store (rest_awaited _ [] _ is _ _ (awaits _ _ _ c.requires.store.owes c.in-Ok.ensures.ready) c.add.ensures.took)
+    record {
+      rest = comes_to_rest _ _ [] _ refl c.add.ensures.store (rest_awaited _ [] _ is _ _ (awaits _ _ _ c.requires.store.owes c.in-Ok.ensures.ready) c.add.ensures.joins);
+      still = pushed_still c.args.index.now.items.items c.add.new.index.items.items c.commit.result (c.add.ensures.items ∙ ap (λ (l : List Checked). l ++ c.commit.result ∷ []) c.prepare.ensures.same.items);
+    }

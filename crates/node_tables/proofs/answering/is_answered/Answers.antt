@@ -1,6 +1,5 @@
 use Rattle.std.proofs.Common.{sym, ◌∙◌}
 use Rattle.node_tables.proofs.Answerers.{answered_by_receipts, answered_by_spans, by_acknowledgement}
-use Rattle.node_tables.proofs.Demands.{near_tells}
 use Rattle.node_tables.proofs.answering.is_answered.Goals as goal
 
 pub returns-then-has_acknowledgement : goal.returns-then-has_acknowledgement
@@ -16,7 +15,6 @@ returns-in-Some g c =
 pub returns-in-None : goal.returns-in-None
 returns-in-None g c =
     let t = c.args.table.now in
-    c.one_answers.ensures
-    ∙ near_tells c.args.items.now t.node c.args.place c.args.challenge.now c.requires.here t.spans.items c.near.result.now c.requires.told.spans c.near.ensures.has c.near.ensures.only
+    c.one_segment_answers.ensures
     ∙ answered_by_spans c.args.items.now t.node c.args.place c.args.challenge.now c.requires.here t.spans.items c.requires.against c.requires.others
     (λ h. let yes = c.has_acknowledgement.ensures.1 h in let no = c.if-has_acknowledgement.false in cc (yes, no))

@@ -9,10 +9,10 @@ is_answered_in-requires-clause-others g c =
     let t = c.index-tables-i.result in
     c.requires.others c.args.i t (slice_get_read c.args.tables.now (length c.args.tables.now) c.args.i t refl c.requires.inside c.index-tables-i.is)
 
-pub is_answered_in-requires-clause-told : goal.is_answered_in-requires-clause-told
-is_answered_in-requires-clause-told g c =
+pub is_answered_in-requires-clause-asked : goal.is_answered_in-requires-clause-asked
+is_answered_in-requires-clause-asked g c =
     let t = c.index-tables-i.result in
-    c.requires.standing.told c.args.i t (slice_get_read c.args.tables.now (length c.args.tables.now) c.args.i t refl c.requires.inside c.index-tables-i.is)
+    c.requires.asked c.args.i t (slice_get_read c.args.tables.now (length c.args.tables.now) c.args.i t refl c.requires.inside c.index-tables-i.is)
 
 pub returns : goal.returns
 returns g c = λ t at against.

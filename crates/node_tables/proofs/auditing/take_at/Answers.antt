@@ -1,23 +1,21 @@
-use Rattle.std.proofs.Common.{arith, refl, sym, ◌∙◌}
-use Rattle.std.proofs.lemmas.Option.{same_Some}
+use Rattle.std.proofs.Common.{◌≡◌, ◌+◌, List, sym, subst, ◌∙◌}
+use Rattle.std.specs.Prelude.{Some}
+use Rattle.node_tables.specs.declared.mark.Mark.{Mark}
+use Rattle.node_tables.specs.Hashed.{AreHolders, link_at}
+use Rattle.node_tables.specs.within.Marking.{AreAnswered}
+use Rattle.node_tables.proofs.Closed.{closed_more, looked_at}
 use Rattle.node_tables.proofs.auditing.take_at.Goals as goal
 
-pub returns-in-None : goal.returns-in-None
-returns-in-None g c = record {
-  asked = c.requires;
-  rest = refl;
-  fewer = λ i has. has;
-  done = λ told i d has is h. let none = sym c.opening.ensures ∙ c.in-None.is in let opens = h.0 in absurd (cc (none, opens));
-  room = omega arith;
-}
-
-pub returns-in-Some : goal.returns-in-Some
-returns-in-Some g c =
-    let took = c.take_opened.ensures in
-    record {
-      asked = took.asked;
-      rest = took.rest;
-      fewer = took.fewer;
-      done = λ told i d has is h. took.done told i d has is (same_Some d.opening c.in-Some.opening (sym h.0 ∙ sym c.opening.ensures ∙ c.in-Some.is), h.1);
-      room = took.room;
-    }
+pub returns-in-Raised-clause-closed : goal.returns-in-Raised-clause-closed
+returns-in-Raised-clause-closed g c = λ told.
+    let items = c.args.items.now in
+    let n = c.args.answer in
+    let x = c.in-Some.link in
+    let took = c.take_both.ensures in
+    let h = c.take_both.new.hashes in
+    let here : link_at items n c.args.position ≡ Some x = sym c.link_at.ensures ∙ c.in-Some.is in
+    let holders = subst (λ (l : List Mark). AreHolders items c.args.node n (c.args.position + 1) l) (sym took.holders) c.in-Raised.ensures in
+    let by_last = subst (λ front. AreAnswered items n front h.lasts.items) c.front_of-front.ensures took.lasts.1 in
+    let by_first = subst (λ front. AreAnswered items n front h.firsts.items) c.front_of-front.ensures took.firsts.1 in
+    closed_more items c.args.node n c.args.position x c.args.places.now.items c.take_both.new.places.items c.args.hashes.now h c.requires.closed here holders took.places.fewer took.lasts.0 took.firsts.0
+    (looked_at items c.args.node n c.args.position x c.args.places.now.items c.take_both.new.places.items c.args.hashes.now h c.requires.closed here holders took.places.fewer took.lasts.0 took.firsts.0 by_last by_first)

@@ -1,14 +1,10 @@
-use Rattle.std.proofs.Common.{◌≡◌, ◌≤◌, not, take, vec_capacity, vec_len}
-use Rattle.std.specs.Prelude.{slice_get}
-use Rattle.std.specs.List.{filter}
-use Rattle.node_tables.specs.Places.{AscendBySpelling}
-use Rattle.node_tables.specs.within.Asking.{is_like_one}
+use Rattle.std.proofs.Common.{◌≤◌}
+use Rattle.node_tables.specs.within.Marking.{AreClosed, AreTaken}
 use Rattle.node_tables.proofs.auditing.take_each.Given as goal
 
-abbrev pub invariant-loop-place : goal.invariant-loop-place
-invariant-loop-place g l = record {
-  items : l.places.items ≡ filter (λ i. not (is_like_one l.items (take l.place-index l.gone) (slice_get l.items i))) l.fn.places.items;
-  asked : AscendBySpelling l.items l.places.items;
-  len : vec_len l.places ≤ vec_len l.fn.places;
-  capacity : vec_capacity l.places ≡ vec_capacity l.fn.places;
+abbrev pub invariant-loop-position : goal.invariant-loop-position
+invariant-loop-position g l = record {
+  places : AreTaken l.items l.answer l.fn.places.items l.places.items;
+  closed : AreClosed l.items l.node l.answer l.position l.places.items l.hashes;
+  room : l.fn.places.room ≤ l.places.room;
 }

@@ -1,10 +1,9 @@
-use Rattle.std.proofs.Common.{◌≡◌, ◌<◌, ◌≤◌, ℕ, List, length, subst, sym, ap, ◌∙◌}
-use Rattle.std.specs.Prelude.{Ok, Err, Some, slice_get}
-use Rattle.std.specs.List.Sorted.{IsBinarySearchResult}
+use Rattle.std.proofs.Common.{◌≡◌, sym, ap, ◌∙◌}
+use Rattle.std.specs.Prelude.{Some, slice_get}
 use Rattle.std.proofs.lemmas.Option.{slice_get-get_or, slice_get_past}
 use Rattle.evidence_item.specs.Checking.{Checked}
-use Rattle.node_tables.specs.Places.{item_order_by}
 use Rattle.node_tables.proofs.Audited.{none_found, none_like, one_found, some_like}
+use Rattle.node_tables.proofs.Taken.{one_removed}
 use Rattle.node_tables.proofs.auditing.take_one.Goals as goal
 
 pub returns-in_default-clause-items : goal.returns-in_default-clause-items
@@ -17,9 +16,7 @@ returns-in-Ok-clause-items g c =
     let x = c.in-Some.kept.now in
     let named = c.in-Some.ensures.lookup in
     let here : slice_get items c.args.place ≡ Some x = slice_get-get_or items c.args.place x named.3.0 ∙ ap (λ (y : Checked). Some y) (sym named.1) in
-    let inside = subst (λ (l : List ℕ). c.in-Ok.at < length l) c.deref.ensures.value c.in-Ok.ensures.bound in
-    let equal = subst (λ (l : List ℕ). IsBinarySearchResult (λ j. item_order_by (slice_get items j) x.item) l (Ok c.in-Ok.at)) c.deref.ensures.value c.in-Ok.ensures.position in
-    some_like items old (slice_get items c.args.place) x c.take_away.new.places.items here (c.take_away.ensures.items ∙ one_found items old c.requires x c.in-Ok.at inside equal)
+    some_like items old (slice_get items c.args.place) x c.remove.new.self.items here (c.remove.ensures.items ∙ one_removed old c.in-Ok.at ∙ one_found items old c.requires x c.in-Ok.at c.in-Ok.ensures.bound c.in-Ok.ensures.position)
 
 pub returns-in-Err-clause-items : goal.returns-in-Err-clause-items
 returns-in-Err-clause-items g c =
@@ -28,6 +25,4 @@ returns-in-Err-clause-items g c =
     let x = c.in-Some.kept.now in
     let named = c.in-Some.ensures.lookup in
     let here : slice_get items c.args.place ≡ Some x = slice_get-get_or items c.args.place x named.3.0 ∙ ap (λ (y : Checked). Some y) (sym named.1) in
-    let inside = subst (λ (l : List ℕ). c.in-Err.field-0 ≤ length l) c.deref.ensures.value c.in-Err.ensures.bound in
-    let place = subst (λ (l : List ℕ). IsBinarySearchResult (λ j. item_order_by (slice_get items j) x.item) l (Err c.in-Err.field-0)) c.deref.ensures.value c.in-Err.ensures.position in
-    some_like items old (slice_get items c.args.place) x old here (none_found items old c.requires x c.in-Err.field-0 inside place)
+    some_like items old (slice_get items c.args.place) x old here (none_found items old c.requires x c.in-Err.field-0 c.in-Err.ensures.bound c.in-Err.ensures.position)

@@ -46,3 +46,6 @@ returns-in-Some-place_of g c =
     to_one (BodyCame c.args.items.now c.args.place) c.args.tables.now c.in-Some.node
     (λ k t at other. body_elsewhere c.args.items.now c.args.place x t here (c.requires.due k t at) (λ own. other (same_Some t.node c.in-Some.node (sym own ∙ sym c.subject.ensures ∙ c.in-Some.is)))) c.requires.standing.ascending i
     (get_or c.args.tables.now i c.index-tables-i.result) c.put_in.new.table (as_read c.args.tables.now i c.in-Some.node c.index-tables-i.result c.in-Some-place_of.ensures.some) c.put_in.ensures
+
+pub is_answered_at-answered-requires-clause-asked : goal.is_answered_at-answered-requires-clause-asked
+is_answered_at-answered-requires-clause-asked g c = λ i t at. (c.requires.due i t at).others.kept.asked

@@ -8,14 +8,13 @@ use Rattle.node_tables.proofs.Sendings.{all_stay}
 use Rattle.node_tables.proofs.closing.take_each_received.Goals as goal
 
 pub loop-place-init : goal.loop-place-init
-loop-place-init g c = (all_stay (λ (i : ℕ). false) c.args.places.now.items (λ k d lt. refl), c.requires, omega arith, refl)
+loop-place-init g c = (all_stay (λ (i : ℕ). false) c.args.places.now.items (λ k d lt. refl), c.requires, omega arith)
 
 pub loop-place-preserved : goal.loop-place-preserved
 loop-place-preserved g c = (
   one_more c.args.items.now c.args.node c.args.kept.now c.loop-place.place c.args.places.now.items c.loop-place.places.items c.take_received.new.places.items c.loop-place.invariant.0 c.take_received.ensures.items,
   c.take_received.ensures.asked,
-  (let less = c.take_received.ensures.len in let old = c.loop-place.invariant.2 in omega (arith, less, old)),
-  c.take_received.ensures.capacity ∙ c.loop-place.invariant.3,
+  (let more = c.take_received.ensures.room in let old = c.loop-place.invariant.2 in omega (arith, more, old)),
 )
 
 pub returns-clause-items : goal.returns-clause-items

@@ -1,6 +1,6 @@
 use Rattle.std.proofs.Common.{refl, arith, rules}
 use Rattle.node_tables.specs.declared.span.Span.{Span}
-use Rattle.node_tables.proofs.Segmented.{span_covers, span_reach, step_segment, told_segment}
+use Rattle.node_tables.proofs.Segmented.{span_reach, step_segment, told_segment}
 use Rattle.node_tables.proofs.segments.put.Goals as goal
 
 pub exposure_with-exposure-requires-clause-reach : goal.exposure_with-exposure-requires-clause-reach
@@ -14,9 +14,9 @@ returns g c =
     let span : Span = record { item = c.args.place; low = reach.low; last = reach.last } in
     record {
       told = told_segment items c.args.table.now _ span (record { item = 0; position = 0 }) refl refl refl c.put.ensures.members c.requires.told
-          (record { segment = (x, c.requires.here, c.requires.own); fits = omega arith; reach = span_reach items c.args.place x c.requires.here c.denials_are_within_reach.ensures reach c.requires.reach; covers = span_covers items c.args.place x c.requires.here c.answers_are_within_reach.ensures reach c.requires.reach })
+          (record { segment = (x, c.requires.here, c.requires.own); fits = omega arith; reach = span_reach items c.args.place x c.requires.here c.denials_are_within_reach.ensures reach c.requires.reach })
           c.exposure_with-exposure.ensures;
-      step = step_segment items c.args.table.now _ span (record { item = 0; position = 0 }) refl refl refl c.put.ensures.members c.args.place refl refl;
+      step = step_segment items c.args.table.now _ span (record { item = 0; position = 0 }) refl refl refl c.put.ensures.members c.args.place refl refl refl;
       room = search rules;
       counts = search rules;
     }

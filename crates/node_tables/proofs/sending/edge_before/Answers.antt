@@ -1,11 +1,14 @@
-use Rattle.std.proofs.Common.{ℕ, rules}
+use Rattle.std.proofs.Common.{ℕ, length}
 use Rattle.std.specs.Prelude.{Bool, slice_get}
-use Rattle.std.proofs.lemmas.List.Sorted.{IsPartitionPoint-from_clause}
 use Rattle.node_tables.specs.within.Sendings.{is_before}
+use Rattle.node_tables.proofs.Edges.{edge_found, edge_inside}
 use Rattle.node_tables.proofs.Sendings.{before_parted}
 use Rattle.node_tables.proofs.sending.edge_before.Goals as goal
+
+pub returns-clause-inside : goal.returns-clause-inside
+returns-clause-inside g c = rw c.edge_at.ensures (edge_inside c.search.result (length c.args.places.now.items) c.search.ensures.bound)
 
 pub returns-clause-edge : goal.returns-clause-edge
 returns-clause-edge g c =
     let test : ℕ → Bool = λ i. is_before c.args.sending.now (slice_get c.args.items.now i) in
-    IsPartitionPoint-from_clause test c.args.places.now c.partition_point.result c.partition_point.ensures.partitioned (before_parted c.args.items.now c.args.places.now c.requires c.args.sending.now) (λ a r f k. search rules)
+    rw c.edge_at.ensures (edge_found test c.args.places.now.items (before_parted c.args.items.now c.args.places.now.items c.requires c.args.sending.now) c.search.result c.search.ensures.bound c.search.ensures.position)

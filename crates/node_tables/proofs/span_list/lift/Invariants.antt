@@ -1,4 +1,4 @@
-use Rattle.std.proofs.Common.{◌≡◌, ℕ, ◌<◌, ◌≤◌, get_or, length}
+use Rattle.std.proofs.Common.{ℕ, ◌<◌, ◌≤◌, get_or}
 use Rattle.node_tables.specs.within.Spanning.{AreToppedUpTo}
 use Rattle.node_tables.proofs.span_list.lift.Given as goal
 

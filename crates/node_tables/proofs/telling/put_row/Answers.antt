@@ -23,7 +23,7 @@ returns-clause-told g c =
     let t = c.args.table.now in
     let is = sym c.said_at.ensures ∙ ap (option_map shown) c.in-Some.is in
     told_more c.args.items.now c.args.row t c.requires.told a is (c.requires.own a is) c.in-Err.place c.in-Err.ensures.bound c.in-Err.ensures.position
-    (record { node = t.node; rows = c.insert.new.self; receipts = t.receipts; spans = t.spans; unanswered = t.unanswered; exposure = c.exposure_with-exposure.result; promised = t.promised; bodies = t.bodies })
+    (record { node = t.node; rows = c.insert.new.self; receipts = t.receipts; spans = t.spans; unanswered = t.unanswered; hashes = t.hashes; exposure = c.exposure_with-exposure.result; promised = t.promised; bodies = t.bodies })
     refl c.insert.ensures.items refl refl c.exposure_with-exposure.ensures
 
 pub returns-clause-step : goal.returns-clause-step
@@ -32,8 +32,8 @@ returns-clause-step g c =
     let t = c.args.table.now in
     let is = sym c.said_at.ensures ∙ ap (option_map shown) c.in-Some.is in
     step_more c.args.items.now c.args.row t c.requires.told a is (c.requires.own a is) c.in-Err.place c.in-Err.ensures.bound c.in-Err.ensures.position
-    (record { node = t.node; rows = c.insert.new.self; receipts = t.receipts; spans = t.spans; unanswered = t.unanswered; exposure = c.exposure_with-exposure.result; promised = t.promised; bodies = t.bodies })
-    refl c.insert.ensures.items refl refl c.insert.ensures.room refl
+    (record { node = t.node; rows = c.insert.new.self; receipts = t.receipts; spans = t.spans; unanswered = t.unanswered; hashes = t.hashes; exposure = c.exposure_with-exposure.result; promised = t.promised; bodies = t.bodies })
+    refl c.insert.ensures.items refl refl c.insert.ensures.room refl refl
 
 pub exposure_with-exposure-requires-clause-quiet : goal.exposure_with-exposure-requires-clause-quiet
 exposure_with-exposure-requires-clause-quiet g c = told_quiet c.args.items.now c.args.table.now c.requires.told

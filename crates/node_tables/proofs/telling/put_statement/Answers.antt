@@ -11,7 +11,7 @@ returns g c =
     let less : c.saturating_sub-table.result ≡ t.promised - 1 = omega arith in
     record {
       told = search rules;
-      step = statement_step c.args.items.now c.args.row t u v _ c.put_row.ensures.step c.put_receipt.ensures.step c.requires.there c.requires.own refl refl refl refl refl;
+      step = statement_step c.args.items.now c.args.row t u v _ c.put_row.ensures.step c.put_receipt.ensures.step c.requires.there c.requires.own refl refl refl refl refl refl;
       back = taken_back c.args.items.now c.args.row t _ c.requires.there c.requires.own (c.put_receipt.ensures.step.node ∙ c.put_row.ensures.step.node) less (c.put_receipt.ensures.counts.bodies ∙ c.put_row.ensures.counts.bodies);
     }
 

@@ -8,5 +8,5 @@ returns-then-place-kept g c = ap (option_map digest_of) (past c.args.kept.now c.
 
 pub returns : goal.returns
 returns g c =
-    ap Some c.digest.ensures
+    ap Some (c.digest_of.ensures ∙ ap digest_of c.item.ensures)
     ∙ ap (option_map digest_of) (at c.args.kept.now c.args.n _ _ c.requires c.if-place-kept.false c.index-kept-place.is).0

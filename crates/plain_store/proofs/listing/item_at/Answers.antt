@@ -9,7 +9,7 @@ pub returns-then-place-kept-clause-kept : goal.returns-then-place-kept-clause-ke
 returns-then-place-kept-clause-kept g c = (past c.args.kept.now c.args.n c.requires c.if-place-kept.true).1
 
 pub returns-clause-item : goal.returns-clause-item
-returns-clause-item g c = (at c.args.kept.now c.args.n c.in_ok-try_clone.field-0 _ c.requires c.if-place-kept.false (c.in_ok-try_clone.ensures ∙ c.checked.ensures ∙ c.index-kept-place.is)).0
+returns-clause-item g c = (at c.args.kept.now c.args.n c.in_ok-try_clone.field-0 _ c.requires c.if-place-kept.false (c.in_ok-try_clone.ensures ∙ c.index-kept-place.is)).0
 
 pub returns-clause-kept : goal.returns-clause-kept
-returns-clause-kept g c = (at c.args.kept.now c.args.n c.in_ok-try_clone.field-0 _ c.requires c.if-place-kept.false (c.in_ok-try_clone.ensures ∙ c.checked.ensures ∙ c.index-kept-place.is)).1
+returns-clause-kept g c = (at c.args.kept.now c.args.n c.in_ok-try_clone.field-0 _ c.requires c.if-place-kept.false (c.in_ok-try_clone.ensures ∙ c.index-kept-place.is)).1

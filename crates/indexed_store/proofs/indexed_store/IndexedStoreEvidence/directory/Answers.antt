@@ -6,4 +6,4 @@ use Rattle.indexed_store.proofs.indexed_store.IndexedStoreEvidence.directory.Goa
 
 pub returns-clause-valid : goal.returns-clause-valid
 returns-clause-valid g c =
-    subst (λ (s : Contents). AreValid s.directory s.items) c.self.view_is (all_valid c.self.inside.directory g.P.Program.means c.self.inside.index.items.items c.self.invariant.indexed.whole)
+    subst (λ (s : Contents). AreValid s.directory s.items) c.self.view_is (all_valid c.self.inside.directory g.P.Program.means c.self.inside.index.items.items c.self.invariant.rest.indexed.whole)

@@ -1,0 +1,42 @@
+-- The entries of a segment as links of the chain of their log.
+use Rattle.std.specs.Prelude.{◌≡◌, ◌≢◌, ◌≤◌, ◌⊎◌, ℕ, true, List, [], ◌∷◌, Option, Some, None, slice_get}
+use Rattle.log_chain.specs.declared.entry.Entry.{Entry}
+use Rattle.log_chain.specs.Chain.{base, entry_hash}
+use Rattle.item_forms.specs.declared.forms.AuditChallenge.{AuditChallenge}
+use Rattle.item_forms.specs.declared.forms.Fields.{Fields}
+use Rattle.item_forms.specs.declared.forms.Fields.TheVariants as form
+use Rattle.item_forms.specs.declared.forms.Statement.{Statement}
+use Rattle.evidence_set.specs.Challenges.{answers_audit}
+use Rattle.kept_evidence.specs.Telling.{IsSegmentOf}
+use Rattle.kept_items.specs.declared.link.Link.{Link}
+
+-- Each entry after the hash prev, as a link.
+abbrev pub links : List ℕ → List Entry → List Link
+links prev [] = []
+links prev (e ∷ es) = record { prev = prev; seq = e.seq; hash = entry_hash prev e } ∷ links (entry_hash prev e) es
+
+-- The entry at a position of a segment.
+abbrev pub link_in : Fields → ℕ → Option Link
+link_in (form.Auth a) k = None
+link_in (form.Segment s) k = slice_get (links s.prev s.entries) k
+link_in (form.Audit c) k = None
+link_in (form.Send m) k = None
+link_in (form.Ack a) k = None
+
+-- Entries of two segments that have one hash are one link, and none of the other has the hash before a log's first entry. It is so
+-- unless two texts of one SHA-256 value were found.
+pub record Agree (x y : Fields) : Type 0 where
+  pub one : (i k : ℕ) (a b : Link) → link_in x i ≡ Some a → link_in y k ≡ Some b → a.hash ≡ b.hash → a ≡ b
+  pub based : (k : ℕ) (b : Link) → link_in y k ≡ Some b → b.hash ≢ base
+
+-- An audit challenge names the hash.
+abbrev pub Names : AuditChallenge → List ℕ → Type 0
+Names c hash = (c.last.hash ≡ hash) ⊎ ((f : Statement) × (c.first ≡ Some f) × (f.hash ≡ hash))
+
+-- ---- a law, which `laws` proves
+
+-- Of a segment that answers an audit challenge an entry that the challenge names is such that each segment of the node that agrees
+-- with this one, and has that entry with as many before it or more, answers the challenge too.
+abbrev pub AnswersAreInherited : Type 0
+AnswersAreInherited = (c : AuditChallenge) (x : Fields) → answers_audit c x ≡ true → (k : ℕ) × (a : Link) × (link_in x k ≡ Some a) × Names c a.hash
+    × ((y : Fields) (i : ℕ) → IsSegmentOf c.node y → Agree x y → link_in y i ≡ Some a → k ≤ i → answers_audit c y ≡ true)

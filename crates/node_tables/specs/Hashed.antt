@@ -1,0 +1,84 @@
+-- What is kept of a node by hashes: the entries of its segments, and the open audit challenges against it.
+use Rattle.std.specs.List.{Contains}
+use Rattle.std.specs.List.Sorted.{IsNonDecreasingBy}
+use Rattle.std.specs.Int.{from_be_bytes, w64}
+use Rattle.std.specs.Prelude.{◌≡◌, ◌≢◌, ◌<◌, ◌≤◌, ◌⊎◌, ℕ, true, false, List, [], ◌∷◌, Option, Some, None, slice_get, slice_index}
+use Rattle.log_chain.specs.Chain.{base}
+use Rattle.item_forms.specs.declared.forms.AuditChallenge.{AuditChallenge}
+use Rattle.item_forms.specs.declared.forms.Fields.TheVariants as form
+use Rattle.evidence_item.specs.Checking.{Checked}
+use Rattle.kept_items.specs.declared.link.Link.{Link}
+use Rattle.kept_items.specs.Links.{Names, link_in}
+use Rattle.node_tables.specs.declared.hashes.Hashes.{Hashes}
+use Rattle.node_tables.specs.declared.mark.Mark.{Mark}
+use Rattle.node_tables.specs.declared.table.Table.{Table}
+use Rattle.node_tables.specs.Places.{AscendBySpelling}
+use Rattle.node_tables.specs.Tables.{IsSegmentAt, shows_at}
+
+-- The first eight bytes of a hash.
+abbrev pub front_of : List ℕ → ℕ
+front_of h = from_be_bytes w64 (slice_index h 0 ∷ slice_index h 1 ∷ slice_index h 2 ∷ slice_index h 3 ∷ slice_index h 4 ∷ slice_index h 5 ∷ slice_index h 6 ∷ slice_index h 7 ∷ [])
+
+-- The marks stand by these.
+abbrev pub DoNotFall : List Mark → Type 0
+DoNotFall marks = IsNonDecreasingBy (λ (m : Mark). m.front) marks
+
+-- The entry at a position of the item at a place.
+abbrev pub link_by : Option Checked → ℕ → Option Link
+link_by None k = None
+link_by (Some c) k = link_in c.item.fields k
+
+abbrev pub link_at : List Checked → ℕ → ℕ → Option Link
+link_at items i k = link_by (slice_get items i) k
+
+-- Position k of the segment of node j at place i came: of that at place n the first p positions did, and of any other all.
+abbrev pub HasCome : List Checked → (j n p i k : ℕ) → Type 0
+HasCome items j n p i k = IsSegmentAt items j i × (i ≡ n → k < p)
+
+-- The mark is that of an entry that came.
+pub record IsHolder (items : List Checked) (j n p : ℕ) (m : Mark) : Type 0 where
+  pub came : HasCome items j n p m.item m.position
+  pub link : Link
+  pub here : link_at items m.item m.position ≡ Some link
+  pub front : m.front ≡ front_of link.hash
+
+-- Some holder has the entry, behind k others or more.
+abbrev pub IsHeldBy : List Checked → List Mark → Link → ℕ → Type 0
+IsHeldBy items holders x k = (m : Mark) × Contains holders m × (link_at items m.item m.position ≡ Some x) × (k ≤ m.position)
+
+-- Of each entry that came a holder has it behind as many others; and entries that came are told apart by their hashes.
+pub record AreHolders (items : List Checked) (j n p : ℕ) (holders : List Mark) : Type 0 where
+  pub order : DoNotFall holders
+  pub each : (m : Mark) → Contains holders m → IsHolder items j n p m
+  pub all : (i k : ℕ) (x : Link) → HasCome items j n p i k → link_at items i k ≡ Some x → IsHeldBy items holders x k
+  pub one : (i k l m : ℕ) (x y : Link) → HasCome items j n p i k → HasCome items j n p l m → link_at items i k ≡ Some x → link_at items l m ≡ Some y → x.hash ≡ y.hash → x ≡ y
+  pub based : (i k : ℕ) (x : Link) → HasCome items j n p i k → link_at items i k ≡ Some x → x.hash ≢ base
+
+-- The item at a place is this audit challenge.
+abbrev pub IsAuditAt : List Checked → ℕ → AuditChallenge → Type 0
+IsAuditAt items i c = (x : Checked) × (slice_get items i ≡ Some x) × (x.item.fields ≡ form.Audit c)
+
+-- One of the marks is that of a hash in the item at place i.
+abbrev pub HasMark : List Mark → ℕ → List ℕ → Type 0
+HasMark marks i h = (m : Mark) × Contains marks m × (m.item ≡ i) × (m.front ≡ front_of h)
+
+-- Entries stand by their hashes, and each open audit challenge by the hashes that it names; none of them is answered by a segment, which
+-- that at place n need not be told of.
+pub record AreHashed (items : List Checked) (j n p : ℕ) (places : List ℕ) (h : Hashes) : Type 0 where
+  pub holders : AreHolders items j n p h.holders.items
+  pub lasts : DoNotFall h.lasts.items
+  pub firsts : DoNotFall h.firsts.items
+  pub marked : (i : ℕ) (c : AuditChallenge) (g : List ℕ) → Contains places i → IsAuditAt items i c → Names c g → HasMark h.lasts.items i g ⊎ HasMark h.firsts.items i g
+  pub quiet : (i m : ℕ) (c : AuditChallenge) → Contains places i → IsAuditAt items i c → IsSegmentAt items j m → m ≢ n → shows_at items c m ≡ false
+
+-- They have the same marks.
+pub record AreSame (g h : Hashes) : Type 0 where
+  pub whole : h.whole ≡ g.whole
+  pub holders : h.holders.items ≡ g.holders.items
+  pub lasts : h.lasts.items ≡ g.lasts.items
+  pub firsts : h.firsts.items ≡ g.firsts.items
+
+-- The open challenges stand by their spellings; and where marks are kept, entries and audit challenges stand by hashes.
+pub record AreAsked (items : List Checked) (n : ℕ) (t : Table) : Type 0 where
+  pub spelled : AscendBySpelling items t.unanswered.items
+  pub hashed : t.hashes.whole ≡ true → AreHashed items t.node n 0 t.unanswered.items t.hashes

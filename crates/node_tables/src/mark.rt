@@ -1,0 +1,172 @@
+//! Marks: where a hash stands. They are kept by the first eight bytes of their hashes, so that a search reads nothing else.
+
+ghost use Rattle.std.specs.Prelude.{◌≡◌, ◌↔◌, ◌⊎◌, ◌+◌, ◌<◌, ◌≤◌, ◌≢◌, ℕ, false, length, slice_index_or, true};
+ghost use Rattle.std.specs.List.{Contains, remove};
+ghost use Rattle.std.specs.List.Sorted.{IsPartitionPoint};
+ghost use Rattle.node_tables.specs.declared.mark.Mark.{Mark as TheMark};
+ghost use Rattle.node_tables.specs.Hashed.{DoNotFall, front_of};
+ghost use Rattle.node_tables.specs.within.Bringing.{side};
+ghost use Rattle.node_tables.specs.within.Marking.{is_under, is_within};
+ghost use Rattle.std.specs.Ordering.{nat_cmp, ordering_then};
+
+use crate::edge::{edge_at, side};
+use log_chain::Hash;
+use std::cmp::Ordering;
+use std::ops::Range;
+use tiered_vec::{Probe, TieredVec};
+
+/// Where a hash stands: at a position of the item at a place.
+#[derive(Clone, Copy, Debug, Drop)]
+pub struct Mark {
+    /// The first eight bytes of the hash.
+    pub front: u64,
+    /// The place of the item.
+    pub item: u32,
+    /// The position in it.
+    pub position: u32,
+}
+
+/// The first eight bytes of a hash.
+pub(crate) fn front_of(hash: Hash) -> u64
+    ensures { result ≡ front_of hash }
+{
+    let h = hash.0;
+    u64::from_be_bytes([h[0], h[1], h[2], h[3], h[4], h[5], h[6], h[7]])
+}
+
+fn is_under(mark: &Mark, front: u64) -> bool
+    ensures { result ≡ is_under front mark.now }
+{
+    mark.front < front
+}
+
+fn is_within(mark: &Mark, front: u64) -> bool
+    ensures { result ≡ is_within front mark.now }
+{
+    mark.front <= front
+}
+
+/// Looks for the edge of those whose fronts are below this one.
+#[derive(Clone, Copy)]
+struct Under {
+    front: u64,
+}
+
+impl Probe<Mark> for Under {
+    ghost order = { λ s m. side (is_under s.front m) };
+
+    fn compare(&self, mark: &Mark) -> Ordering {
+        side(is_under(mark, self.front))
+    }
+}
+
+/// Looks for the edge of those whose fronts are not above this one.
+#[derive(Clone, Copy)]
+struct Within {
+    front: u64,
+}
+
+impl Probe<Mark> for Within {
+    ghost order = { λ s m. side (is_within s.front m) };
+
+    fn compare(&self, mark: &Mark) -> Ordering {
+        side(is_within(mark, self.front))
+    }
+}
+
+/// The place of the first whose front is not below this one.
+fn first_from(marks: &TieredVec<Mark>, front: u64) -> usize
+    requires { DoNotFall marks.now.items }
+    ensures inside { result ≤ length marks.now.items }
+    ensures edge { IsPartitionPoint (λ m. is_under front m ≡ true) (λ m. is_under front m ≡ false) marks.now.items result }
+{
+    edge_at(marks.search(&Under { front }))
+}
+
+/// The place behind those whose fronts are not above this one.
+fn behind(marks: &TieredVec<Mark>, front: u64) -> usize
+    requires { DoNotFall marks.now.items }
+    ensures inside { result ≤ length marks.now.items }
+    ensures edge { IsPartitionPoint (λ m. is_within front m ≡ true) (λ m. is_within front m ≡ false) marks.now.items result }
+{
+    edge_at(marks.search(&Within { front }))
+}
+
+/// Where those of the front stand, of whom there is seldom more than one hash.
+pub(crate) fn near(marks: &TieredVec<Mark>, front: u64) -> Range<usize>
+    requires { DoNotFall marks.now.items }
+    ensures inside { result.end ≤ length marks.now.items }
+    ensures around { (k : ℕ) (d : TheMark) → k < length marks.now.items → (slice_index_or marks.now.items k d).front ≡ front → (result.start ≤ k) × (k < result.end) }
+{
+    let start = first_from(marks, front);
+    let end = behind(marks, front);
+    start..end
+}
+
+/// Puts one behind those of its front. There is room for it.
+pub(crate) fn put(marks: &mut TieredVec<Mark>, mark: Mark)
+    requires order { DoNotFall marks.old.items }
+    requires room { 1 ≤ marks.old.room }
+    ensures order { DoNotFall marks.new.items }
+    ensures members { (m : TheMark) → Contains marks.new.items m ↔ (Contains marks.old.items m ⊎ (m ≡ mark)) }
+{
+    let place = behind(marks, mark.front);
+    marks.insert(place, mark);
+}
+
+/// Takes away the one at a place.
+pub(crate) fn take_away(marks: &mut TieredVec<Mark>, place: usize)
+    requires order { DoNotFall marks.old.items }
+    requires inside { place < length marks.old.items }
+    ensures items { marks.new.items ≡ remove marks.old.items place }
+    ensures order { DoNotFall marks.new.items }
+    ensures fewer { (m : TheMark) → Contains marks.new.items m → Contains marks.old.items m }
+    ensures others { (m d : TheMark) → Contains marks.old.items m → Contains marks.new.items m ⊎ (m ≡ slice_index_or marks.old.items place d) }
+    ensures room { marks.new.room ≡ marks.old.room + 1 }
+{
+    marks.remove(place);
+}
+
+/// Looks for the mark of an item among those of a front, where they stand by their items.
+#[derive(Clone, Copy)]
+struct Of {
+    front: u64,
+    item: u32,
+}
+
+impl Probe<Mark> for Of {
+    ghost order = { λ s m. ordering_then (nat_cmp m.front s.front) (nat_cmp m.item s.item) };
+
+    fn compare(&self, mark: &Mark) -> Ordering {
+        mark.front
+            .cmp(&self.front)
+            .then_with(|| mark.item.cmp(&self.item))
+    }
+}
+
+/// Takes away the mark of an item among those of a front. It is looked up by binary search.
+pub(crate) fn unmark(marks: &mut TieredVec<Mark>, front: u64, item: u32)
+    requires { DoNotFall marks.old.items }
+    ensures order { DoNotFall marks.new.items }
+    ensures fewer { (m : TheMark) → Contains marks.new.items m → Contains marks.old.items m }
+    ensures others { (m : TheMark) → Contains marks.old.items m → m.item ≢ item → Contains marks.new.items m }
+{
+    let Ok(place) = marks.search(&Of { front, item }) else {
+        return;
+    };
+    take_away(marks, place);
+}
+
+/// Puts one behind those of its front, and tells whether there was memory for it.
+pub(crate) fn put_where_room(marks: &mut TieredVec<Mark>, mark: Mark) -> bool
+    requires { DoNotFall marks.old.items }
+    ensures order { DoNotFall marks.new.items }
+    ensures still { (m : TheMark) → Contains marks.old.items m → Contains marks.new.items m }
+    ensures members { result ≡ true → (m : TheMark) → Contains marks.new.items m ↔ (Contains marks.old.items m ⊎ (m ≡ mark)) }
+{
+    let Ok(()) = marks.reserve(1) else {
+        return false;
+    };
+    put(marks, mark);
+    true
+}
