@@ -5,7 +5,7 @@ use Rattle.std.proofs.lemmas.List.{append-nil, append_cancel_left, map-append, t
 use Rattle.evidence_set.specs.declared.indication.Indication.{Indication}
 use Rattle.evidence_set.specs.declared.indication.Indication.TheVariants.{Trusted, Suspected, Exposed}
 use Rattle.localities.specs.Combining.{worst}
-use Rattle.commands.specs.Output.{ending_of, line_of}
+use Rattle.status_lines.specs.Reports.{ending_of, line_of}
 use Rattle.status_lines.specs.Lines.{lines_of, worst_each}
 
 -- ---- places

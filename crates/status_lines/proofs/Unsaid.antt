@@ -4,7 +4,7 @@ use Rattle.std.specs.Prelude.{MatchOption, Option, Some, None, nat_eq}
 use Rattle.std.specs.Cmp.Lexicographic.{other_text, pointwise, same_text}
 use Rattle.std.proofs.lemmas.List.{append-nil}
 use Rattle.evidence_set.specs.declared.indication.Indication.{Indication}
-use Rattle.commands.specs.Output.{line_of}
+use Rattle.status_lines.specs.Reports.{line_of}
 use Rattle.status_lines.specs.Lines.{lines_of}
 use Rattle.status_lines.proofs.Sayings.{left}
 

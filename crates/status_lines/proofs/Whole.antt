@@ -12,7 +12,7 @@ use Rattle.evidence_set.specs.ItemSets.{Items}
 use Rattle.evidence.specs.Contents.{Contents}
 use Rattle.localities.specs.Combining.{worst, worst_of}
 use Rattle.localities.specs.Ranges.{Key, RangesCombine, range_part}
-use Rattle.commands.specs.Output.{IsReport}
+use Rattle.status_lines.specs.Reports.{IsReport}
 use Rattle.status_lines.specs.Combining.{AreTold, WorstIsTold, worst_told}
 use Rattle.status_lines.specs.Lines.{AreNodes, lines_of, worst_each}
 

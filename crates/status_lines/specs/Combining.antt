@@ -8,7 +8,7 @@ use Rattle.evidence_set.specs.Indications.{IsIndication}
 use Rattle.evidence_set.specs.ItemSets.{Items}
 use Rattle.evidence.specs.Contents.{Contents}
 use Rattle.localities.specs.Ranges.{Key, range_part}
-use Rattle.commands.specs.Output.{IsReport}
+use Rattle.status_lines.specs.Reports.{IsReport}
 use Rattle.status_lines.specs.Lines.{AreNodes, lines_of, worst_each}
 
 -- The worst that so many parts say of each of the nodes.

@@ -6,7 +6,7 @@ use Rattle.authenticators.specs.Directory.{Listing, keys_at}
 use Rattle.evidence_set.specs.declared.indication.Indication.{Indication}
 use Rattle.evidence_set.specs.declared.indication.Indication.TheVariants.{Trusted, Suspected, Exposed}
 use Rattle.localities.specs.Combining.{worst}
-use Rattle.commands.specs.Output.{line_of}
+use Rattle.status_lines.specs.Reports.{line_of}
 
 -- The nodes of the directory, ascending.
 pub record AreNodes (ds : Listing) (nodes : List ℕ) : Type 0 where

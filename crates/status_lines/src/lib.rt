@@ -3,7 +3,7 @@
 //! - [`nodes_of`] lists the nodes of a directory, ascending.
 //! - [`read_each`] reads what a text of lines says of each of them.
 //! - [`none_worse`] and [`worst_each`] take the worst of several such texts.
-//! - [`lines_of`] writes the lines of the nodes.
+//! - [`line_of`] writes the line of a node, [`lines_of`] those of several.
 //!
 //! Where evidence is dealt to parts by ranges of numbers, what all of it says of a node is the worst that a part says (`localities`,
 //! `ranges_combine`); [`laws`] has that of these lines.
@@ -18,4 +18,4 @@ mod writing;
 pub use listing::nodes_of;
 pub use reading::read_each;
 pub use worst::{is_anybody_exposed, none_worse, worst_each};
-pub use writing::lines_of;
+pub use writing::{line_of, lines_of};

@@ -1,7 +1,7 @@
 //! Lines, as they are read.
 
 ghost use Rattle.std.specs.Prelude.{◌≡◌, ◌++◌, IfOk, List, MatchOption, length, ℕ};
-ghost use Rattle.commands.specs.Output.{line_of};
+ghost use Rattle.status_lines.specs.Reports.{line_of};
 ghost use Rattle.evidence_set.specs.declared.indication.Indication.{Indication};
 ghost use Rattle.status_lines.specs.Lines.{lines_of};
 

@@ -1,18 +1,14 @@
 //! Lines, as they are written.
 
 ghost use Rattle.std.specs.Prelude.{◌≡◌, ◌++◌, IfOk, OnOk, length, string_bytes};
-ghost use Rattle.commands.specs.Output.{line_of};
+ghost use Rattle.status_lines.specs.Reports.{line_of};
 ghost use Rattle.status_lines.specs.Lines.{lines_of};
 
 use evidence_set::Indication;
 use std::alloc::{AllocError, Global};
 
-/// A node's line.
-pub(crate) fn line_of(
-    alloc: Global,
-    node: u32,
-    indication: Indication,
-) -> Result<String, AllocError>
+/// A node's line: its number, a blank, the word for the indication, and a line feed. It is refused memory alone.
+pub fn line_of(alloc: Global, node: u32, indication: Indication) -> Result<String, AllocError>
     ensures { IfOk result (λ s. string_bytes s ≡ line_of (node, indication)) }
 {
     match indication {
