@@ -25,6 +25,12 @@ comma false = codes ","
 abbrev pub standing_object : ℕ × Indication → List ℕ
 standing_object row = codes "{\"node\":" ++ decimal row.0 ++ codes ",\"indication\":\"" ++ name_of row.1 ++ codes "\"}"
 
+-- What is said of each of these nodes, behind the name of the program and the SHA-256 value of the directory's text, under which it is said.
+abbrev pub standings_json : List ℕ → List ℕ → List (ℕ × Indication) → List ℕ
+standings_json program directory rows =
+    codes "{\"program\":\"" ++ program ++ codes "\",\"directory\":\"" ++ encode_lower (sha256 directory)
+    ++ codes "\",\"nodes\":[" ++ join_by standing_object (codes ",") rows ++ codes "]}\n"
+
 -- ---- whom a proof convicts
 
 -- Its number; then the name of the program, and the SHA-256 value of the directory's text, under which it is convicted.

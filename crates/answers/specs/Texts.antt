@@ -1,11 +1,11 @@
 -- How answers are written, each as a function of the answer and of for whom it is written.
-use Rattle.std.specs.Prelude.{ℕ, ◌≡◌, List, ◌++◌, codes}
-use Rattle.std.specs.List.{flat_map, join_by}
+use Rattle.std.specs.Prelude.{ℕ, ◌≡◌, List}
+use Rattle.std.specs.List.{flat_map}
 use Rattle.evidence_set.specs.declared.indication.Indication.{Indication}
 use Rattle.answers.specs.declared.style.Style.{Style}
 use Rattle.answers.specs.declared.style.Style.TheVariants as style
 use Rattle.answers.specs.declared.showing.Shown.{Shown}
-use Rattle.answers.specs.Json.{conviction_json, shown_json, standing_object}
+use Rattle.answers.specs.Json.{conviction_json, shown_json, standing_object, standings_json}
 use Rattle.answers.specs.Lines.{conviction_lines, shown_lines, standing_line}
 
 -- What a text is, and what is in it.
@@ -18,10 +18,10 @@ abbrev pub standing_text : Style → ℕ × Indication → List ℕ
 standing_text style.Lines row = standing_line row
 standing_text style.Json row = standing_object row
 
--- What is said of each of these nodes.
-abbrev pub standings_text : Style → List (ℕ × Indication) → List ℕ
-standings_text style.Lines rows = flat_map standing_line rows
-standings_text style.Json rows = codes "{\"nodes\":[" ++ join_by standing_object (codes ",") rows ++ codes "]}\n"
+-- What is said of each of these nodes, under the program of a name and the directory of a text. Lines do not tell the two.
+abbrev pub standings_text : Style → List ℕ → List ℕ → List (ℕ × Indication) → List ℕ
+standings_text style.Lines program directory rows = flat_map standing_line rows
+standings_text style.Json program directory rows = standings_json program directory rows
 
 -- Whom a proof convicts, under the program of a name and the directory of a text.
 abbrev pub conviction_text : Style → ℕ → List ℕ → List ℕ → List ℕ

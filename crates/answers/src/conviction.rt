@@ -1,15 +1,13 @@
 //! Whom a proof convicts, and by what that was found.
 
 ghost use Rattle.std.specs.Prelude.{◌≡◌, IfOk, decimal, string_bytes};
-ghost use Rattle.hex.specs.Hex.{encode_lower};
-ghost use Rattle.sha2.specs.Sha256.{sha256};
 ghost use Rattle.answers.specs.Json.{conviction_json, conviction_members};
 ghost use Rattle.answers.specs.Lines.{conviction_lines};
 ghost use Rattle.answers.specs.Texts.{conviction_text};
 
 use crate::style::Style;
+use crate::writing::sum_of;
 use authenticators::NodeId;
-use sha2::{Digest, Sha256};
 use std::alloc::{AllocError, Global};
 
 /// A number in decimal digits.
@@ -17,17 +15,6 @@ fn decimal_of(alloc: Global, number: u64) -> Result<String, AllocError>
     ensures { IfOk result (λ word. string_bytes word ≡ decimal number) }
 {
     format!(in alloc; "{number}")
-}
-
-/// The SHA-256 value of the bytes, in digits.
-fn sum_of(bytes: &[u8]) -> [u8; 64]
-    ensures { result ≡ encode_lower (sha256 bytes.now) }
-{
-    let mut sum = [0u8; 64];
-    let Ok(()) = hex::encode_to_slice(Sha256::digest(bytes), &mut sum) else {
-        unreachable!();
-    };
-    sum
 }
 
 fn lines_of(

@@ -3,12 +3,12 @@
 ghost use Rattle.std.specs.Prelude.{◌≡◌, ◌++◌, IfOk, OnOk, codes};
 ghost use Rattle.std.specs.List.{flat_map, join_by};
 ghost use Rattle.evidence_set.specs.Names.{name_of};
-ghost use Rattle.answers.specs.Json.{comma, standing_object};
+ghost use Rattle.answers.specs.Json.{comma, standing_object, standings_json};
 ghost use Rattle.answers.specs.Lines.{standing_line};
 ghost use Rattle.answers.specs.Texts.{standings_text};
 
 use crate::style::Style;
-use crate::writing::put_number;
+use crate::writing::{put_number, sum_of};
 use evidence_set::Indication;
 use std::alloc::{AllocError, Global};
 use std::collections::BTreeMap;
@@ -89,22 +89,47 @@ fn put_objects(
     Ok(())
 }
 
-/// What is said of each node, ascending by their numbers. It is refused memory alone.
+fn lines_of(alloc: Global, standings: &BTreeMap<u32, Indication>) -> Result<Vec<u8>, AllocError>
+    ensures { IfOk result (λ text. text.items ≡ flat_map standing_line standings.now.entries) }
+{
+    let mut text = Vec::new(alloc);
+    put_lines(alloc, &mut text, standings)?;
+    Ok(text)
+}
+
+fn json_of(
+    alloc: Global,
+    program: &[u8],
+    directory: &[u8],
+    standings: &BTreeMap<u32, Indication>,
+) -> Result<Vec<u8>, AllocError>
+    ensures { IfOk result (λ text. text.items ≡ standings_json program.now directory.now standings.now.entries) }
+{
+    let sum = sum_of(directory);
+    let mut text = Vec::new(alloc);
+    text.extend_from_slice(b"{\"program\":\"")?;
+    text.extend_from_slice(program)?;
+    text.extend_from_slice(b"\",\"directory\":\"")?;
+    text.extend_from_slice(&sum)?;
+    text.extend_from_slice(b"\",\"nodes\":[")?;
+    put_objects(alloc, &mut text, standings)?;
+    text.extend_from_slice(b"]}\n")?;
+    Ok(text)
+}
+
+/// What is said of each node, ascending by their numbers, under the program of this name and the directory of this text: JSON tells the
+/// name and the text's SHA-256 value, lines tell neither. The name is to have no character that JSON escapes. It is refused memory alone.
 pub fn standings_text(
     alloc: Global,
     style: Style,
+    program: &[u8],
+    directory: &[u8],
     standings: &BTreeMap<u32, Indication>,
 ) -> Result<Vec<u8>, AllocError>
-    ensures { IfOk result (λ text. text.items ≡ standings_text style standings.now.entries) }
+    ensures { IfOk result (λ text. text.items ≡ standings_text style program.now directory.now standings.now.entries) }
 {
-    let mut text = Vec::new(alloc);
     match style {
-        Style::Lines => put_lines(alloc, &mut text, standings)?,
-        Style::Json => {
-            text.extend_from_slice(b"{\"nodes\":[")?;
-            put_objects(alloc, &mut text, standings)?;
-            text.extend_from_slice(b"]}\n")?;
-        }
+        Style::Lines => lines_of(alloc, standings),
+        Style::Json => json_of(alloc, program, directory, standings),
     }
-    Ok(text)
 }

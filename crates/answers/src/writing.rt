@@ -2,8 +2,21 @@
 
 ghost use Rattle.std.specs.Prelude.{◌≡◌, ◌++◌, OnOk, decimal};
 ghost use Rattle.hex.specs.Hex.{encode_lower};
+ghost use Rattle.sha2.specs.Sha256.{sha256};
 
+use sha2::{Digest, Sha256};
 use std::alloc::{AllocError, Global};
+
+/// The SHA-256 value of the bytes, in digits.
+pub(crate) fn sum_of(bytes: &[u8]) -> [u8; 64]
+    ensures { result ≡ encode_lower (sha256 bytes.now) }
+{
+    let mut sum = [0u8; 64];
+    let Ok(()) = hex::encode_to_slice(Sha256::digest(bytes), &mut sum) else {
+        unreachable!();
+    };
+    sum
+}
 
 /// Writes a number in decimal digits.
 pub(crate) fn put_number(alloc: Global, text: &mut Vec<u8>, number: u64) -> Result<(), AllocError>

@@ -1,25 +1,66 @@
 -- What is written of what was read, for a person to read, and how the engine ends.
-use Rattle.std.specs.Prelude.{ℕ, ◌≡◌, List, Bool, true, Result, Ok, Err}
+use Rattle.std.specs.Prelude.{ℕ, ◌≡◌, ◌⊎◌, ◌++◌, List, drop, length, ltb, if◌then◌else◌, Bool, true, Option, None, Result, Ok, Err}
 use Rattle.authenticators.specs.Directory.{Listing}
+use Rattle.authenticators.specs.DirectoryText.{directory_of}
 use Rattle.replay_verifier.specs.Meaning.{Meaning}
 use Rattle.page_text.specs.Pages.{IsPage}
-use Rattle.evidence.specs.Contents.{Contents}
+use Rattle.proofs.specs.declared.proof.Parts.{Parts}
+use Rattle.proofs.specs.Convicting.{Convicts}
+use Rattle.proofs.specs.ProofTexts.{proof_of}
+use Rattle.evidence_set.specs.Exports.{export_of}
+use Rattle.sentences.specs.declared.basis.Basis.{Basis}
+use Rattle.sentences.specs.declared.site.Input.TheVariants as kind
 use Rattle.commands.specs.declared.fault.Fault.{Fault}
-use Rattle.explaining.specs.Explained.{ExplainsProof, ExplainsStore}
+use Rattle.explaining.specs.Explained.{ExplainsProof, ExplainsStore, IsBasis}
 use Rattle.operating.specs.declared.asking.Ending.{Ending}
 use Rattle.operating.specs.declared.asking.Ending.TheVariants as ending
 use Rattle.operating.specs.declared.scope.Scope.TheVariants as scope
+use Rattle.operating.specs.FileTexts.{Says}
+use Rattle.operating.specs.GatheredFiles.{Collected}
 use Rattle.operating.specs.Questions.{IsEnding}
 
--- Of stores: an explanation of their items, or a page. It ends as `status` does, and is never refused.
-abbrev pub ExplainStores : {S : Type 0} → Bool → Meaning S → Contents → Result (List ℕ × Ending) Fault → Type 0
-ExplainStores is_page program s (Ok told) = ExplainsStore is_page program s told.0 × IsEnding scope.All program s told.1
-ExplainStores is_page program s (Err f) = ⊥
+-- ---- stores
 
--- Of a proof: a text that tells of the node which it convicts, or a page. It is never refused.
-abbrev pub ExplainProof : Bool → ℕ → Result (List ℕ × Ending) Fault → Type 0
-ExplainProof is_page node (Ok told) = ExplainsProof is_page node told.0 × (told.1 ≡ ending.Exposed)
-ExplainProof is_page node (Err f) = ⊥
+-- A text with these bytes in place of its first eight, by which it is known that it is a store's.
+abbrev pub fronted : List ℕ → List ℕ → List ℕ
+fronted front text = if ltb (length text) 8 then text else front ++ drop 8 text
+
+-- Under what stores are judged: the program's name, the directory's text, and the text of their union; or of one store its own, which has the
+-- same items behind eight bytes of its own.
+abbrev pub IsBasisOfStores : List ℕ → Collected → Basis → Type 0
+IsBasisOfStores name c b =
+    IsBasis name c.directory kind.Union (export_of c.contents.items) b
+    ⊎ ((front : List ℕ) × (length front ≡ 8) × IsBasis name c.directory kind.Store (fronted front (export_of c.contents.items)) b)
+
+-- Of stores: an explanation of their items, or a page, under what they are judged. It ends as `status` does, and is never refused.
+abbrev pub ExplainStores : {S : Type 0} → List ℕ → Bool → Meaning S → Collected → Result (List ℕ × Ending) Fault → Type 0
+ExplainStores name is_page program c (Ok told) = ((b : Basis) × IsBasisOfStores name c b × ExplainsStore is_page program b c.contents told.0) × IsEnding scope.All program c.contents told.1
+ExplainStores name is_page program c (Err f) = ⊥
+
+-- ---- a proof
+
+-- The texts of a directory and of a proof, of these parts, which convicts the node.
+pub record ConvictingTexts : Type 0 where
+  pub directory : List ℕ
+  pub proof : List ℕ
+  pub parts : Parts
+  pub node : ℕ
+
+-- File 0 says the directory, and file 1 the proof.
+pub record AreConvictingTexts {S : Type 0} (program : Meaning S) (limit : ℕ) (files : ℕ → Option (List ℕ)) (x : ConvictingTexts) : Type 0 where
+  pub listing : Listing
+  pub first : Says limit None (files 0) x.directory
+  pub directory : directory_of x.directory ≡ Ok listing
+  pub second : Says limit None (files 1) x.proof
+  pub proof : proof_of x.proof ≡ Ok x.parts
+  pub convicts : Convicts listing program x.node x.parts
+
+-- Of a proof: a text that tells of the node which it convicts, and why, or a page, under what it is judged. It is never refused.
+abbrev pub ExplainProof : List ℕ → Bool → ConvictingTexts → Result (List ℕ × Ending) Fault → Type 0
+ExplainProof name is_page x (Ok told) = ((b : Basis) × IsBasis name x.directory kind.Proof x.proof b × ExplainsProof is_page x.node x.parts b told.0) × (told.1 ≡ ending.Exposed)
+ExplainProof name is_page x (Err f) = ⊥
+
+-- ---- a directory
 
 -- Of a directory: a text, or a page. It is never refused.
 abbrev pub ExplainDirectory : Bool → Listing → Result (List ℕ × Ending) Fault → Type 0

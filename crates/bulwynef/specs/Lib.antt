@@ -1,1 +1,5 @@
+pub mod Answered
 pub mod Explained
+pub mod Handed
+pub mod Judged
+pub mod Programs

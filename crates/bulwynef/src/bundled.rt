@@ -1,13 +1,22 @@
 //! Bundles: what `bundle` makes of files, and what `check` says of a file that is one.
 
+ghost use Rattle.std.specs.Prelude.{◌≡◌, ◌≢◌, MatchOption, MatchResult, None, option_copied, unwrap_or};
+ghost use Rattle.bundling.specs.Convicting.{RefusesTexts};
+ghost use Rattle.bulwynef.specs.Judged.{IsNamed, Judged, done_of};
+ghost use Rattle.bulwynef.specs.Programs.{meaning_of, spelling_of};
+ghost use Rattle.bulwynef.specs.declared.programs.ProgramName.{ProgramName};
+
+use crate::ending::Done;
+use crate::handing;
+use crate::handing::Handing;
 use crate::opening::{Begun, NamedFiles, open};
-use crate::programs::{name_of, with_program};
-use crate::running::{output_of, run};
-use crate::unbundled::{Refused, fault_of};
-use crate::words::Request;
+use crate::programs::{ProgramName, with_program};
+use crate::running::{ask, output_of};
+use crate::unbundled::Refused;
+use crate::words::{Query, Request};
 use answers::Style;
 use bundles::{OpenBundle, read};
-use bundling::{MakeFault, TextFault, judge, judge_in_json, make};
+use bundling::{Judgement, TextFault, judge, judge_in_json};
 use commands::device::{CountedReader, Sink};
 use commands::fault::Fault;
 use commands::input::read_input;
@@ -16,7 +25,7 @@ use operating::files::{Limits, MOST_READS};
 use operating::reading::read_said;
 use operating::refusal::{Refusal, TextForm};
 use sha2::{Digest, Sha256};
-use std::alloc::AllocError;
+use std::alloc::{AllocError, Global};
 use std::io::{self, Read};
 use std::sync::Wait;
 use std::thread::Threads;
@@ -55,9 +64,9 @@ fn of_none(fault: Fault) -> Refused {
 }
 
 /// Writes the text, in one write.
-fn written(rt: &HostRuntime, request: &Request, text: &[u8]) -> Result<Ending, Refused> {
+fn written(rt: &HostRuntime, request: &Request, text: &[u8]) -> Result<(), Refused> {
     match output_of(rt, request).write_all(text) {
-        Ok(()) => Ok(Ending::Done),
+        Ok(()) => Ok(()),
         Err(_) => Err(of_none(Fault::WriteFailed)),
     }
 }
@@ -79,47 +88,44 @@ fn own_sentence(rt: &HostRuntime) -> Result<String, AllocError> {
     format!(in rt.alloc(); "# Made by the bulwynef whose file has the SHA-256 value {sum}\n")
 }
 
-fn made(
-    rt: &HostRuntime,
-    name: &str,
-    directory: &[u8],
-    proof: &[u8],
-) -> Result<Vec<u8>, MakeFault> {
-    let (alloc, own) = (rt.alloc(), own_sentence(rt)?);
-    let (spelling, own) = (name.as_bytes(), own.as_bytes());
-    with_program!(name, followed => make(alloc, followed.program, spelling, directory, proof, own))
-}
-
 /// Makes a bundle of a directory and a proof in files, where the proof convicts a node, and writes it.
-pub fn bundle<'a>(rt: &'a HostRuntime, request: &'a Request) -> Result<Ending, Refused> {
-    let (alloc, limits) = (rt.alloc(), limits_of(request));
-    let mut files = NamedFiles::new(rt, &request.paths, None);
-    let directory = read_said(alloc, &mut files, 0, true, limits)?;
-    let proof = read_said(alloc, &mut files, 1, false, limits)?;
-    let text = match made(rt, request.program, &directory, &proof) {
-        Ok(text) => text,
-        Err(MakeFault::BadBundle) => return Err(Refused::Unspelled),
-        Err(MakeFault::Text(TextFault::Memory)) => return Err(of_none(Fault::Memory)),
-        Err(MakeFault::Text(TextFault::Directory(fault))) => {
-            return Err(of_text(0, &directory, Fault::from(fault)));
-        }
-        Err(MakeFault::Text(fault)) => return Err(of_text(1, &proof, fault_of(fault))),
+pub fn bundle<'a>(rt: &'a HostRuntime, request: &'a Request<'a>) -> Result<Ending, Refused> {
+    let Some(name) = request.program else {
+        return Err(Refused::NoProgram);
     };
-    written(rt, request, &text)
+    let Ok(own) = own_sentence(rt) else {
+        return Err(of_none(Fault::Memory));
+    };
+    let given = Handing {
+        name,
+        more: own.as_bytes(),
+    };
+    let mut files = NamedFiles::new(rt, &request.paths, None);
+    let mut output = output_of(rt, request);
+    let ending = handing::run(
+        rt.alloc(),
+        &given,
+        &mut files,
+        limits_of(request),
+        &mut output,
+    )?;
+    Ok(ending)
 }
 
 // ---- judging
 
 /// What is said of a bundle under a directory and the program of this name, in the style that was asked for.
 fn judged(
-    rt: &HostRuntime,
-    request: &Request,
-    name: &str,
+    alloc: Global,
+    style: Style,
+    name: ProgramName,
     directory: &[u8],
     bundle: &OpenBundle,
-) -> Result<Vec<u8>, TextFault> {
-    let (alloc, spelling) = (rt.alloc(), name.as_bytes());
-    match request.style {
+) -> Result<Judgement, TextFault>
+    ensures { MatchResult result (λ said. Judged style (meaning_of name) (spelling_of name) directory.now bundle.now said.text.items said.agrees) (λ f. RefusesTexts (meaning_of name) directory.now bundle.now.proof f) }
+{
+    let spelling = name.word().as_bytes();
+    match style {
         Style::Lines => {
             with_program!(name, followed => judge(alloc, followed.program, spelling, directory, bundle))
         }
@@ -129,41 +135,76 @@ fn judged(
     }
 }
 
-/// The program that was asked for, or else the bundle's.
-fn program_of<'a>(request: &Request<'a>, bundle: &OpenBundle) -> Result<&'a str, Refused> {
-    if request.is_program_named {
-        return Ok(request.program);
+/// The program that was named, or else the bundle's; none where the bundle names one that is not known.
+fn program_of(named: Option<ProgramName>, bundle: &OpenBundle) -> Option<ProgramName>
+    ensures { MatchOption result ((named ≡ None) × ((name : ProgramName) → spelling_of name ≢ bundle.now.program)) (IsNamed named bundle.now.program) }
+{
+    match named {
+        Some(name) => Some(name),
+        None => ProgramName::of(bundle.program),
     }
-    match name_of(bundle.program) {
-        Some(program) => Ok(program),
-        None => Err(Refused::UnknownProgram),
+}
+
+/// What is said of a bundle under the directory that is given, or else under its own.
+fn judged_under(
+    alloc: Global,
+    style: Style,
+    name: ProgramName,
+    given: Option<&[u8]>,
+    bundle: &OpenBundle,
+) -> Result<Judgement, TextFault>
+    ensures { MatchResult result (λ said. Judged style (meaning_of name) (spelling_of name) (unwrap_or (option_copied given.entry) bundle.now.directory) bundle.now said.text.items said.agrees) (λ f. RefusesTexts (meaning_of name) (unwrap_or (option_copied given.entry) bundle.now.directory) bundle.now.proof f) }
+{
+    match given {
+        Some(directory) => judged(alloc, style, name, directory, bundle),
+        None => judged(alloc, style, name, &bundle.directory, bundle),
     }
 }
 
 /// What is said of a bundle under the directory that was given, or else under its own.
 fn judgement_of<'a>(
     rt: &'a HostRuntime,
-    request: &'a Request,
+    request: &'a Request<'a>,
+    style: Style,
     bundle: &OpenBundle,
-) -> Result<Vec<u8>, Refused> {
-    let program = program_of(request, bundle)?;
+) -> Result<Judgement, Refused> {
+    let Some(name) = program_of(request.program, bundle) else {
+        return Err(Refused::UnknownProgram);
+    };
+    let alloc = rt.alloc();
     if request.paths.len() < 2 {
-        return match judged(rt, request, program, &bundle.directory, bundle) {
-            Ok(text) => Ok(text),
+        return match judged_under(alloc, style, name, None, bundle) {
+            Ok(said) => Ok(said),
             Err(fault) => Err(Refused::Inside(fault)),
         };
     }
     let mut files = NamedFiles::new(rt, &request.paths, None);
-    let directory = read_said(rt.alloc(), &mut files, 0, true, limits_of(request))?;
-    match judged(rt, request, program, &directory, bundle) {
-        Ok(text) => Ok(text),
+    let directory = read_said(alloc, &mut files, 0, None, limits_of(request))?;
+    match judged_under(alloc, style, name, Some(&directory), bundle) {
+        Ok(said) => Ok(said),
         Err(TextFault::Directory(fault)) => Err(of_text(0, &directory, Fault::from(fault))),
         Err(fault) => Err(Refused::Inside(fault)),
     }
 }
 
+/// How `check` ends: with 5 where the bundle says otherwise than is found.
+fn done_of(said: &Judgement) -> Done
+    ensures { result ≡ done_of said.now.agrees }
+{
+    if said.agrees {
+        Done::Engine(Ending::Done)
+    } else {
+        Done::Disagreed
+    }
+}
+
 /// Writes what is said of the bundle that a file is.
-fn check_bundle(rt: &HostRuntime, request: &Request, begun: Begun<'_>) -> Result<Ending, Refused> {
+fn check_bundle(
+    rt: &HostRuntime,
+    request: &Request,
+    style: Style,
+    begun: Begun<'_>,
+) -> Result<Done, Refused> {
     let last = request.paths.len().saturating_sub(1);
     let mut reader = CountedReader::new(begun.front.chain(begun.rest));
     let most = limits_of(request).most_bytes;
@@ -175,43 +216,39 @@ fn check_bundle(rt: &HostRuntime, request: &Request, begun: Begun<'_>) -> Result
         Ok(bundle) => bundle,
         Err(fault) => return Err(Refused::Bundle(fault)),
     };
-    let text = judgement_of(rt, request, &bundle)?;
-    written(rt, request, &text)
+    let said = judgement_of(rt, request, style, &bundle)?;
+    written(rt, request, &said.text)?;
+    Ok(done_of(&said))
 }
 
 /// Writes whom the proof convicts that a file is, under the directory in another.
-fn check_proof<H: Threads + Wait + Sync>(
+fn check_proof<H: Threads + Sync>(
     rt: &HostRuntime,
     threads: &H,
     request: &Request,
+    style: Style,
     begun: Option<Begun<'_>>,
-) -> Result<Ending, Refused> {
-    let ending = run(rt, threads, request, begun)?;
-    Ok(ending)
+) -> Result<Done, Refused> {
+    let ending = ask(rt, threads, request, Query::Check(style), begun)?;
+    Ok(Done::Engine(ending))
 }
 
-/// What is told where there is but one file, and that is no bundle.
-fn refusal_of_one(is_read: bool) -> Refused {
-    if is_read {
-        Refused::NoDirectory
-    } else {
-        of_text(0, &[], Fault::ReadFailed)
-    }
-}
-
-/// Whom a proof convicts, in a file of its own or in a bundle, as its first bytes tell.
+/// Whom a proof convicts, in a file of its own or in a bundle, as its first bytes tell. A file that can't be opened is no bundle; of one
+/// that is none a directory and a program must be named.
 pub fn check<H: Threads + Wait + Sync>(
     rt: &HostRuntime,
     threads: &H,
     request: &Request,
-) -> Result<Ending, Refused> {
+    style: Style,
+) -> Result<Done, Refused> {
     let is_one = request.paths.len() < 2;
+    let last = request.paths.len().saturating_sub(1);
     let name = request.paths.last().unwrap_or(&"-");
     let Ok(rest) = open(rt, name) else {
-        return if is_one {
-            Err(refusal_of_one(false))
+        return if is_one || request.program.is_none() {
+            Err(of_text(last, &[], Fault::ReadFailed))
         } else {
-            check_proof(rt, threads, request, None)
+            check_proof(rt, threads, request, style, None)
         };
     };
     let mut front = Vec::new(rt.alloc());
@@ -221,10 +258,13 @@ pub fn check<H: Threads + Wait + Sync>(
         rest,
     };
     if begun.front == FRONT {
-        return check_bundle(rt, request, begun);
+        return check_bundle(rt, request, style, begun);
+    }
+    if !is_read && (is_one || request.program.is_none()) {
+        return Err(of_text(last, &[], Fault::ReadFailed));
     }
     if is_one {
-        return Err(refusal_of_one(is_read));
+        return Err(Refused::NoDirectory);
     }
-    check_proof(rt, threads, request, Some(begun))
+    check_proof(rt, threads, request, style, Some(begun))
 }

@@ -47,15 +47,17 @@ fn output<'a>(alloc: Global) -> Arg<'a> {
         )
 }
 
-/// The program that the nodes run.
-fn program<'a>(alloc: Global) -> Arg<'a> {
+/// The program that the nodes were to follow.
+fn program<'a>(alloc: Global, help: &'a str) -> Arg<'a> {
     Arg::new(alloc, "program")
         .long("program")
         .value_name("NAME")
         .value_parser(NAMES.as_slice())
-        .default_value(NAMES[0])
-        .help("The program that the nodes run")
+        .help(help)
 }
+
+/// The help where a verdict is given.
+const JUDGED_BY: &str = "The program that the nodes were to follow. It must be named";
 
 /// The texts of the options' help name them.
 const _: () = prove!(MOST_WORKERS == 8);
@@ -91,18 +93,21 @@ fn most<'a>(alloc: Global) -> Arg<'a> {
         .help("The most bytes of a file; one that has more is refused")
 }
 
-/// A command that reads a directory.
-fn reading<'a>(
-    alloc: Global,
-    name: &'a str,
+/// What the help says of a command that reads a directory.
+#[derive(Clone, Copy)]
+struct Texts<'a> {
     about: &'a str,
     example: &'a str,
-) -> Result<Command<'a>, AllocError> {
+    program: &'a str,
+}
+
+/// A command that reads a directory.
+fn reading<'a>(alloc: Global, name: &'a str, texts: Texts<'a>) -> Result<Command<'a>, AllocError> {
     Command::new(alloc, name)
-        .about(about)
-        .after_help(example)
+        .about(texts.about)
+        .after_help(texts.example)
         .arg(directory(alloc).required(name != "check"))?
-        .arg(program(alloc))?
+        .arg(program(alloc, texts.program))?
         .arg(most(alloc))
 }
 
@@ -110,9 +115,13 @@ fn status<'a>(alloc: Global) -> Result<Command<'a>, AllocError> {
     reading(
         alloc,
         "status",
-        "Writes what each node is: trusted, suspected or exposed. Ends with 3 where somebody is exposed",
-        "Example: bulwynef status --directory nodes.dir first.store second.store",
+        Texts {
+            about: "Writes what each node is: trusted, suspected or exposed. Ends with 3 where somebody is exposed. Standard error tells the program, and the SHA-256 value of the directory",
+            example: "Example: bulwynef status --program tally --directory nodes.dir first.store second.store",
+            program: JUDGED_BY,
+        },
     )?
+    .override_usage("bulwynef status [OPTIONS] --program <NAME> --directory <FILE> <STORE>...")
     .arg(json(alloc))?
     .arg(part(alloc))?
     .arg(workers(alloc))?
@@ -224,8 +233,11 @@ fn merge<'a>(alloc: Global) -> Result<Command<'a>, AllocError> {
     reading(
         alloc,
         "merge",
-        "Writes one store with the items of all stores",
-        "Example: bulwynef merge --directory nodes.dir --output all.store first.store second.store",
+        Texts {
+            about: "Writes one store with the items of all stores, which is the same under any program",
+            example: "Example: bulwynef merge --directory nodes.dir --output all.store first.store second.store",
+            program: "The program that the nodes were to follow: of no account here",
+        },
     )?
     .arg(workers(alloc))?
     .arg(output(alloc))?
@@ -236,9 +248,15 @@ fn prove<'a>(alloc: Global) -> Result<Command<'a>, AllocError> {
     reading(
         alloc,
         "prove",
-        "Writes a proof that exposes the node. Ends with 4 where there is none",
-        "Example: bulwynef prove --directory nodes.dir 2 --output two.proof all.store",
+        Texts {
+            about: "Writes a proof that exposes the node. Ends with 4 where there is none. Standard error tells the program, and the SHA-256 value of the directory",
+            example: "Example: bulwynef prove --program tally --directory nodes.dir 2 --output two.proof all.store",
+            program: JUDGED_BY,
+        },
     )?
+    .override_usage(
+        "bulwynef prove [OPTIONS] --program <NAME> --directory <FILE> <NODE> <STORE>...",
+    )
     .arg(workers(alloc))?
     .arg(output(alloc))?
     .arg(node(alloc))?
@@ -249,8 +267,11 @@ fn check<'a>(alloc: Global) -> Result<Command<'a>, AllocError> {
     reading(
         alloc,
         "check",
-        "Writes which node a proof exposes, and under which program and directory",
-        "Example: bulwynef check --directory nodes.dir two.proof",
+        Texts {
+            about: "Writes which node a proof exposes, and under which program and directory. Ends with 5 where a bundle says otherwise than is found",
+            example: "Example: bulwynef check --program tally --directory nodes.dir two.proof",
+            program: "The program that the nodes were to follow. It must be named, but for a bundle, which names one",
+        },
     )?
     .arg(json(alloc))?
     .arg(file(
@@ -282,8 +303,11 @@ fn explain<'a>(alloc: Global) -> Result<Command<'a>, AllocError> {
     reading(
         alloc,
         "explain",
-        "Tells a person what stores or a proof say of nodes, and why; or which keys a directory lists, where neither is named. Ends with 3 where somebody is exposed",
-        "Example: bulwynef explain --directory nodes.dir --html all.html first.store second.store",
+        Texts {
+            about: "Tells a person what stores or a proof say of nodes, and why; or which keys a directory lists, where neither is named. Ends with 3 where somebody is exposed",
+            example: "Example: bulwynef explain --program tally --directory nodes.dir --html all.html first.store second.store",
+            program: "The program that the nodes were to follow. It must be named, but where a directory alone is explained",
+        },
     )?
     .arg(workers(alloc))?
     .arg(explained_proof(alloc)?)?
@@ -296,9 +320,13 @@ fn bundle<'a>(alloc: Global) -> Result<Command<'a>, AllocError> {
     reading(
         alloc,
         "bundle",
-        "Writes a bundle: a proof to hand over, in one file with its directory",
-        "Example: bulwynef bundle --directory nodes.dir two.proof --output two.bundle",
+        Texts {
+            about: "Writes a bundle: a proof to hand over, in one file with its directory",
+            example: "Example: bulwynef bundle --program tally --directory nodes.dir two.proof --output two.bundle",
+            program: JUDGED_BY,
+        },
     )?
+    .override_usage("bulwynef bundle [OPTIONS] --program <NAME> --directory <FILE> <PROOF>")
     .arg(output(alloc))?
     .arg(file(alloc, "PROOF", "A proof, as prove writes it"))
 }
@@ -331,7 +359,7 @@ fn play<'a>(alloc: Global) -> Result<Command<'a>, AllocError> {
                     "The folder that is made, once all is written: nodes.dir, witness.0.store and so on",
                 ),
         )?
-        .arg(program(alloc))?
+        .arg(program(alloc, "The program that the nodes run").default_value(NAMES[0]))?
         .arg(workers(alloc))?
         .arg(most(alloc))?
         .arg(file(

@@ -1,24 +1,49 @@
 //! How the program ends.
 
+use crate::placing::is_file;
+use crate::running::output_of;
 use crate::unbundled::{Refused, tell};
 use crate::words::Request;
 use commands::fault::{Fault, RefusalLine};
 use operating::asking::Ending;
 use std::process::ExitCode;
 
+/// How a command ends, where it is not refused.
+#[derive(Clone, Copy, Debug)]
+pub enum Done {
+    /// As its engine does.
+    Engine(Ending),
+    /// A bundle says otherwise than is found.
+    Disagreed,
+}
+
+/// Tells that there is no proof; and that of the file, to which one was to be written, what was there before stays.
+fn tell_no_proof(rt: &HostRuntime, request: &Request) {
+    let none = "no proof: the evidence does not expose the node";
+    match output_of(rt, request).name {
+        Some(name) if is_file(rt, name) => {
+            let _ = eprintln!(rt; "{none}; {name} stays as it was before");
+        }
+        _ => {
+            let _ = eprintln!(rt; "{none}");
+        }
+    }
+}
+
 /// Tells a refusal on standard error, and how the program ends. Where it cannot be written, the exit status alone tells it.
-pub fn ended(rt: &HostRuntime, request: &Request, done: Result<Ending, Refused>) -> ExitCode {
+pub fn ended(rt: &HostRuntime, request: &Request, done: Result<Done, Refused>) -> ExitCode {
     match done {
-        Ok(Ending::Done) => ExitCode::SUCCESS,
-        Ok(Ending::Exposed) => ExitCode::from(3),
-        Ok(Ending::NoProof) => {
-            let _ = eprintln!(rt; "no proof: the evidence does not expose the node");
+        Ok(Done::Engine(Ending::Done)) => ExitCode::SUCCESS,
+        Ok(Done::Engine(Ending::Exposed)) => ExitCode::from(3),
+        Ok(Done::Engine(Ending::NoProof)) => {
+            tell_no_proof(rt, request);
             ExitCode::from(4)
         }
+        Ok(Done::Disagreed) => ExitCode::from(5),
         Err(refused) => {
             tell(rt, request, refused);
             match refused {
-                Refused::NoDirectory => ExitCode::from(2),
+                Refused::NoDirectory | Refused::NoProgram => ExitCode::from(2),
                 _ => ExitCode::FAILURE,
             }
         }

@@ -1,9 +1,12 @@
 //! A folder of new files, which takes its name once all of them are whole.
 
-use crate::writing::{Output, name_beside, write_new};
+use crate::placing::{Place, place_of};
+use crate::writing::{Output, mode_of, name_beside, write_new};
 use operating::asking::Ending;
 use operating::play::Played;
 use operating::refusal::Refusal;
+use std::fs::{DirBuilder, Metadata};
+use std::os::unix::fs::{DirBuilderExt, MetadataExt, chown};
 use std::{fs, io};
 
 /// Writes a new file of this name into the folder.
@@ -22,18 +25,44 @@ fn write_all(rt: &HostRuntime, folder: &str, played: &Played) -> io::Result<()> 
     Ok(())
 }
 
-/// Makes the folder beside the one that is to be, and fills it.
+/// A new folder, into which its owner alone may look.
+fn create_private(rt: &HostRuntime, name: &str) -> io::Result<()> {
+    let mut builder = DirBuilder::new();
+    builder.mode(0o700);
+    builder.create(rt, name)
+}
+
+/// Gives the folder the owner, where that is allowed, and the mode of an empty one whose place it took.
+fn keep(rt: &HostRuntime, name: &str, old: &Metadata) {
+    let _ = chown(rt, name, Some(old.uid()), Some(old.gid()));
+    let _ = fs::set_permissions(rt, name, mode_of(old));
+}
+
+/// Fills the folder beside the one that is to be, which then takes its name.
 fn fill(rt: &HostRuntime, beside: &str, name: &str, played: &Played) -> io::Result<()> {
     write_all(rt, beside, played)?;
-    fs::rename(rt, beside, name)
+    let old = fs::metadata(rt, name);
+    fs::rename(rt, beside, name)?;
+    if let Ok(old) = old {
+        keep(rt, name, &old);
+    }
+    Ok(())
+}
+
+/// The path of the folder of a name, behind all links.
+fn path_of(rt: &HostRuntime, name: &str) -> io::Result<String> {
+    match place_of(rt, name)? {
+        Place::File(path) | Place::Open(path) => Ok(path),
+    }
 }
 
 /// Writes what a scenario left into a new folder, which takes the name once it is whole. Where that fails no new folder is left, and a
 /// folder of the name that has anything in it stays as it was.
 fn write_folder(rt: &HostRuntime, name: &str, played: &Played) -> io::Result<()> {
-    let beside = name_beside(rt, name)?;
-    fs::create_dir(rt, beside.as_str())?;
-    let written = fill(rt, beside.as_str(), name, played);
+    let path = path_of(rt, name)?;
+    let beside = name_beside(rt, path.as_str())?;
+    create_private(rt, beside.as_str())?;
+    let written = fill(rt, beside.as_str(), path.as_str(), played);
     if written.is_err() {
         let _ = fs::remove_dir_all(rt, beside.as_str());
     }

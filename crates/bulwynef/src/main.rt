@@ -12,17 +12,21 @@
 //! - `show` writes what a file is and what is in it.
 //! - `play` makes a folder with what a scenario leaves: a directory, and a store for each witness.
 //!
-//! Each is an engine of the crate `operating`, or of the module [`explaining_files`], which carries its theorem. Here stands what the engines
-//! read and write: files, whose bytes no contract can tell.
+//! A verdict is given under the program that was named ([`programs`]), and without a name none is. Each command is an engine of the crate
+//! `operating`, or of the module [`explaining_files`], which carries its theorem; [`answering`] chooses it. Here stands what the engines read
+//! and write: files, whose bytes no contract can tell.
 #![tactic(auto)]
 
+mod answering;
 mod bundled;
 mod command_line;
 mod ending;
-mod explained;
 mod explaining_files;
 mod folder;
+mod handing;
+mod noting;
 mod opening;
+mod placing;
 mod programs;
 mod progress;
 mod running;
@@ -32,8 +36,7 @@ mod unbundled;
 mod words;
 mod writing;
 
-use ending::ended;
-use operating::asking::Ending;
+use ending::{Done, ended};
 use std::process::ExitCode;
 use std::sync::Wait;
 use std::thread::Threads;
@@ -45,26 +48,19 @@ fn done<H: Threads + Wait + Sync>(
     rt: &HostRuntime,
     threads: &H,
     request: &Request,
-) -> Result<Ending, Refused> {
-    match request.task {
-        Task::Check => bundled::check(rt, threads, request),
-        Task::Bundle => bundled::bundle(rt, request),
-        Task::Status(_)
-        | Task::Merge
-        | Task::Prove(_)
-        | Task::Explain(_)
-        | Task::Split(_)
-        | Task::Combine
-        | Task::Show
-        | Task::Play => {
-            let ending = running::run(rt, threads, request, None)?;
-            Ok(ending)
-        }
-    }
+) -> Result<Done, Refused> {
+    let ending = match request.task {
+        Task::Check(style) => return bundled::check(rt, threads, request, style),
+        Task::Ask(query) => running::ask(rt, threads, request, query, None)?,
+        Task::Bundle => bundled::bundle(rt, request)?,
+        Task::Split(dealing) => running::split(rt, threads, request, dealing)?,
+        Task::Play => running::play(rt, threads, request)?,
+    };
+    Ok(Done::Engine(ending))
 }
 
-/// Ends with 0 where the command was done, 3 where somebody is exposed, 4 where there is no proof, 1 after a refusal, and 2 after clap's
-/// text.
+/// Ends with 0 where the command was done, 3 where somebody is exposed, 4 where there is no proof, 5 where a bundle says otherwise than is
+/// found, 1 after a refusal, and 2 where words are missing or not understood.
 fn main(rt: HostRuntime) -> ExitCode {
     let words = match words::words_of(&rt) {
         Ok(words) => words,

@@ -3,7 +3,7 @@
 ghost use Rattle.std.specs.Prelude.{◌≡◌};
 
 use commands::device::CountedReader;
-use operating::files::{OpenFailed, Opener};
+use operating::files::{MOST_READS, OpenFailed, Opener};
 use std::fs;
 use std::fs::File;
 use std::io::{Chain, Read};
@@ -101,7 +101,7 @@ impl<'a> Opener for NamedFiles<'a> {
     }
 
     fn close(&mut self, reader: CountedReader<Chain<&'a [u8], File>>) {
-        if reader.failures > 0 {
+        if reader.failures > 0 || (reader.ends == 0 && reader.reads >= MOST_READS as u64) {
             self.failures += 1;
         }
     }

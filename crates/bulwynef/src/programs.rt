@@ -1,27 +1,80 @@
-//! The programs that nodes may run, in one table. A user's own is one row more, its name in the list above it, and a crate.
+//! The programs that nodes may run, in one table. A user's own is one row more: a case of [`ProgramName`] and a crate.
 
-use explaining::Followed;
+ghost use Rattle.std.specs.Prelude.{◌≡◌, ◌≢◌, MatchOption};
+ghost use Rattle.bulwynef.specs.Programs.{spelling_of};
+ghost use Rattle.bulwynef.specs.declared.programs.ProgramName.{ProgramName};
 
-/// The names of the programs: that of the first is taken where none is said. Each is of `a` to `z`, `0` to `9` and `_`, as bundles want it.
+/// The name of a program that nodes may run.
+#[derive(Clone, Copy, Debug)]
+pub enum ProgramName {
+    /// Adds up what it is told.
+    Tally,
+    /// Passes on what it gets.
+    Relay,
+    /// Holds mail.
+    Mailbox,
+}
+
+/// How the names are spelled, as the command line tells them.
 pub const NAMES: [&str; 3] = ["tally", "relay", "mailbox"];
 
-/// Does the same with what nodes are to follow, whichever program a name means: each row has a program, its name for people, and its voice.
+impl ProgramName {
+    /// How the name is spelled: of `a` to `z`, `0` to `9` and `_`, as bundles want it.
+    pub fn word(self) -> &'static str
+        ensures { result.now ≡ spelling_of self }
+    {
+        match self {
+            ProgramName::Tally => "tally",
+            ProgramName::Relay => "relay",
+            ProgramName::Mailbox => "mailbox",
+        }
+    }
+
+    /// The name that is spelled so; none where the table has no such name.
+    pub fn of(spelling: &[u8]) -> Option<ProgramName>
+        ensures { MatchOption result ((name : ProgramName) → spelling_of name ≢ spelling.now) (λ name. spelling_of name ≡ spelling.now) }
+    {
+        if spelling == b"tally".as_slice() {
+            return Some(ProgramName::Tally);
+        }
+        if spelling == b"relay".as_slice() {
+            return Some(ProgramName::Relay);
+        }
+        if spelling == b"mailbox".as_slice() {
+            return Some(ProgramName::Mailbox);
+        }
+        None
+    }
+}
+
+/// Does the same with what nodes are to follow, whichever program is named: each row has a name, its program, how people call it, and its
+/// voice. No row stands for another. The functions that use it say so by their contracts, in which a name's meaning is `meaning_of` and its spelling
+/// `spelling_of`.
 macro_rules! with_program {
     ($name:expr, $followed:ident => $done:expr) => {
         match $name {
-            "relay" => {
-                let $followed =
-                    $crate::programs::followed(&ref_programs::Relay, "Relay", &explaining::PlainVoice);
+            $crate::programs::ProgramName::Tally => {
+                let $followed = explaining::Followed {
+                    program: &ref_programs::Tally,
+                    name: "Tally",
+                    voice: &explaining::PlainVoice,
+                };
                 $done
             }
-            "mailbox" => {
-                let $followed =
-                    $crate::programs::followed(&mailbox::Mailbox, "Mailbox", &mailbox_voice::MailVoice);
+            $crate::programs::ProgramName::Relay => {
+                let $followed = explaining::Followed {
+                    program: &ref_programs::Relay,
+                    name: "Relay",
+                    voice: &explaining::PlainVoice,
+                };
                 $done
             }
-            _ => {
-                let $followed =
-                    $crate::programs::followed(&ref_programs::Tally, "Tally", &explaining::PlainVoice);
+            $crate::programs::ProgramName::Mailbox => {
+                let $followed = explaining::Followed {
+                    program: &mailbox::Mailbox,
+                    name: "Mailbox",
+                    voice: &mailbox_voice::MailVoice,
+                };
                 $done
             }
         }
@@ -29,22 +82,3 @@ macro_rules! with_program {
 }
 
 pub(crate) use with_program;
-
-/// What is followed: the program, its name for people, and its voice.
-pub fn followed<'a, P, V>(program: &'a P, name: &'a str, voice: &'a V) -> Followed<'a, P, V> {
-    Followed {
-        program,
-        name,
-        voice,
-    }
-}
-
-/// The name of the list that is spelled so.
-pub fn name_of(spelling: &[u8]) -> Option<&'static str> {
-    for name in NAMES {
-        if name.as_bytes() == spelling {
-            return Some(name);
-        }
-    }
-    None
-}

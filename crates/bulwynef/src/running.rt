@@ -3,52 +3,27 @@
 ghost use Rattle.std.specs.Prelude.{◌≡◌, ◌<◌, ◌≤◌, ◌^◌};
 ghost use Rattle.parallel_checking.specs.declared.limits.TheConstants.{MOST_WORKERS};
 
-use crate::explaining_files::stores::Explaining;
+use crate::answering::{Asking, answered, program_for};
+use crate::noting::Noted;
 use crate::opening::{Begun, NamedFiles};
 use crate::programs::with_program;
 use crate::progress::Progress;
-use crate::words::{Request, Task};
+use crate::splitting::NamedParts;
+use crate::unbundled::Refused;
+use crate::words::{Query, Request};
 use crate::writing::Output;
-use crate::{explained, splitting};
-use explaining::{Followed, Voice};
-use operating::asking::{Ending, Reading};
-use operating::check::Convicting;
+use answers::Style;
+use operating::asking::Ending;
 use operating::files::Limits;
 use operating::refusal::Refusal;
-use operating::status::Reporting;
-use operating::watching::StoreWatcher;
-use operating::{check, combine, merge, play, prove, show, status};
+use operating::split::Splitting;
+use operating::{play, split};
 use parallel_checking::MOST_WORKERS;
-use replay_verifier::Program;
+use shards::Dealing;
 use std::io::{IsTerminal, Stderr};
 use std::sync::Wait;
 use std::thread;
 use std::thread::Threads;
-
-/// A command on files, of the last of which the front may have been read.
-#[derive(Drop)]
-struct Running<'a, H> {
-    rt: &'a HostRuntime,
-    threads: &'a H,
-    request: &'a Request<'a>,
-    begun: Option<Begun<'a>>,
-}
-
-/// Does what was asked for, of stores, a scenario or a proof in a file of its own, of nodes that run the program of the request's name.
-pub fn run<'a, H: Threads + Wait + Sync>(
-    rt: &'a HostRuntime,
-    threads: &'a H,
-    request: &'a Request<'a>,
-    begun: Option<Begun<'a>>,
-) -> Result<Ending, Refusal> {
-    let running = Running {
-        rt,
-        threads,
-        request,
-        begun,
-    };
-    with_program!(request.program, followed => run_with(running, followed))
-}
 
 /// How many workers there are: as many as were asked for, or as there are processors, and never more than [`MOST_WORKERS`].
 fn workers_of<H: Threads>(threads: &H, request: &Request) -> usize
@@ -95,7 +70,7 @@ pub fn output_of<'a>(rt: &'a HostRuntime, request: &Request<'a>) -> Output<'a>
     ensures { result.failures ≡ 0 }
 {
     let name = match request.output {
-        Some("-") => None,
+        Some("-" | "/dev/stdout") => None,
         other => other,
     };
     Output {
@@ -105,8 +80,8 @@ pub fn output_of<'a>(rt: &'a HostRuntime, request: &Request<'a>) -> Output<'a>
     }
 }
 
-/// How many stores there are, behind the directory.
-pub fn stores_of(paths: &[&str]) -> usize
+/// How many files there are behind the first.
+fn others_of(paths: &[&str]) -> usize
     ensures { result < 2 ^ 62 }
 {
     paths.len().saturating_sub(1)
@@ -122,86 +97,116 @@ fn terminal(rt: &HostRuntime) -> Option<Stderr> {
     }
 }
 
-/// Does the task, of nodes that are to follow this.
-fn answered<
-    H: Threads + Wait + Sync,
-    P: Program + Copy + Send + Sync + Drop,
-    V: Voice,
-    F: StoreWatcher,
->(
-    reading: &Reading<'_, H, P>,
-    request: &Request,
-    followed: Followed<'_, P, V>,
-    files: &mut NamedFiles,
-    watcher: &mut F,
-    output: &mut Output,
-) -> Result<Ending, Refusal>
-where
-    P::State: Send,
-    requires workers { (0 < reading.now.limits.workers) × (reading.now.limits.workers ≤ MOST_WORKERS) }
-    requires files { files.old.failures ≡ 0 }
-    requires output { output.old.failures ≡ 0 }
-{
-    let (alloc, limits, style) = (reading.alloc, reading.limits, request.style);
-    let stores = stores_of(&request.paths);
-    match request.task {
-        Task::Status(scope) => {
-            let reporting = Reporting { style, scope };
-            status::run(reading, &reporting, files, stores, watcher, output)
-        }
-        Task::Merge => merge::run(reading, files, stores, watcher, output),
-        Task::Prove(node) => prove::run(reading, node, files, stores, watcher, output),
-        Task::Explain(subject) => {
-            let explaining = Explaining {
-                followed,
-                is_page: request.is_page,
-            };
-            explained::run(reading, subject, &explaining, files, watcher, output)
-        }
-        Task::Check | Task::Bundle => {
-            let name = request.program.as_bytes();
-            let convicting = Convicting { style, name };
-            check::run(alloc, reading.program, &convicting, files, limits, output)
-        }
-        Task::Split(dealing) => splitting::run(output.rt, request, dealing, files, limits),
-        Task::Combine => combine::run(alloc, files, stores, limits, output),
-        Task::Show => show::run(alloc, style, files, limits, output),
-        Task::Play => {
-            let played = play::run(reading.rt, alloc, reading.program, files, limits)?;
-            output.write_folder(&played)
-        }
+/// Whether neither the answer nor what it is written to tells the program and the directory.
+fn is_told_beside(query: &Query) -> bool {
+    match query {
+        Query::Status(_, Style::Lines) | Query::Prove(_) => true,
+        Query::Status(_, Style::Json) | Query::Check(_) | Query::Explain(_, _) => false,
+        Query::Merge | Query::Combine | Query::Show(_) => false,
     }
 }
 
-fn run_with<H: Threads + Wait + Sync, P: Program + Copy + Send + Sync + Drop, V: Voice>(
-    running: Running<'_, H>,
-    followed: Followed<'_, P, V>,
+/// Answers a question to the files that were named, of the last of which the front may have been read, and notes the directory.
+fn noted_answer<'a, H: Threads + Sync>(
+    asking: &Asking<'_, H>,
+    query: Query,
+    rt: &'a HostRuntime,
+    request: &'a Request<'a>,
+    begun: Option<Begun<'a>>,
 ) -> Result<Ending, Refusal>
-where
-    P::State: Send,
+    requires workers { (0 < asking.now.limits.workers) × (asking.now.limits.workers ≤ MOST_WORKERS) }
+    requires files { asking.now.others < 2 ^ 62 }
 {
-    let Running {
-        rt,
-        threads,
-        request,
-        begun,
-    } = running;
-    let alloc = rt.alloc();
-    let reading = Reading {
-        rt: threads,
-        alloc,
-        program: followed.program,
-        limits: limits_of(threads, request),
-    };
     let mut files = NamedFiles::new(rt, &request.paths, begun);
     let mut output = output_of(rt, request);
-    let mut progress = Progress::new(alloc, rt, terminal(rt), &request.paths);
-    answered(
-        &reading,
-        request,
-        followed,
+    let mut progress = Progress::new(rt.alloc(), rt, terminal(rt), &request.paths);
+    answered(asking, query, &mut files, &mut progress, &mut output)
+}
+
+/// The same. Where a verdict is asked for a program must be named.
+fn answer_under<'a, 'n, H: Threads + Sync>(
+    rt: &'a HostRuntime,
+    threads: &'n H,
+    request: &'a Request<'a>,
+    query: Query,
+    begun: Option<Begun<'a>>,
+    noted: &'n Noted,
+) -> Result<Ending, Refused> {
+    let Some(name) = program_for(&query, request.program) else {
+        return Err(Refused::NoProgram);
+    };
+    let asking = Asking {
+        name,
+        others: others_of(&request.paths),
+        threads,
+        alloc: rt.alloc(),
+        limits: limits_of(threads, request),
+        noted,
+    };
+    let ending = noted_answer(&asking, query, rt, request, begun)?;
+    Ok(ending)
+}
+
+/// Answers a question to the files that were named, of the last of which the front may have been read. Under which program and directory is
+/// told beside an answer that does not tell it.
+pub fn ask<'a, H: Threads + Sync>(
+    rt: &'a HostRuntime,
+    threads: &H,
+    request: &'a Request<'a>,
+    query: Query,
+    begun: Option<Begun<'a>>,
+) -> Result<Ending, Refused> {
+    let noted = Noted::new();
+    let is_told = is_told_beside(&query);
+    let ending = answer_under(rt, threads, request, query, begun, &noted)?;
+    if let Some(name) = request.program
+        && is_told
+    {
+        noted.tell(rt, name);
+    }
+    Ok(ending)
+}
+
+/// Writes each part of the items of stores to a file of its own. For extracts the first of the files is the directory.
+pub fn split<'a, H: Threads>(
+    rt: &'a HostRuntime,
+    threads: &H,
+    request: &'a Request<'a>,
+    dealing: Dealing,
+) -> Result<Ending, Refused> {
+    let limits = limits_of(threads, request);
+    let stores = match dealing {
+        Dealing::ByNode(_) | Dealing::ByRange(_) => request.paths.len(),
+        Dealing::Extracts(_) => others_of(&request.paths),
+    };
+    let mut files = NamedFiles::new(rt, &request.paths, None);
+    let mut parts = NamedParts::new(rt, request.output.unwrap_or(""), dealing.parts());
+    let mut lines = Output::standard(rt);
+    let splitting = Splitting { dealing, stores };
+    let ending = split::run(
+        rt.alloc(),
+        &splitting,
         &mut files,
-        &mut progress,
-        &mut output,
-    )
+        limits,
+        &mut parts,
+        &mut lines,
+    )?;
+    Ok(ending)
+}
+
+/// Plays a scenario of nodes that run the program of the request's name, and writes what it leaves into a folder.
+pub fn play<'a, H: Threads + Wait + Sync>(
+    rt: &'a HostRuntime,
+    threads: &H,
+    request: &'a Request<'a>,
+) -> Result<Ending, Refused> {
+    let Some(name) = request.program else {
+        return Err(Refused::NoProgram);
+    };
+    let (alloc, limits) = (rt.alloc(), limits_of(threads, request));
+    let mut files = NamedFiles::new(rt, &request.paths, None);
+    let played =
+        with_program!(name, followed => play::run(threads, alloc, followed.program, &mut files, limits))?;
+    let ending = output_of(rt, request).write_folder(&played)?;
+    Ok(ending)
 }

@@ -1,5 +1,9 @@
 //! Refusals of bundles, and how they are told.
 
+ghost use Rattle.std.specs.Prelude.{◌≡◌};
+ghost use Rattle.bulwynef.specs.Handed.{fault_of};
+ghost use Rattle.bulwynef.specs.declared.unbundled.Refused.TheVariants as refused;
+
 use crate::telling::told_of;
 use crate::words::Request;
 use bundles::BundleFault;
@@ -23,16 +27,22 @@ pub enum Refused {
     Unspelled,
     /// No directory was given, and the file is no bundle.
     NoDirectory,
+    /// No program was named, and a verdict is asked for.
+    NoProgram,
 }
 
 impl From<Refusal> for Refused {
+    ghost from_gives = { λ low r. r ≡ refused.Engine low };
+
     fn from(refusal: Refusal) -> Refused {
         Refused::Engine(refusal)
     }
 }
 
 /// The fault that the commands tell.
-pub fn fault_of(fault: TextFault) -> Fault {
+pub fn fault_of(fault: TextFault) -> Fault
+    ensures { result ≡ fault_of fault }
+{
     match fault {
         TextFault::Directory(fault) => Fault::from(fault),
         TextFault::Spelling(fault) => Fault::from(fault),
@@ -91,7 +101,10 @@ impl<'a> fmt::Display for ToldOfBundle<'a> {
             ),
             Refused::NoDirectory => write!(
                 f,
-                "error: {file} is no bundle: give its directory by --directory"
+                "error: {file} is no bundle: give its directory by --directory, and by --program the program that the nodes were to follow"
+            ),
+            Refused::NoProgram => f.write_str(
+                "error: no verdict without a program: --program NAME says which one the nodes were to follow: tally, relay, mailbox",
             ),
         }
     }

@@ -1,11 +1,10 @@
 //! The words of the command line, read by `clap`.
 
 use crate::command_line::command;
-use crate::programs::NAMES;
+use crate::programs::ProgramName;
 use answers::Style;
 use authenticators::NodeId;
 use clap::error::ErrorKind;
-use clap::parser::ValueSource;
 use clap::{ArgMatches, Error};
 use operating::scope::Scope;
 use shards::{Dealing, Ranges, Shards, Width};
@@ -16,26 +15,35 @@ use std::process::ExitCode;
 /// A command.
 #[derive(Clone, Copy)]
 pub enum Task {
+    /// A question to files.
+    Ask(Query),
+    /// Whom a proof convicts, in a file of its own or in a bundle.
+    Check(Style),
+    /// A proof to hand over, in one file with its directory.
+    Bundle,
+    /// The parts of stores, each as a store.
+    Split(Dealing),
+    /// What a scenario leaves.
+    Play,
+}
+
+/// A question to files, which one text answers; and where it may be in lines or in JSON, in which style.
+#[derive(Clone, Copy)]
+pub enum Query {
     /// What stores say of each of these nodes.
-    Status(Scope),
+    Status(Scope, Style),
     /// The union of stores.
     Merge,
     /// A proof that exposes the node.
     Prove(NodeId),
     /// Whom a proof convicts.
-    Check,
-    /// What evidence says, for a person to read.
-    Explain(Subject),
-    /// A proof to hand over, in one file with its directory.
-    Bundle,
-    /// The parts of stores, each as a store.
-    Split(Dealing),
+    Check(Style),
+    /// What evidence says, for a person to read: a page, or sentences.
+    Explain(Subject, bool),
     /// The worst of what parts say.
     Combine,
     /// What a file is.
-    Show,
-    /// What a scenario leaves.
-    Play,
+    Show(Style),
 }
 
 /// What is explained.
@@ -54,10 +62,8 @@ pub enum Subject {
 pub struct Request<'a> {
     /// The command.
     pub task: Task,
-    /// The name of the program that the nodes run.
-    pub program: &'a str,
-    /// Whether the program was named.
-    pub is_program_named: bool,
+    /// The program that the nodes were to follow, where it was named.
+    pub program: Option<ProgramName>,
     /// How many workers check, if it was said.
     pub workers: Option<u32>,
     /// The most bytes of a file.
@@ -66,10 +72,6 @@ pub struct Request<'a> {
     pub paths: Vec<&'a str>,
     /// The name of the file to which is written; none or `-` for standard output. What the names of files begin with that `split` writes.
     pub output: Option<&'a str>,
-    /// How the answer is written.
-    pub style: Style,
-    /// Whether a page is written.
-    pub is_page: bool,
 }
 
 /// What the words ask for.
@@ -152,21 +154,36 @@ fn dealing_of(options: &ArgMatches<'_>) -> Option<Dealing> {
 /// The command of the name; none where `--part` names no shard, where extracts are asked for by ranges, or where clap has refused the words: a name is unknown, or a number missing.
 fn task_of(name: &str, options: &ArgMatches<'_>) -> Option<Task> {
     match name {
-        "status" => Some(Task::Status(scope_of(options)?)),
+        "check" => Some(Task::Check(style_of(options))),
+        "bundle" => Some(Task::Bundle),
         "split" => Some(Task::Split(dealing_of(options)?)),
-        "combine" => Some(Task::Combine),
-        "merge" => Some(Task::Merge),
+        "play" => Some(Task::Play),
+        _ => Some(Task::Ask(query_of(name, options)?)),
+    }
+}
+
+fn query_of(name: &str, options: &ArgMatches<'_>) -> Option<Query> {
+    match name {
+        "status" => Some(Query::Status(scope_of(options)?, style_of(options))),
+        "merge" => Some(Query::Merge),
         "prove" => match options.get_one::<u32>("NODE") {
-            Some(node) => Some(Task::Prove(NodeId(node))),
+            Some(node) => Some(Query::Prove(NodeId(node))),
             None => None,
         },
-        "check" => Some(Task::Check),
-        "explain" => Some(Task::Explain(subject_of(options))),
-        "bundle" => Some(Task::Bundle),
-        "show" => Some(Task::Show),
-        "play" => Some(Task::Play),
+        "explain" => {
+            let is_page = options.get_str("html").is_some();
+            Some(Query::Explain(subject_of(options), is_page))
+        }
+        "combine" => Some(Query::Combine),
+        "show" => Some(Query::Show(style_of(options))),
         _ => None,
     }
+}
+
+/// The program that was named. Clap takes no word that is no name.
+fn program_of(options: &ArgMatches<'_>) -> Option<ProgramName> {
+    let name = options.get_str("program")?;
+    ProgramName::of(name.as_bytes())
 }
 
 /// What is explained: a proof or stores, where they are named.
@@ -228,16 +245,12 @@ fn parsed<'a>(alloc: Global, words: &'a [String]) -> Result<Option<Request<'a>>,
     let Some(task) = task_of(name, options) else {
         return Ok(None);
     };
-    let page = options.get_str("html");
     Ok(Some(Request {
         task,
-        program: options.get_str("program").unwrap_or(NAMES[0]),
-        is_program_named: options.value_source("program") == Some(ValueSource::CommandLine),
+        program: program_of(options),
         workers: options.get_one::<u32>("workers"),
         most_bytes: options.get_one::<u64>("most").unwrap_or(u64::MAX),
         paths: paths_of(alloc, options)?,
-        output: page.or(options.get_str("output")),
-        style: style_of(options),
-        is_page: page.is_some(),
+        output: options.get_str("html").or(options.get_str("output")),
     }))
 }

@@ -1,5 +1,5 @@
 -- What the calls do to stores and nodes, by the texts that are handed to them.
-use Rattle.std.specs.Prelude.{◌≡◌, ◌⊎◌, ◌↔◌, ◌+◌, ℕ, Bool, false, IsTrue, List, Option, Some, None, Ok, Err, slice_get, nat_eq, length, is_some, if◌then◌else◌}
+use Rattle.std.specs.Prelude.{◌≡◌, ◌⊎◌, ◌↔◌, ◌+◌, ◌==◌, ℕ, Bool, false, true, IsTrue, List, Some, None, Result, Ok, Err, slice_get, nat_eq, if◌then◌else◌}
 use Rattle.std.specs.Map.{lookup}
 use Rattle.outcome.specs.Outcome.{◌>>=◌, Fails, told_as}
 use Rattle.authenticators.specs.Directory.{is_listed}
@@ -30,31 +30,21 @@ use Rattle.transfer.specs.Packs.{pack_magic, pack_text}
 use Rattle.byte_calls.specs.declared.refusal.Refusal.{Refusal}
 use Rattle.byte_calls.specs.declared.refusal.Refusal.TheVariants as refusal
 use Rattle.byte_calls.specs.Checks.{Check}
-use Rattle.byte_calls.specs.Explanations.{TellsOf}
-use Rattle.byte_calls.specs.Nodes.{Replies, RefusesReply, accepted, begun, key_of, known, ticked_by}
+use Rattle.byte_calls.specs.Explanations.{TellsOfAll, TellsOfProof, sum_of}
+use Rattle.byte_calls.specs.Nodes.{AcknowledgesSent, Replies, RefusesReply, accepted, begun, key_text_of, known}
 use Rattle.byte_calls.specs.Refusals.{of_import, of_node}
 use Rattle.byte_calls.specs.Stores.{AreFewer, Takes, opened, valid_item_of}
 use Rattle.byte_calls.specs.Transfers.{packed, shortened}
+use Rattle.bulwynef_c.specs.Programs.{IsNoProgram, IsNumberOf, IsProgram, meaning, program_name}
+use Rattle.bulwynef_c.specs.declared.programs.Followed.{Followed}
 use Rattle.bulwynef_c.specs.declared.object.Object.{Object}
 use Rattle.bulwynef_c.specs.declared.object.Object.TheVariants as object
 
--- ---- programs
+-- ---- explanations
 
--- The number is that of a program, or of none.
-abbrev pub IsProgram : ℕ → Type 0
-IsProgram program = (program ≡ 1) ⊎ (program ≡ 2) ⊎ (program ≡ 3)
-
-abbrev pub IsNoProgram : ℕ → Type 0
-IsNoProgram program = (program ≡ 1 → ⊥) × (program ≡ 2 → ⊥) × (program ≡ 3 → ⊥)
-
--- ---- explanations of proofs
-
--- The text is written of a proof that convicts a node, under the program with this number, and tells of that node.
+-- The text tells whom a proof convicts under the program with this number, whose name it tells, and why.
 abbrev pub Explains : ℕ → List ℕ → List ℕ → List ℕ → Type 0
-Explains program directory proof text =
-    (node : ℕ) × TellsOf node text
-    × (((program ≡ 1) × Check tally directory proof (Ok node)) ⊎ ((program ≡ 2) × Check relay directory proof (Ok node))
-    ⊎ ((program ≡ 3) × Check mailbox directory proof (Ok node)))
+Explains number directory proof text = (p : Followed) × IsNumberOf number p × TellsOfProof (meaning p) (program_name p) directory proof text
 
 -- Why none is written.
 abbrev pub ExplainFails : ℕ → List ℕ → List ℕ → Refusal → Type 0
@@ -62,6 +52,16 @@ ExplainFails program directory proof f =
     (f ≡ refusal.Memory)
     ⊎ ((program ≡ 1) × Check tally directory proof (Err f)) ⊎ ((program ≡ 2) × Check relay directory proof (Err f))
     ⊎ ((program ≡ 3) × Check mailbox directory proof (Err f)) ⊎ (IsNoProgram program × (f ≡ refusal.BadProgram))
+
+-- The text tells what the items of a store say under the program, whose name it tells, as it does the sum that is kept of the directory's text.
+abbrev pub ExplainsAll : List ℕ → (p : Followed) → List ℕ → Contents → Type 0
+ExplainsAll text p sum s = TellsOfAll (meaning p) (program_name p) sum s text
+
+-- ---- keys
+
+-- The public key of a seed, in a room of so many bytes, which is looked at first.
+unfoldable pub key_in : ℕ → ℕ → ℕ → List ℕ → List ℕ → Result (List ℕ) Refusal
+key_in room lms ots id seed = if room == 56 then key_text_of lms ots id seed else Err refusal.WrongLength
 
 -- ---- stores
 
@@ -90,33 +90,33 @@ TakesItem text told s t = (new : Bool) × (told ≡ flag new) × Takes s t text 
 abbrev pub TakeFails : List ℕ → Contents → Refusal → Type 0
 TakeFails text s f = Fails refusal.Memory f (valid_item_of s.directory text)
 
--- An indication's number: 0 trusted, 1 suspected, 2 exposed.
+-- An indication's number: 1 trusted, 2 suspected, 3 exposed. 0 is none.
 abbrev pub number_of : Indication → ℕ
-number_of indication.Trusted = 0
-number_of indication.Suspected = 1
-number_of indication.Exposed = 2
+number_of indication.Trusted = 1
+number_of indication.Suspected = 2
+number_of indication.Exposed = 3
 
--- The number is that of what a store's items say of a node.
+-- The number is that of what a store's items say of a node that is listed.
 abbrev pub Indicates : ℕ → ℕ → {S : Type 0} → Meaning S → Contents → Type 0
-Indicates node n program s = (i : Indication) × (n ≡ number_of i) × IsIndication s.directory program s.items node i
+Indicates node n program s = (is_listed s.directory node ≡ true) × ((i : Indication) × (n ≡ number_of i) × IsIndication s.directory program s.items node i)
 
 -- The text is a proof's that convicts the node.
 abbrev pub ConvictsBy : ℕ → List ℕ → {S : Type 0} → Meaning S → Contents → Type 0
 ConvictsBy node text program s = (c : Case) × (text ≡ proof_text c.parts) × Convicts s.directory program node c.parts
 
--- A store was given the items of another one, and so many are new.
+-- A store was given the items of another one under the same directory, and so many are new.
 abbrev pub Merges : ℕ → Contents → Contents → Contents → Type 0
-Merges new other s t = (count s.items + new ≡ count t.items) × (t ≡ with_items s (Join s.items other.items))
+Merges new other s t = (s.directory ≡ other.directory) × (count s.items + new ≡ count t.items) × (t ≡ with_items s (Join s.items other.items))
 
--- A store of the program with this number, and its contents.
-abbrev pub IsStoreOf : ℕ → Contents → Object → Type 0
-IsStoreOf program s (object.TallyStore t) = (program ≡ 1) × (t ≡ s)
-IsStoreOf program s (object.RelayStore t) = (program ≡ 2) × (t ≡ s)
-IsStoreOf program s (object.MailboxStore t) = (program ≡ 3) × (t ≡ s)
-IsStoreOf program s (object.TallyNode n) = ⊥
-IsStoreOf program s (object.RelayNode n) = ⊥
-IsStoreOf program s (object.MailboxNode n) = ⊥
-IsStoreOf program s (object.Text t) = ⊥
+-- A store of the program with this number, without items, under the directory of a text, whose sum is kept beside it.
+abbrev pub IsStoreOf : ℕ → List ℕ → Object → Type 0
+IsStoreOf program text (object.TallyStore s d) = (program ≡ 1) × (opened text ≡ Ok s) × (d ≡ sum_of text)
+IsStoreOf program text (object.RelayStore s d) = (program ≡ 2) × (opened text ≡ Ok s) × (d ≡ sum_of text)
+IsStoreOf program text (object.MailboxStore s d) = (program ≡ 3) × (opened text ≡ Ok s) × (d ≡ sum_of text)
+IsStoreOf program text (object.TallyNode n) = ⊥
+IsStoreOf program text (object.RelayNode n) = ⊥
+IsStoreOf program text (object.MailboxNode n) = ⊥
+IsStoreOf program text (object.Text t) = ⊥
 
 -- Why none is opened.
 abbrev pub OpenFails : ℕ → List ℕ → Refusal → Type 0
@@ -130,17 +130,17 @@ MergeFails s other f = (f ≡ refusal.Memory) ⊎ ((f ≡ refusal.OtherDirectory
 abbrev pub IndicationFails : ℕ → Contents → Refusal → Type 0
 IndicationFails node s f = (f ≡ refusal.UnknownNode) × (is_listed s.directory node ≡ false)
 
--- Why there is no proof: the node is not listed, or not exposed, or memory ran out.
+-- Why there is no proof: memory ran out; or the node is not listed; or it is listed and not exposed.
 abbrev pub ProofFails : ℕ → {S : Type 0} → Meaning S → Contents → Refusal → Type 0
 ProofFails node program s f =
     (f ≡ refusal.Memory) ⊎ ((f ≡ refusal.UnknownNode) × (is_listed s.directory node ≡ false))
-    ⊎ ((f ≡ refusal.NotExposed) × (IsExposed s.directory program s.items node → ⊥))
+    ⊎ ((f ≡ refusal.NotExposed) × (is_listed s.directory node ≡ true) × (IsExposed s.directory program s.items node → ⊥))
 
--- Why there is no challenge at a place: the node is not listed, there are fewer, or memory ran out.
+-- Why there is no challenge at a place: memory ran out; or the node is not listed; or it is listed and there are fewer.
 abbrev pub ChallengeFails : ℕ → ℕ → Contents → Refusal → Type 0
 ChallengeFails node place s f =
     (f ≡ refusal.Memory) ⊎ ((f ≡ refusal.UnknownNode) × (is_listed s.directory node ≡ false))
-    ⊎ ((f ≡ refusal.OutOfRange) × AreFewer s node place)
+    ⊎ ((f ≡ refusal.OutOfRange) × (is_listed s.directory node ≡ true) × AreFewer s node place)
 
 -- The number tells whether the first store has each item of the second.
 abbrev pub Includes : ℕ → Contents → Contents → Type 0
@@ -150,9 +150,9 @@ Includes told s o = (all : Bool) × (told ≡ flag all) × (IsTrue all ↔ IsWit
 
 -- A node of the program with this number, which begins so.
 abbrev pub IsNodeOf : ℕ → List ℕ → ℕ → ℕ → PrivateKey → Object → Type 0
-IsNodeOf program text id first key (object.TallyStore s) = ⊥
-IsNodeOf program text id first key (object.RelayStore s) = ⊥
-IsNodeOf program text id first key (object.MailboxStore s) = ⊥
+IsNodeOf program text id first key (object.TallyStore s d) = ⊥
+IsNodeOf program text id first key (object.RelayStore s d) = ⊥
+IsNodeOf program text id first key (object.MailboxStore s d) = ⊥
 IsNodeOf program text id first key (object.TallyNode n) = (program ≡ 1) × (begun tally text id first key ≡ Ok n)
 IsNodeOf program text id first key (object.RelayNode n) = (program ≡ 2) × (begun relay text id first key ≡ Ok n)
 IsNodeOf program text id first key (object.MailboxNode n) = (program ≡ 3) × (begun mailbox text id first key ≡ Ok n)
@@ -166,6 +166,10 @@ NodeFails program text id first key f =
 
 abbrev pub CheckpointFails : {S : Type 0} → Meaning S → NodeState S → Refusal → Type 0
 CheckpointFails program n f = Fails refusal.Memory f (told_as of_node (checkpointed program n))
+
+-- The node accepted the acknowledgement of a text: of a message that it sent, as a store takes it.
+abbrev pub Accepts : {S : Type 0} → List ℕ → NodeState S → NodeState S → Type 0
+Accepts text n m = (accepted n text ≡ Ok m) × AcknowledgesSent n text
 
 -- The node signs by the key from now on.
 abbrev pub Rekeys : {S : Type 0} → PrivateKey → NodeState S → NodeState S → Type 0
@@ -183,7 +187,7 @@ WaitFails place n f = (f ≡ refusal.OutOfRange) × (slice_get n.account.unackno
 
 -- The text is that of the message that the node sent with this number.
 abbrev pub Sends : {S : Type 0} → ℕ → List ℕ → NodeState S → Type 0
-Sends seq text n = (m : Message) × (lookup (nat_eq seq) n.account.sent ≡ Some m) × (text ≡ spelling (form.Send m))
+Sends seq text n = (m : Message) × (lookup (nat_eq seq) n.account.sent ≡ Some m) × Fits (form.Send m) × (text ≡ spelling (form.Send m))
 
 abbrev pub SendFails : {S : Type 0} → ℕ → NodeState S → Refusal → Type 0
 SendFails seq n f =
@@ -193,6 +197,10 @@ SendFails seq n f =
 -- The node answered the challenge of a text by the item of this text.
 abbrev pub RepliesBy : List ℕ → List ℕ → List ℕ → {S : Type 0} → Meaning S → NodeState S → NodeState S → Type 0
 RepliesBy challenge entropy text program n m = (item : Fields) × (text ≡ spelling item) × Replies program challenge entropy item n m
+
+-- The node answered the challenge of a text, whatever became of the answer.
+abbrev pub HasReplied : List ℕ → List ℕ → {S : Type 0} → Meaning S → NodeState S → NodeState S → Type 0
+HasReplied challenge entropy program n m = (item : Fields) × Replies program challenge entropy item n m
 
 abbrev pub ReplyFails : List ℕ → List ℕ → {S : Type 0} → Meaning S → NodeState S → Refusal → Type 0
 ReplyFails challenge entropy program n f = (f ≡ refusal.Memory) ⊎ RefusesReply program challenge entropy n f

@@ -10,6 +10,8 @@ use Rattle.evidence.specs.Contents.{Contents}
 use Rattle.byte_calls.specs.declared.refusal.Refusal.{Refusal}
 use Rattle.byte_calls.specs.declared.refusal.Refusal.TheVariants as refusal
 use Rattle.byte_calls.specs.Refusals.{number_of as refusal_number}
+use Rattle.bulwynef_c.specs.declared.programs.Followed.{Followed}
+use Rattle.bulwynef_c.specs.declared.programs.Followed.TheVariants.{Tally, Relay, Mailbox}
 use Rattle.bulwynef_c.specs.declared.object.Object.{Object}
 use Rattle.bulwynef_c.specs.declared.object.Object.TheVariants as object
 
@@ -17,19 +19,29 @@ use Rattle.bulwynef_c.specs.declared.object.Object.TheVariants as object
 
 -- A store, of nodes that follow a program, with a property of the program and of its contents.
 abbrev pub IsStore : ((S : Type 0) → Meaning S → Contents → Type 0) → Object → Type 0
-IsStore P (object.TallyStore s) = P ℕ tally s
-IsStore P (object.RelayStore s) = P ℕ relay s
-IsStore P (object.MailboxStore s) = P Held mailbox s
+IsStore P (object.TallyStore s d) = P ℕ tally s
+IsStore P (object.RelayStore s d) = P ℕ relay s
+IsStore P (object.MailboxStore s d) = P Held mailbox s
 IsStore P (object.TallyNode n) = ⊥
 IsStore P (object.RelayNode n) = ⊥
 IsStore P (object.MailboxNode n) = ⊥
 IsStore P (object.Text t) = ⊥
 
+-- A store, with a property of the program that its nodes follow, of the sum that is kept of its directory's text, and of its contents.
+abbrev pub IsStoreUnder : ((p : Followed) → List ℕ → Contents → Type 0) → Object → Type 0
+IsStoreUnder P (object.TallyStore s d) = P Tally d s
+IsStoreUnder P (object.RelayStore s d) = P Relay d s
+IsStoreUnder P (object.MailboxStore s d) = P Mailbox d s
+IsStoreUnder P (object.TallyNode n) = ⊥
+IsStoreUnder P (object.RelayNode n) = ⊥
+IsStoreUnder P (object.MailboxNode n) = ⊥
+IsStoreUnder P (object.Text t) = ⊥
+
 -- A node that follows a program, with a property of the program and of the node.
 abbrev pub IsNode : ((S : Type 0) → Meaning S → NodeState S → Type 0) → Object → Type 0
-IsNode P (object.TallyStore s) = ⊥
-IsNode P (object.RelayStore s) = ⊥
-IsNode P (object.MailboxStore s) = ⊥
+IsNode P (object.TallyStore s d) = ⊥
+IsNode P (object.RelayStore s d) = ⊥
+IsNode P (object.MailboxStore s d) = ⊥
 IsNode P (object.TallyNode n) = P ℕ tally n
 IsNode P (object.RelayNode n) = P ℕ relay n
 IsNode P (object.MailboxNode n) = P Held mailbox n
@@ -37,66 +49,66 @@ IsNode P (object.Text t) = ⊥
 
 -- A text with a property.
 abbrev pub IsText : (List ℕ → Type 0) → Object → Type 0
-IsText P (object.TallyStore s) = ⊥
-IsText P (object.RelayStore s) = ⊥
-IsText P (object.MailboxStore s) = ⊥
+IsText P (object.TallyStore s d) = ⊥
+IsText P (object.RelayStore s d) = ⊥
+IsText P (object.MailboxStore s d) = ⊥
 IsText P (object.TallyNode n) = ⊥
 IsText P (object.RelayNode n) = ⊥
 IsText P (object.MailboxNode n) = ⊥
 IsText P (object.Text t) = P t.items
 
--- A store, or a node, of Tally.
-abbrev pub IsTallyStore : (Contents → Type 0) → Object → Type 0
-IsTallyStore P (object.TallyStore s) = P s
-IsTallyStore P (object.RelayStore s) = ⊥
-IsTallyStore P (object.MailboxStore s) = ⊥
+-- A store of Tally, with a property of its contents and of the sum of its directory's text; or a node of it.
+abbrev pub IsTallyStore : (Contents → List ℕ → Type 0) → Object → Type 0
+IsTallyStore P (object.TallyStore s d) = P s d
+IsTallyStore P (object.RelayStore s d) = ⊥
+IsTallyStore P (object.MailboxStore s d) = ⊥
 IsTallyStore P (object.TallyNode n) = ⊥
 IsTallyStore P (object.RelayNode n) = ⊥
 IsTallyStore P (object.MailboxNode n) = ⊥
 IsTallyStore P (object.Text t) = ⊥
 
 abbrev pub IsTallyNode : (NodeState ℕ → Type 0) → Object → Type 0
-IsTallyNode P (object.TallyStore s) = ⊥
-IsTallyNode P (object.RelayStore s) = ⊥
-IsTallyNode P (object.MailboxStore s) = ⊥
+IsTallyNode P (object.TallyStore s d) = ⊥
+IsTallyNode P (object.RelayStore s d) = ⊥
+IsTallyNode P (object.MailboxStore s d) = ⊥
 IsTallyNode P (object.TallyNode n) = P n
 IsTallyNode P (object.RelayNode n) = ⊥
 IsTallyNode P (object.MailboxNode n) = ⊥
 IsTallyNode P (object.Text t) = ⊥
 
--- A store, or a node, of Relay.
-abbrev pub IsRelayStore : (Contents → Type 0) → Object → Type 0
-IsRelayStore P (object.TallyStore s) = ⊥
-IsRelayStore P (object.RelayStore s) = P s
-IsRelayStore P (object.MailboxStore s) = ⊥
+-- The same of Relay.
+abbrev pub IsRelayStore : (Contents → List ℕ → Type 0) → Object → Type 0
+IsRelayStore P (object.TallyStore s d) = ⊥
+IsRelayStore P (object.RelayStore s d) = P s d
+IsRelayStore P (object.MailboxStore s d) = ⊥
 IsRelayStore P (object.TallyNode n) = ⊥
 IsRelayStore P (object.RelayNode n) = ⊥
 IsRelayStore P (object.MailboxNode n) = ⊥
 IsRelayStore P (object.Text t) = ⊥
 
 abbrev pub IsRelayNode : (NodeState ℕ → Type 0) → Object → Type 0
-IsRelayNode P (object.TallyStore s) = ⊥
-IsRelayNode P (object.RelayStore s) = ⊥
-IsRelayNode P (object.MailboxStore s) = ⊥
+IsRelayNode P (object.TallyStore s d) = ⊥
+IsRelayNode P (object.RelayStore s d) = ⊥
+IsRelayNode P (object.MailboxStore s d) = ⊥
 IsRelayNode P (object.TallyNode n) = ⊥
 IsRelayNode P (object.RelayNode n) = P n
 IsRelayNode P (object.MailboxNode n) = ⊥
 IsRelayNode P (object.Text t) = ⊥
 
--- A store, or a node, of Mailbox.
-abbrev pub IsMailboxStore : (Contents → Type 0) → Object → Type 0
-IsMailboxStore P (object.TallyStore s) = ⊥
-IsMailboxStore P (object.RelayStore s) = ⊥
-IsMailboxStore P (object.MailboxStore s) = P s
+-- The same of Mailbox.
+abbrev pub IsMailboxStore : (Contents → List ℕ → Type 0) → Object → Type 0
+IsMailboxStore P (object.TallyStore s d) = ⊥
+IsMailboxStore P (object.RelayStore s d) = ⊥
+IsMailboxStore P (object.MailboxStore s d) = P s d
 IsMailboxStore P (object.TallyNode n) = ⊥
 IsMailboxStore P (object.RelayNode n) = ⊥
 IsMailboxStore P (object.MailboxNode n) = ⊥
 IsMailboxStore P (object.Text t) = ⊥
 
 abbrev pub IsMailboxNode : (NodeState Held → Type 0) → Object → Type 0
-IsMailboxNode P (object.TallyStore s) = ⊥
-IsMailboxNode P (object.RelayStore s) = ⊥
-IsMailboxNode P (object.MailboxStore s) = ⊥
+IsMailboxNode P (object.TallyStore s d) = ⊥
+IsMailboxNode P (object.RelayStore s d) = ⊥
+IsMailboxNode P (object.MailboxStore s d) = ⊥
 IsMailboxNode P (object.TallyNode n) = ⊥
 IsMailboxNode P (object.RelayNode n) = ⊥
 IsMailboxNode P (object.MailboxNode n) = P n
@@ -104,11 +116,11 @@ IsMailboxNode P (object.Text t) = ⊥
 
 -- ---- an object before and after
 
--- Both are stores of one program, and their contents stand in the relation.
+-- Both are stores of one program and one text of a directory, and their contents stand in the relation.
 abbrev pub StoreBecomes : (Contents → Contents → Type 0) → Object → Object → Type 0
-StoreBecomes R (object.TallyStore s) y = IsTallyStore (R s) y
-StoreBecomes R (object.RelayStore s) y = IsRelayStore (R s) y
-StoreBecomes R (object.MailboxStore s) y = IsMailboxStore (R s) y
+StoreBecomes R (object.TallyStore s d) y = IsTallyStore (λ t e. (e ≡ d) × R s t) y
+StoreBecomes R (object.RelayStore s d) y = IsRelayStore (λ t e. (e ≡ d) × R s t) y
+StoreBecomes R (object.MailboxStore s d) y = IsMailboxStore (λ t e. (e ≡ d) × R s t) y
 StoreBecomes R (object.TallyNode n) y = ⊥
 StoreBecomes R (object.RelayNode n) y = ⊥
 StoreBecomes R (object.MailboxNode n) y = ⊥
@@ -116,9 +128,9 @@ StoreBecomes R (object.Text t) y = ⊥
 
 -- Both are nodes of one program, and stand in the relation.
 abbrev pub NodeBecomes : ((S : Type 0) → Meaning S → NodeState S → NodeState S → Type 0) → Object → Object → Type 0
-NodeBecomes R (object.TallyStore s) y = ⊥
-NodeBecomes R (object.RelayStore s) y = ⊥
-NodeBecomes R (object.MailboxStore s) y = ⊥
+NodeBecomes R (object.TallyStore s d) y = ⊥
+NodeBecomes R (object.RelayStore s d) y = ⊥
+NodeBecomes R (object.MailboxStore s d) y = ⊥
 NodeBecomes R (object.TallyNode n) y = IsTallyNode (R ℕ tally n) y
 NodeBecomes R (object.RelayNode n) y = IsRelayNode (R ℕ relay n) y
 NodeBecomes R (object.MailboxNode n) y = IsMailboxNode (R Held mailbox n) y
@@ -126,13 +138,19 @@ NodeBecomes R (object.Text t) y = ⊥
 
 -- The first is a store of the second one's program, and their contents stand in the relation.
 abbrev pub StoresStand : (Contents → Contents → Type 0) → Object → Object → Type 0
-StoresStand R x y = StoreBecomes R x y
+StoresStand R (object.TallyStore s d) y = IsTallyStore (λ t e. R s t) y
+StoresStand R (object.RelayStore s d) y = IsRelayStore (λ t e. R s t) y
+StoresStand R (object.MailboxStore s d) y = IsMailboxStore (λ t e. R s t) y
+StoresStand R (object.TallyNode n) y = ⊥
+StoresStand R (object.RelayNode n) y = ⊥
+StoresStand R (object.MailboxNode n) y = ⊥
+StoresStand R (object.Text t) y = ⊥
 
 -- A store is given what another one of its program has.
 abbrev pub StoreTakesOf : (Contents → Contents → Contents → Type 0) → Object → Object → Object → Type 0
-StoreTakesOf R (object.TallyStore o) x y = IsTallyStore (λ s. IsTallyStore (R o s) y) x
-StoreTakesOf R (object.RelayStore o) x y = IsRelayStore (λ s. IsRelayStore (R o s) y) x
-StoreTakesOf R (object.MailboxStore o) x y = IsMailboxStore (λ s. IsMailboxStore (R o s) y) x
+StoreTakesOf R (object.TallyStore o c) x y = IsTallyStore (λ s d. IsTallyStore (λ t e. (e ≡ d) × R o s t) y) x
+StoreTakesOf R (object.RelayStore o c) x y = IsRelayStore (λ s d. IsRelayStore (λ t e. (e ≡ d) × R o s t) y) x
+StoreTakesOf R (object.MailboxStore o c) x y = IsMailboxStore (λ s d. IsMailboxStore (λ t e. (e ≡ d) × R o s t) y) x
 StoreTakesOf R (object.TallyNode n) x y = ⊥
 StoreTakesOf R (object.RelayNode n) x y = ⊥
 StoreTakesOf R (object.MailboxNode n) x y = ⊥
@@ -142,9 +160,9 @@ StoreTakesOf R (object.Text t) x y = ⊥
 
 -- The refusal of a store, or that of what is none.
 abbrev pub StoreRefuses : ((S : Type 0) → Meaning S → Contents → Refusal → Type 0) → Object → Refusal → Type 0
-StoreRefuses P (object.TallyStore s) f = P ℕ tally s f
-StoreRefuses P (object.RelayStore s) f = P ℕ relay s f
-StoreRefuses P (object.MailboxStore s) f = P Held mailbox s f
+StoreRefuses P (object.TallyStore s d) f = P ℕ tally s f
+StoreRefuses P (object.RelayStore s d) f = P ℕ relay s f
+StoreRefuses P (object.MailboxStore s d) f = P Held mailbox s f
 StoreRefuses P (object.TallyNode n) f = f ≡ refusal.OtherKind
 StoreRefuses P (object.RelayNode n) f = f ≡ refusal.OtherKind
 StoreRefuses P (object.MailboxNode n) f = f ≡ refusal.OtherKind
@@ -152,9 +170,9 @@ StoreRefuses P (object.Text t) f = f ≡ refusal.OtherKind
 
 -- The refusal of a node, or that of what is none.
 abbrev pub NodeRefuses : ((S : Type 0) → Meaning S → NodeState S → Refusal → Type 0) → Object → Refusal → Type 0
-NodeRefuses P (object.TallyStore s) f = f ≡ refusal.OtherKind
-NodeRefuses P (object.RelayStore s) f = f ≡ refusal.OtherKind
-NodeRefuses P (object.MailboxStore s) f = f ≡ refusal.OtherKind
+NodeRefuses P (object.TallyStore s d) f = f ≡ refusal.OtherKind
+NodeRefuses P (object.RelayStore s d) f = f ≡ refusal.OtherKind
+NodeRefuses P (object.MailboxStore s d) f = f ≡ refusal.OtherKind
 NodeRefuses P (object.TallyNode n) f = P ℕ tally n f
 NodeRefuses P (object.RelayNode n) f = P ℕ relay n f
 NodeRefuses P (object.MailboxNode n) f = P Held mailbox n f
@@ -166,9 +184,9 @@ PairRefuses P x o f = StoresStand (λ s t. P s t f) x o ⊎ ((f ≡ refusal.Othe
 
 -- Why a text is not copied into a room of this length.
 abbrev pub CopyRefuses : ℕ → Object → Refusal → Type 0
-CopyRefuses room (object.TallyStore s) f = f ≡ refusal.OtherKind
-CopyRefuses room (object.RelayStore s) f = f ≡ refusal.OtherKind
-CopyRefuses room (object.MailboxStore s) f = f ≡ refusal.OtherKind
+CopyRefuses room (object.TallyStore s d) f = f ≡ refusal.OtherKind
+CopyRefuses room (object.RelayStore s d) f = f ≡ refusal.OtherKind
+CopyRefuses room (object.MailboxStore s d) f = f ≡ refusal.OtherKind
 CopyRefuses room (object.TallyNode n) f = f ≡ refusal.OtherKind
 CopyRefuses room (object.RelayNode n) f = f ≡ refusal.OtherKind
 CopyRefuses room (object.MailboxNode n) f = f ≡ refusal.OtherKind
@@ -176,9 +194,9 @@ CopyRefuses room (object.Text t) f = (f ≡ refusal.WrongLength) × (length t.it
 
 -- How many bytes a text has; 0 of what is none.
 abbrev pub Lends : Object → ℕ → Type 0
-Lends (object.TallyStore s) n = n ≡ 0
-Lends (object.RelayStore s) n = n ≡ 0
-Lends (object.MailboxStore s) n = n ≡ 0
+Lends (object.TallyStore s d) n = n ≡ 0
+Lends (object.RelayStore s d) n = n ≡ 0
+Lends (object.MailboxStore s d) n = n ≡ 0
 Lends (object.TallyNode m) n = n ≡ 0
 Lends (object.RelayNode m) n = n ≡ 0
 Lends (object.MailboxNode m) n = n ≡ 0

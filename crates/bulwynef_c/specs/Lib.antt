@@ -3,3 +3,4 @@ pub mod Calls
 pub mod Codes
 pub mod Handles
 pub mod Owned
+pub mod Programs

@@ -14,34 +14,39 @@ use crate::taking::{put, put_answer, taken, told};
 use byte_calls::{Refusal, stores};
 use evidence::Evidence;
 use evidence_set::Indication;
+use replay_verifier::Program;
 use std::alloc::Global;
 
+/// The number of an indication: 1 trusted, 2 suspected, 3 exposed; 0 is none.
 fn number(indication: Indication) -> u8
     ensures { result ≡ number_of indication }
 {
     match indication {
-        Indication::Trusted => 0,
-        Indication::Suspected => 1,
-        Indication::Exposed => 2,
+        Indication::Trusted => 1,
+        Indication::Suspected => 2,
+        Indication::Exposed => 3,
     }
 }
 
-/// The number of an indication: 0 trusted, 1 suspected, 2 exposed.
+/// The number of what a store of one program says of the node.
+fn indicated_in<P: Program, S: Evidence<P>>(store: &S, node: u32) -> Result<u8, Refusal>
+    ensures told { IfOk result (λ n. Indicates node n P.means (S.contents store.now)) }
+    ensures refused { IfErr result (λ f. IndicationFails node (S.contents store.now) f) }
+{
+    let indication = stores::indication(store, node)?;
+    Ok(number(indication))
+}
+
+/// The number of what a store says of the node.
 fn indicated(object: &Object, node: u32) -> Result<u8, Refusal>
     ensures told { IfOk result (λ n. IsStore (λ S p s. Indicates node n p s) object.now) }
     ensures refused { IfErr result (λ f. StoreRefuses (λ S p s e. IndicationFails node s e) object.now f) }
 {
-    let indication = match object {
-        Object::TallyStore(store) => stores::indication(store, node)?,
-        Object::RelayStore(store) => stores::indication(store, node)?,
-        Object::MailboxStore(store) => stores::indication(store, node)?,
-        _ => return Err(Refusal::OtherKind),
-    };
-    Ok(number(indication))
+    of_store!(object, store => indicated_in(store, node))
 }
 
-/// `uint8_t bulwynef_store_indication(struct bulwynef_handle *store, uint32_t node, uint8_t *indication)`: 0 trusted, 1 suspected,
-/// 2 exposed.
+/// `uint8_t bulwynef_store_indication(struct bulwynef_handle *store, uint32_t node, uint8_t *indication)`: 1 trusted, 2 suspected,
+/// 3 exposed.
 #[unsafe(no_mangle)]
 pub extern "C" fn bulwynef_store_indication(
     alloc: Global,
@@ -51,6 +56,7 @@ pub extern "C" fn bulwynef_store_indication(
 ) -> u8
     ensures told { result ≡ 0 → Is (IsStore (λ S p s. Indicates node indication.new p s)) store.old.value }
     ensures number { (result ≡ 0 → ⊥) → Says (StoreRefuses (λ S p s e. IndicationFails node s e)) store.old.value result }
+    ensures unwritten { (result ≡ 0 → ⊥) → indication.new ≡ indication.old }
     ensures unchanged { store.new.value ≡ store.old.value }
 {
     let Some(object) = taken(alloc, store) else {
@@ -73,9 +79,9 @@ fn included(object: &Object, other: &Object) -> Result<bool, Refusal>
     ensures refused { IfErr result (λ f. PairRefuses (λ s o e. ⊥) object.now other.now f) }
 {
     match object {
-        Object::TallyStore(store) => Ok(store.includes(tally_store(other)?)),
-        Object::RelayStore(store) => Ok(store.includes(relay_store(other)?)),
-        Object::MailboxStore(store) => Ok(store.includes(mailbox_store(other)?)),
+        Object::TallyStore(store, _) => Ok(store.includes(tally_store(other)?)),
+        Object::RelayStore(store, _) => Ok(store.includes(relay_store(other)?)),
+        Object::MailboxStore(store, _) => Ok(store.includes(mailbox_store(other)?)),
         _ => Err(Refusal::OtherKind),
     }
 }
@@ -91,6 +97,7 @@ pub extern "C" fn bulwynef_store_includes(
 ) -> u8
     ensures told { result ≡ 0 → Is (λ o. Is (λ x. StoresStand (Includes includes.new) x o) store.old.value) other.old.value }
     ensures number { (result ≡ 0 → ⊥) → SaysOfTwo (PairRefuses (λ s o e. ⊥)) store.old.value other.old.value result }
+    ensures unwritten { (result ≡ 0 → ⊥) → includes.new ≡ includes.old }
     ensures unchanged { store.new.value ≡ store.old.value }
     ensures other { other.new.value ≡ other.old.value }
 {
@@ -144,12 +151,24 @@ fn convicting(text: Option<Vec<u8>>) -> Result<Vec<u8>, Refusal>
     }
 }
 
+/// The text of a proof against the node, of a store of one program.
+fn proof_in<P: Program, S: Evidence<P>>(
+    alloc: Global,
+    store: &S,
+    node: u32,
+) -> Result<Vec<u8>, Refusal>
+    ensures convicts { IfOk result (λ text. ConvictsBy node text.items P.means (S.contents store.now)) }
+    ensures refused { IfErr result (λ f. ProofFails node P.means (S.contents store.now) f) }
+{
+    convicting(stores::proof(alloc, store, node)?)
+}
+
 /// The text of a proof against the node.
 fn proof_of(alloc: Global, object: &Object, node: u32) -> Result<Vec<u8>, Refusal>
     ensures convicts { IfOk result (λ text. IsStore (λ S p s. ConvictsBy node text.items p s) object.now) }
     ensures refused { IfErr result (λ f. StoreRefuses (λ S p s e. ProofFails node p s e) object.now f) }
 {
-    of_store!(object, store => convicting(stores::proof(alloc, store, node)?))
+    of_store!(object, store => proof_in(alloc, store, node))
 }
 
 /// `uint8_t bulwynef_store_proof(struct bulwynef_handle *store, uint32_t node, struct bulwynef_handle *text)`: a proof that convicts the node, where the

@@ -6,7 +6,8 @@ ghost use Rattle.mailbox.specs.MailboxMeaning.{mailbox};
 ghost use Rattle.ref_programs.specs.RelayMeaning.{relay};
 ghost use Rattle.ref_programs.specs.TallyMeaning.{tally};
 
-use byte_calls::{Refusal, check_proof};
+use crate::programs::{Followed, program_of};
+use byte_calls::check_proof;
 use mailbox::Mailbox;
 use ref_programs::{Relay, Tally};
 use replay_verifier::Program;
@@ -47,10 +48,10 @@ pub extern "C" fn bulwynef_check_proof(
     ensures mailbox { program ≡ 3 → IsCheckedBy mailbox directory.now proof.now result node.old node.new }
     ensures other { (program ≡ 1 → ⊥) → (program ≡ 2 → ⊥) → (program ≡ 3 → ⊥) → (result ≡ 113) × (node.new ≡ node.old) }
 {
-    match program {
-        1 => checked(alloc, &Tally, directory, proof, node),
-        2 => checked(alloc, &Relay, directory, proof, node),
-        3 => checked(alloc, &Mailbox, directory, proof, node),
-        _ => Refusal::BadProgram.number(),
+    match program_of(program) {
+        Ok(Followed::Tally) => checked(alloc, &Tally, directory, proof, node),
+        Ok(Followed::Relay) => checked(alloc, &Relay, directory, proof, node),
+        Ok(Followed::Mailbox) => checked(alloc, &Mailbox, directory, proof, node),
+        Err(refusal) => refusal.number(),
     }
 }

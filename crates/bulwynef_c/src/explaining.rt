@@ -1,15 +1,15 @@
-//! Explanations, as texts for a person to read.
+//! Explanations, as texts for a person to read, with the program's name and the sum of the directory's text before them.
 
 ghost use Rattle.std.specs.Prelude.{◌≡◌, ◌⊎◌, IfErr, IfOk, false, is_some, true};
 ghost use Rattle.byte_calls.specs.declared.refusal.Refusal.{Refusal as TheRefusal};
 ghost use Rattle.byte_calls.specs.declared.refusal.Refusal.TheVariants.{Memory};
-ghost use Rattle.byte_calls.specs.Explanations.{TellsOfAll};
 ghost use Rattle.byte_calls.specs.Refusals.{number_of as refusal_number};
-ghost use Rattle.bulwynef_c.specs.Calls.{ExplainFails, Explains};
-ghost use Rattle.bulwynef_c.specs.Handles.{Is, IsStore, IsText, Says, StoreRefuses};
+ghost use Rattle.bulwynef_c.specs.Calls.{ExplainFails, Explains, ExplainsAll};
+ghost use Rattle.bulwynef_c.specs.Handles.{Is, IsStoreUnder, IsText, Says, StoreRefuses};
 
 use crate::handle::Handle;
 use crate::object::Object;
+use crate::programs::{Followed, name_of, program_of};
 use crate::taking::{put, put_answer, taken, told};
 use byte_calls::{Refusal, explaining};
 use mailbox::Mailbox;
@@ -18,13 +18,19 @@ use std::alloc::Global;
 
 /// What a store says of each node, and why.
 fn explained(alloc: Global, object: &Object) -> Result<Vec<u8>, Refusal>
-    ensures told { IfOk result (λ text. IsStore (λ S p s. TellsOfAll p s text.items) object.now) }
+    ensures told { IfOk result (λ text. IsStoreUnder (ExplainsAll text.items) object.now) }
     ensures refused { IfErr result (λ f. StoreRefuses (λ S p s e. e ≡ Memory) object.now f) }
 {
     match object {
-        Object::TallyStore(store) => explaining::store(alloc, &Tally, store),
-        Object::RelayStore(store) => explaining::store(alloc, &Relay, store),
-        Object::MailboxStore(store) => explaining::store(alloc, &Mailbox, store),
+        Object::TallyStore(store, sum) => {
+            explaining::store(alloc, &Tally, name_of(Followed::Tally), sum, store)
+        }
+        Object::RelayStore(store, sum) => {
+            explaining::store(alloc, &Relay, name_of(Followed::Relay), sum, store)
+        }
+        Object::MailboxStore(store, sum) => {
+            explaining::store(alloc, &Mailbox, name_of(Followed::Mailbox), sum, store)
+        }
         _ => Err(Refusal::OtherKind),
     }
 }
@@ -33,7 +39,7 @@ fn explained(alloc: Global, object: &Object) -> Result<Vec<u8>, Refusal>
 /// node, and why.
 #[unsafe(no_mangle)]
 pub extern "C" fn bulwynef_store_explain(alloc: Global, store: &mut Handle, text: &mut Handle) -> u8
-    ensures text { result ≡ 0 → Is (λ x. Is (IsText (λ t. IsStore (λ S p s. TellsOfAll p s t) x)) text.new.value) store.old.value }
+    ensures text { result ≡ 0 → Is (λ x. Is (IsText (λ t. IsStoreUnder (ExplainsAll t) x)) text.new.value) store.old.value }
     ensures still_open { is_some text.old.value ≡ true → result ≡ 114 }
     ensures number { is_some text.old.value ≡ false → (result ≡ 0 → ⊥) → (result ≡ 99) ⊎ Says (StoreRefuses (λ S p s e. e ≡ Memory)) store.old.value result }
     ensures refused { (result ≡ 0 → ⊥) → text.new.value ≡ text.old.value }
@@ -52,11 +58,12 @@ fn explained_proof(
     ensures told { IfOk result (λ text. Explains program directory.now proof.now text.items) }
     ensures refused { IfErr result (λ f. ExplainFails program directory.now proof.now f) }
 {
-    match program {
-        1 => explaining::proof(alloc, &Tally, directory, proof),
-        2 => explaining::proof(alloc, &Relay, directory, proof),
-        3 => explaining::proof(alloc, &Mailbox, directory, proof),
-        _ => Err(Refusal::BadProgram),
+    let followed = program_of(program)?;
+    let name = name_of(followed);
+    match followed {
+        Followed::Tally => explaining::proof(alloc, &Tally, name, directory, proof),
+        Followed::Relay => explaining::proof(alloc, &Relay, name, directory, proof),
+        Followed::Mailbox => explaining::proof(alloc, &Mailbox, name, directory, proof),
     }
 }
 

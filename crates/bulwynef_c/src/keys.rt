@@ -3,9 +3,9 @@
 ghost use Rattle.std.specs.Prelude.{◌≡◌, ◌⊎◌, length, Ok};
 ghost use Rattle.outcome.specs.Outcome.{Fails};
 ghost use Rattle.byte_calls.specs.declared.refusal.Refusal.{Refusal as TheRefusal};
-ghost use Rattle.byte_calls.specs.declared.refusal.Refusal.TheVariants.{Memory, WrongLength};
-ghost use Rattle.byte_calls.specs.Nodes.{key_text_of};
+ghost use Rattle.byte_calls.specs.declared.refusal.Refusal.TheVariants.{Memory};
 ghost use Rattle.byte_calls.specs.Refusals.{number_of as refusal_number};
+ghost use Rattle.bulwynef_c.specs.Calls.{key_in};
 
 use crate::taking::told;
 use byte_calls::{Refusal, nodes};
@@ -14,6 +14,7 @@ use std::alloc::Global;
 /// `uint8_t bulwynef_public_key(uint32_t lms_type, uint32_t ots_type, const uint8_t *key_id, size_t key_id_len, const uint8_t *seed,
 /// size_t seed_len, uint8_t *key, size_t key_len)`: the 56 bytes of the public key (RFC 8554, section 5.3) of a seed. 117 where the room
 /// has another length.
+#[tactic(auto, using(crate::proofs::Rooms::in_room))]
 #[unsafe(no_mangle)]
 pub extern "C" fn bulwynef_public_key(
     alloc: Global,
@@ -23,8 +24,8 @@ pub extern "C" fn bulwynef_public_key(
     seed: &[u8],
     key: &mut [u8],
 ) -> u8
-    ensures key { result ≡ 0 → key_text_of lms_type ots_type key_id.now seed.now ≡ Ok key.new }
-    ensures number { (result ≡ 0 → ⊥) → (f : TheRefusal) × (result ≡ refusal_number f) × (((f ≡ WrongLength) × (length key.old ≡ 56 → ⊥)) ⊎ Fails Memory f (key_text_of lms_type ots_type key_id.now seed.now)) }
+    ensures key { result ≡ 0 → key_in (length key.old) lms_type ots_type key_id.now seed.now ≡ Ok key.new }
+    ensures number { (result ≡ 0 → ⊥) → (f : TheRefusal) × (result ≡ refusal_number f) × Fails Memory f (key_in (length key.old) lms_type ots_type key_id.now seed.now) }
     ensures refused { (result ≡ 0 → ⊥) → key.new ≡ key.old }
 {
     if key.len() != 56 {

@@ -5,7 +5,7 @@ ghost use Rattle.outcome.specs.Outcome.{Fails};
 ghost use Rattle.item_forms.specs.Spelling.{spelling};
 ghost use Rattle.byte_calls.specs.declared.refusal.Refusal.TheVariants.{Memory};
 ghost use Rattle.byte_calls.specs.Nodes.{RefusesLog, RefusesReply, Replies, accepted, log_text};
-ghost use Rattle.bulwynef_c.specs.Calls.{RepliesBy, ReplyFails, Sends, SendFails, Waits, WaitFails};
+ghost use Rattle.bulwynef_c.specs.Calls.{Accepts, HasReplied, RepliesBy, ReplyFails, Sends, SendFails, Waits, WaitFails};
 ghost use Rattle.bulwynef_c.specs.Handles.{Both, Is, IsNode, IsText, NodeBecomes, NodeRefuses, Says};
 
 use crate::handle::Handle;
@@ -40,6 +40,7 @@ pub extern "C" fn bulwynef_node_waiting(
 ) -> u8
     ensures told { result ≡ 0 → Is (IsNode (λ S p n. Waits place seq.new n)) node.old.value }
     ensures number { (result ≡ 0 → ⊥) → Says (NodeRefuses (λ S p n e. WaitFails place n e)) node.old.value result }
+    ensures unwritten { (result ≡ 0 → ⊥) → seq.new ≡ seq.old }
     ensures unchanged { node.new.value ≡ node.old.value }
 {
     let Some(object) = taken(alloc, node) else {
@@ -144,6 +145,8 @@ pub extern "C" fn bulwynef_node_answer(
     ensures still_open { is_some text.old.value ≡ true → result ≡ 114 }
     ensures number { is_some text.old.value ≡ false → (result ≡ 0 → ⊥) → (result ≡ 99) ⊎ Says (NodeRefuses (λ S p n e. ReplyFails challenge.now entropy.now p n e)) node.old.value result }
     ensures kept { (result ≡ 0 → ⊥) → (result ≡ 99 → ⊥) → node.new.value ≡ node.old.value }
+    // Where memory ran out the node is as it was, or as behind the answer, which is then lost.
+    ensures spent { result ≡ 99 → (node.new.value ≡ node.old.value) ⊎ Both (NodeBecomes (λ S p n m. HasReplied challenge.now entropy.now p n m)) node.old.value node.new.value }
     ensures refused { (result ≡ 0 → ⊥) → text.new.value ≡ text.old.value }
 {
     if text.is_open() {
@@ -164,23 +167,23 @@ pub extern "C" fn bulwynef_node_answer(
 }
 
 fn accept(alloc: Global, object: &mut Object, ack: &[u8]) -> Result<(), Refusal>
-    ensures done { OnOk result (NodeBecomes (λ S p n m. accepted n ack.now ≡ Ok m) object.old object.new) }
+    ensures done { OnOk result (NodeBecomes (λ S p n m. Accepts ack.now n m) object.old object.new) }
     ensures refused { IfErr result (λ f. NodeRefuses (λ S p n e. Fails Memory e (accepted n ack.now)) object.old f) }
     ensures unchanged { OnErr result (object.new ≡ object.old) }
 {
     match object {
-        Object::TallyNode(node) => nodes::accept(alloc, node, ack),
-        Object::RelayNode(node) => nodes::accept(alloc, node, ack),
-        Object::MailboxNode(node) => nodes::accept(alloc, node, ack),
+        Object::TallyNode(node) => nodes::accept(alloc, node, &Tally, ack),
+        Object::RelayNode(node) => nodes::accept(alloc, node, &Relay, ack),
+        Object::MailboxNode(node) => nodes::accept(alloc, node, &Mailbox, ack),
         _ => Err(Refusal::OtherKind),
     }
 }
 
 /// `uint8_t bulwynef_node_accept_ack(struct bulwynef_handle *node, const uint8_t *ack, size_t ack_len)`: accepts an acknowledgement
-/// (an item of tag 5): its message waits no longer.
+/// (an item of tag 5): its message waits no longer. It is one that a store takes, of a message that the node sent, byte by byte.
 #[unsafe(no_mangle)]
 pub extern "C" fn bulwynef_node_accept_ack(alloc: Global, node: &mut Handle, ack: &[u8]) -> u8
-    ensures done { result ≡ 0 → Both (NodeBecomes (λ S p n m. accepted n ack.now ≡ Ok m)) node.old.value node.new.value }
+    ensures done { result ≡ 0 → Both (NodeBecomes (λ S p n m. Accepts ack.now n m)) node.old.value node.new.value }
     ensures number { (result ≡ 0 → ⊥) → Says (NodeRefuses (λ S p n e. Fails Memory e (accepted n ack.now))) node.old.value result }
     ensures refused { (result ≡ 0 → ⊥) → node.new.value ≡ node.old.value }
 {

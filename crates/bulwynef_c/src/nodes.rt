@@ -14,6 +14,7 @@ ghost use Rattle.bulwynef_c.specs.Handles.{Both, Is, IsNode, NodeBecomes, NodeRe
 
 use crate::handle::Handle;
 use crate::object::Object;
+use crate::programs::{Followed, program_of};
 use crate::taking::{put, taken, told};
 use byte_calls::{Refusal, nodes};
 use lms_sign::SecretKey;
@@ -21,7 +22,7 @@ use mailbox::Mailbox;
 use ref_programs::{Relay, Tally};
 use std::alloc::Global;
 
-/// A node of the program, by the key.
+/// A node of the program with this number, by the key.
 fn node_by(
     alloc: Global,
     program: u8,
@@ -33,20 +34,19 @@ fn node_by(
     ensures begun { IfOk result (λ x. IsNodeOf program directory.now id first_seq key x) }
     ensures refused { IfErr result (λ f. NodeFails program directory.now id first_seq key f) }
 {
-    match program {
-        1 => {
+    match program_of(program)? {
+        Followed::Tally => {
             let node = nodes::begin(alloc, Tally, directory, id, first_seq, key)?;
             Ok(Object::TallyNode(node))
         }
-        2 => {
+        Followed::Relay => {
             let node = nodes::begin(alloc, Relay, directory, id, first_seq, key)?;
             Ok(Object::RelayNode(node))
         }
-        3 => {
+        Followed::Mailbox => {
             let node = nodes::begin(alloc, Mailbox, directory, id, first_seq, key)?;
             Ok(Object::MailboxNode(node))
         }
-        _ => Err(Refusal::BadProgram),
     }
 }
 
@@ -140,6 +140,7 @@ fn checkpoint_of(object: &mut Object) -> Result<u64, Refusal>
 pub extern "C" fn bulwynef_node_checkpoint(alloc: Global, node: &mut Handle, seq: &mut u64) -> u8
     ensures done { result ≡ 0 → Both (NodeBecomes (λ S p n m. checkpointed p n ≡ Ok (m, seq.new))) node.old.value node.new.value }
     ensures number { (result ≡ 0 → ⊥) → Says (NodeRefuses (λ S p n e. CheckpointFails p n e)) node.old.value result }
+    ensures unwritten { (result ≡ 0 → ⊥) → seq.new ≡ seq.old }
     ensures refused { (result ≡ 0 → ⊥) → node.new.value ≡ node.old.value }
 {
     let Some(mut object) = taken(alloc, node) else {
@@ -216,6 +217,7 @@ fn remaining_of(object: &Object) -> Result<u32, Refusal>
 pub extern "C" fn bulwynef_node_remaining(alloc: Global, node: &mut Handle, leaves: &mut u32) -> u8
     ensures told { result ≡ 0 → Is (IsNode (λ S p n. leaves.new ≡ leaves_left n.account.ring)) node.old.value }
     ensures number { (result ≡ 0 → ⊥) → Says (NodeRefuses (λ S p n e. ⊥)) node.old.value result }
+    ensures unwritten { (result ≡ 0 → ⊥) → leaves.new ≡ leaves.old }
     ensures unchanged { node.new.value ≡ node.old.value }
 {
     let Some(object) = taken(alloc, node) else {

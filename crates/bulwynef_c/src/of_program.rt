@@ -2,7 +2,6 @@
 
 ghost use Rattle.std.specs.Prelude.{◌≡◌, ⊤, IfErr, IfOk};
 ghost use Rattle.byte_calls.specs.declared.refusal.Refusal.TheVariants.{OtherKind};
-ghost use Rattle.bulwynef_c.specs.declared.object.Object.TheVariants as kind;
 ghost use Rattle.bulwynef_c.specs.Handles.{IsMailboxStore, IsRelayStore, IsTallyStore};
 
 use crate::object::Object;
@@ -15,9 +14,9 @@ use ref_programs::{Relay, Tally};
 macro_rules! of_store {
     ($object:expr, $store:ident => $done:expr) => {
         match $object {
-            Object::TallyStore($store) => $done,
-            Object::RelayStore($store) => $done,
-            Object::MailboxStore($store) => $done,
+            Object::TallyStore($store, _) => $done,
+            Object::RelayStore($store, _) => $done,
+            Object::MailboxStore($store, _) => $done,
             _ => Err(Refusal::OtherKind),
         }
     };
@@ -27,33 +26,33 @@ pub(crate) use of_store;
 
 /// The store, where it is one of Tally.
 pub(crate) fn tally_store(object: &Object) -> Result<&IndexedStore<Tally>, Refusal>
-    ensures store { IfOk result (λ s. object.now ≡ kind.TallyStore s.now) }
-    ensures other { IfErr result (λ f. (f ≡ OtherKind) × (IsTallyStore (λ s. ⊤) object.now → ⊥)) }
+    ensures store { IfOk result (λ s. IsTallyStore (λ t d. t ≡ s.now) object.now) }
+    ensures other { IfErr result (λ f. (f ≡ OtherKind) × (IsTallyStore (λ s d. ⊤) object.now → ⊥)) }
 {
     match object {
-        Object::TallyStore(store) => Ok(store),
+        Object::TallyStore(store, _) => Ok(store),
         _ => Err(Refusal::OtherKind),
     }
 }
 
 /// The store, where it is one of Relay.
 pub(crate) fn relay_store(object: &Object) -> Result<&IndexedStore<Relay>, Refusal>
-    ensures store { IfOk result (λ s. object.now ≡ kind.RelayStore s.now) }
-    ensures other { IfErr result (λ f. (f ≡ OtherKind) × (IsRelayStore (λ s. ⊤) object.now → ⊥)) }
+    ensures store { IfOk result (λ s. IsRelayStore (λ t d. t ≡ s.now) object.now) }
+    ensures other { IfErr result (λ f. (f ≡ OtherKind) × (IsRelayStore (λ s d. ⊤) object.now → ⊥)) }
 {
     match object {
-        Object::RelayStore(store) => Ok(store),
+        Object::RelayStore(store, _) => Ok(store),
         _ => Err(Refusal::OtherKind),
     }
 }
 
 /// The store, where it is one of Mailbox.
 pub(crate) fn mailbox_store(object: &Object) -> Result<&IndexedStore<Mailbox>, Refusal>
-    ensures store { IfOk result (λ s. object.now ≡ kind.MailboxStore s.now) }
-    ensures other { IfErr result (λ f. (f ≡ OtherKind) × (IsMailboxStore (λ s. ⊤) object.now → ⊥)) }
+    ensures store { IfOk result (λ s. IsMailboxStore (λ t d. t ≡ s.now) object.now) }
+    ensures other { IfErr result (λ f. (f ≡ OtherKind) × (IsMailboxStore (λ s d. ⊤) object.now → ⊥)) }
 {
     match object {
-        Object::MailboxStore(store) => Ok(store),
+        Object::MailboxStore(store, _) => Ok(store),
         _ => Err(Refusal::OtherKind),
     }
 }

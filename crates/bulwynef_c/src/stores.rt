@@ -1,42 +1,42 @@
 //! Stores of evidence behind handles: what is handed to them.
 
 ghost use Rattle.std.specs.Prelude.{◌≡◌, ◌⊎◌, ⊤, IfErr, IfOk, OnErr, Ok, false, is_some, true};
-ghost use Rattle.evidence.specs.Contents.{Contents};
 ghost use Rattle.byte_calls.specs.declared.refusal.Refusal.{Refusal as TheRefusal};
 ghost use Rattle.byte_calls.specs.declared.refusal.Refusal.TheVariants.{OtherKind};
 ghost use Rattle.byte_calls.specs.Refusals.{number_of as refusal_number};
-ghost use Rattle.byte_calls.specs.Stores.{opened};
 ghost use Rattle.bulwynef_c.specs.Calls.{ImportFails, IsStoreOf, Joins, MergeFails, Merges, OpenFails, TakeFails, TakesItem, flag};
 ghost use Rattle.bulwynef_c.specs.Handles.{Both, Is, PairRefuses, Says, SaysOfTwo, StoreBecomes, StoreRefuses, StoreTakesOf};
 
 use crate::handle::Handle;
 use crate::object::Object;
 use crate::of_program::{mailbox_store, relay_store, tally_store};
+use crate::programs::{Followed, program_of};
 use crate::taking::{put, taken, told};
+use byte_calls::explaining::sum_of;
 use byte_calls::{Refusal, stores};
 use mailbox::Mailbox;
 use ref_programs::{Relay, Tally};
 use std::alloc::Global;
 
-/// A store of the program.
+/// A store of the program with this number.
 fn object_of(alloc: Global, program: u8, directory: &[u8]) -> Result<Object, Refusal>
-    ensures made { IfOk result (λ x. (s : Contents) × (opened directory.now ≡ Ok s) × IsStoreOf program s x) }
+    ensures made { IfOk result (λ x. IsStoreOf program directory.now x) }
     ensures refused { IfErr result (λ f. OpenFails program directory.now f) }
 {
-    match program {
-        1 => {
+    let sum = sum_of(directory);
+    match program_of(program)? {
+        Followed::Tally => {
             let store = stores::open(alloc, directory)?;
-            Ok(Object::TallyStore(store))
+            Ok(Object::TallyStore(store, sum))
         }
-        2 => {
+        Followed::Relay => {
             let store = stores::open(alloc, directory)?;
-            Ok(Object::RelayStore(store))
+            Ok(Object::RelayStore(store, sum))
         }
-        3 => {
+        Followed::Mailbox => {
             let store = stores::open(alloc, directory)?;
-            Ok(Object::MailboxStore(store))
+            Ok(Object::MailboxStore(store, sum))
         }
-        _ => Err(Refusal::BadProgram),
     }
 }
 
@@ -49,7 +49,7 @@ pub extern "C" fn bulwynef_store_open(
     directory: &[u8],
     store: &mut Handle,
 ) -> u8
-    ensures opened { result ≡ 0 → (s : Contents) × (opened directory.now ≡ Ok s) × Is (IsStoreOf program s) store.new.value }
+    ensures opened { result ≡ 0 → Is (IsStoreOf program directory.now) store.new.value }
     ensures still_open { is_some store.old.value ≡ true → result ≡ 114 }
     ensures number { is_some store.old.value ≡ false → (result ≡ 0 → ⊥) → (result ≡ 99) ⊎ ((f : TheRefusal) × (result ≡ refusal_number f) × OpenFails program directory.now f) }
     ensures refused { (result ≡ 0 → ⊥) → store.new.value ≡ store.old.value }
@@ -70,9 +70,9 @@ fn import_into(object: &mut Object, text: &[u8]) -> Result<u64, Refusal>
     ensures unchanged { OnErr result (object.new ≡ object.old) }
 {
     match object {
-        Object::TallyStore(store) => stores::import(store, &Tally, text),
-        Object::RelayStore(store) => stores::import(store, &Relay, text),
-        Object::MailboxStore(store) => stores::import(store, &Mailbox, text),
+        Object::TallyStore(store, _) => stores::import(store, &Tally, text),
+        Object::RelayStore(store, _) => stores::import(store, &Relay, text),
+        Object::MailboxStore(store, _) => stores::import(store, &Mailbox, text),
         _ => Err(Refusal::OtherKind),
     }
 }
@@ -88,6 +88,7 @@ pub extern "C" fn bulwynef_store_import(
 ) -> u8
     ensures joined { result ≡ 0 → Both (StoreBecomes (Joins text.now added.new)) store.old.value store.new.value }
     ensures number { (result ≡ 0 → ⊥) → Says (StoreRefuses (λ S p s e. ImportFails text.now s e)) store.old.value result }
+    ensures unwritten { (result ≡ 0 → ⊥) → added.new ≡ added.old }
     ensures refused { (result ≡ 0 → ⊥) → store.new.value ≡ store.old.value }
 {
     let Some(mut object) = taken(alloc, store) else {
@@ -111,9 +112,9 @@ fn take_into(alloc: Global, object: &mut Object, text: &[u8]) -> Result<bool, Re
     ensures unchanged { OnErr result (object.new ≡ object.old) }
 {
     match object {
-        Object::TallyStore(store) => stores::take(alloc, store, &Tally, text),
-        Object::RelayStore(store) => stores::take(alloc, store, &Relay, text),
-        Object::MailboxStore(store) => stores::take(alloc, store, &Mailbox, text),
+        Object::TallyStore(store, _) => stores::take(alloc, store, &Tally, text),
+        Object::RelayStore(store, _) => stores::take(alloc, store, &Relay, text),
+        Object::MailboxStore(store, _) => stores::take(alloc, store, &Mailbox, text),
         _ => Err(Refusal::OtherKind),
     }
 }
@@ -129,6 +130,7 @@ pub extern "C" fn bulwynef_store_take(
 ) -> u8
     ensures taken { result ≡ 0 → Both (StoreBecomes (TakesItem item.now is_new.new)) store.old.value store.new.value }
     ensures number { (result ≡ 0 → ⊥) → Says (StoreRefuses (λ S p s e. TakeFails item.now s e)) store.old.value result }
+    ensures unwritten { (result ≡ 0 → ⊥) → is_new.new ≡ is_new.old }
     ensures refused { (result ≡ 0 → ⊥) → store.new.value ≡ store.old.value }
 {
     let Some(mut object) = taken(alloc, store) else {
@@ -152,9 +154,9 @@ fn merge_into(object: &mut Object, other: &Object) -> Result<u64, Refusal>
     ensures unchanged { OnErr result (object.new ≡ object.old) }
 {
     match object {
-        Object::TallyStore(store) => stores::merge(store, tally_store(other)?),
-        Object::RelayStore(store) => stores::merge(store, relay_store(other)?),
-        Object::MailboxStore(store) => stores::merge(store, mailbox_store(other)?),
+        Object::TallyStore(store, _) => stores::merge(store, tally_store(other)?),
+        Object::RelayStore(store, _) => stores::merge(store, relay_store(other)?),
+        Object::MailboxStore(store, _) => stores::merge(store, mailbox_store(other)?),
         _ => Err(Refusal::OtherKind),
     }
 }
@@ -170,6 +172,7 @@ pub extern "C" fn bulwynef_store_merge(
 ) -> u8
     ensures merged { result ≡ 0 → Is (λ o. Both (StoreTakesOf (Merges added.new) o) store.old.value store.new.value) other.old.value }
     ensures number { (result ≡ 0 → ⊥) → SaysOfTwo (PairRefuses MergeFails) store.old.value other.old.value result }
+    ensures unwritten { (result ≡ 0 → ⊥) → added.new ≡ added.old }
     ensures refused { (result ≡ 0 → ⊥) → store.new.value ≡ store.old.value }
     ensures other { other.new.value ≡ other.old.value }
 {

@@ -115,9 +115,9 @@ fn apply_to(alloc: Global, object: &mut Object, pack: &[u8]) -> Result<u64, Refu
     ensures unchanged { OnErr result (object.new ≡ object.old) }
 {
     match object {
-        Object::TallyStore(store) => transfers::apply(alloc, store, &Tally, pack),
-        Object::RelayStore(store) => transfers::apply(alloc, store, &Relay, pack),
-        Object::MailboxStore(store) => transfers::apply(alloc, store, &Mailbox, pack),
+        Object::TallyStore(store, _) => transfers::apply(alloc, store, &Tally, pack),
+        Object::RelayStore(store, _) => transfers::apply(alloc, store, &Relay, pack),
+        Object::MailboxStore(store, _) => transfers::apply(alloc, store, &Mailbox, pack),
         _ => Err(Refusal::OtherKind),
     }
 }
@@ -133,6 +133,7 @@ pub extern "C" fn bulwynef_store_apply(
 ) -> u8
     ensures joined { result ≡ 0 → Both (StoreBecomes (Applies pack.now added.new)) store.old.value store.new.value }
     ensures number { (result ≡ 0 → ⊥) → Says (StoreRefuses (λ S p s e. ApplyFails pack.now s e)) store.old.value result }
+    ensures unwritten { (result ≡ 0 → ⊥) → added.new ≡ added.old }
     ensures refused { (result ≡ 0 → ⊥) → store.new.value ≡ store.old.value }
 {
     let Some(mut object) = taken(alloc, store) else {

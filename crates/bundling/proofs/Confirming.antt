@@ -1,5 +1,5 @@
 -- A bundle that was made says what is found of it.
-use Rattle.std.proofs.Common.{◌≡◌, ◌∙◌, ◌++◌, ℕ, Bool, true, false, List, [], refl, sym, ap, subst, cond, nat_eq, eq-eqb}
+use Rattle.std.proofs.Common.{◌≡◌, ◌∙◌, ◌++◌, ◌&&◌, ℕ, Bool, true, false, List, [], refl, sym, ap, subst, cond, nat_eq, eq-eqb}
 use Rattle.std.specs.Str.{bytes_eq}
 use Rattle.std.proofs.lemmas.List.{append-nil}
 use Rattle.std.proofs.lemmas.Slice.Eq.{bytes_eq-Decides}
@@ -15,7 +15,7 @@ use Rattle.bundles.specs.Grammar.{bundle_of}
 use Rattle.bundles.specs.Spelling.{Contents}
 use Rattle.bundling.specs.Convicting.{TextsConvict}
 use Rattle.bundling.specs.Handing.{handed}
-use Rattle.bundling.specs.Judging.{IsJudged, MadeBundlesAreConfirmed, found, judgement, other_directory, other_node, other_program}
+use Rattle.bundling.specs.Judging.{IsJudged, MadeBundlesAreConfirmed, found, is_agreed, judgement, other_directory, other_node, other_program}
 
 -- ---- texts convict one node
 
@@ -48,10 +48,21 @@ agrees name directory b program own =
     (no_other (bytes_eq name b.program) _ (ap (λ (t : List ℕ). bytes_eq name t) program ∙ same_bytes name))
     (no_other (bytes_eq directory b.directory) _ (ap (λ (t : List ℕ). bytes_eq directory t) own ∙ same_bytes directory))
 
+all_hold : (a b c : Bool) → a ≡ true → b ≡ true → c ≡ true → (a && b && c) ≡ true
+all_hold a b c ha hb hc = rw (ha, hb, hc) refl
+
+is_agreed_with_itself : (name directory : List ℕ) (b : Contents) → b.program ≡ name → b.directory ≡ directory → is_agreed b.node name directory b ≡ true
+is_agreed_with_itself name directory b program own =
+    all_hold (nat_eq b.node b.node) (bytes_eq name b.program) (bytes_eq directory b.directory) (whole b.node)
+    (ap (λ (t : List ℕ). bytes_eq name t) program ∙ same_bytes name)
+    (ap (λ (t : List ℕ). bytes_eq directory t) own ∙ same_bytes directory)
+
 pub confirmed : {S : Type 0} → BundlesAreRead → ProofsConvictOneNode S → MadeBundlesAreConfirmed S
 confirmed read one = λ program name directory proof more text made.
     let b = handed made.node made.parts name directory proof more in
-    let judged = λ (said : List ℕ) (j : IsJudged program name directory b said).
-    let node = same_node one program directory proof j.node made.node j.parts made.parts j.convicts made.convicts in
-    j.is ∙ ap (λ (n : ℕ). judgement n name directory b) node ∙ agrees name directory b refl refl in
+    let judged : (said : List ℕ) (agreed : Bool) → IsJudged program name directory b said agreed → (said ≡ found b.node name directory) × (agreed ≡ true) = λ said agreed j.
+    let node = same_node one program directory proof j.node made.node j.parts made.parts j.convicts made.convicts in (
+      j.is ∙ ap (λ (n : ℕ). judgement n name directory b) node ∙ agrees name directory b refl refl,
+      j.same ∙ ap (λ (n : ℕ). is_agreed n name directory b) node ∙ is_agreed_with_itself name directory b refl refl,
+    ) in
     (b, ap (λ (t : List ℕ). bundle_of t) made.is ∙ read.only b made.spelled, refl, refl, refl, refl, judged)

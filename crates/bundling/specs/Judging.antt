@@ -1,5 +1,5 @@
 -- What is said of a bundle, by its directory and its proof alone.
-use Rattle.std.specs.Prelude.{◌≡◌, ◌==◌, ℕ, List, [], ◌++◌, codes, decimal, if◌then◌else◌, Ok}
+use Rattle.std.specs.Prelude.{◌≡◌, ◌==◌, ◌&&◌, ℕ, Bool, true, List, [], ◌++◌, codes, decimal, if◌then◌else◌, Ok}
 use Rattle.std.specs.Str.{bytes_eq}
 use Rattle.hex.specs.Hex.{encode_lower}
 use Rattle.sha2.specs.Sha256.{sha256}
@@ -30,12 +30,18 @@ other_directory directory own = if bytes_eq directory own then [] else codes "di
 abbrev pub judgement : ℕ → List ℕ → List ℕ → Contents → List ℕ
 judgement node name directory b = found node name directory ++ other_node node b.node ++ other_program name b.program ++ other_directory directory b.directory
 
--- The text says of a bundle whom its proof convicts under the program, which has this name, and the directory.
-pub record IsJudged {S : Type 0} (program : Meaning S) (name directory : List ℕ) (b : Contents) (text : List ℕ) : Type 0 where
+-- The bundle names this node and this program, and has this directory: no line disagrees.
+abbrev pub is_agreed : ℕ → List ℕ → List ℕ → Contents → Bool
+is_agreed node name directory b = (node == b.node) && bytes_eq name b.program && bytes_eq directory b.directory
+
+-- The text says of a bundle whom its proof convicts under the program, which has this name, and the directory; and beside it stands whether
+-- the bundle says the same.
+pub record IsJudged {S : Type 0} (program : Meaning S) (name directory : List ℕ) (b : Contents) (text : List ℕ) (agrees : Bool) : Type 0 where
   pub node : ℕ
   pub parts : Parts
   pub convicts : TextsConvict program directory b.proof node parts
   pub is : text ≡ judgement node name directory b
+  pub same : agrees ≡ is_agreed node name directory b
 
 -- ---- laws, which `laws` proves
 
@@ -44,4 +50,4 @@ abbrev pub MadeBundlesAreConfirmed : Type 0 → Type 0
 MadeBundlesAreConfirmed S =
     (program : Meaning S) (name directory proof more text : List ℕ) (made : IsMade program name directory proof more text)
     → (b : Contents) × (bundle_of text ≡ Ok b) × (b.node ≡ made.node) × (b.program ≡ name) × (b.directory ≡ directory) × (b.proof ≡ proof)
-    × ((judged : List ℕ) → IsJudged program name directory b judged → judged ≡ found b.node name directory)
+    × ((judged : List ℕ) (agrees : Bool) → IsJudged program name directory b judged agrees → (judged ≡ found b.node name directory) × (agrees ≡ true))

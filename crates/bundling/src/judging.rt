@@ -4,7 +4,7 @@ ghost use Rattle.std.specs.Prelude.{◌≡◌, IfOk, MatchResult};
 ghost use Rattle.hex.specs.Hex.{encode_lower};
 ghost use Rattle.sha2.specs.Sha256.{sha256};
 ghost use Rattle.bundling.specs.Convicting.{RefusesTexts};
-ghost use Rattle.bundling.specs.Judging.{IsJudged, found, judgement, other_directory, other_node, other_program};
+ghost use Rattle.bundling.specs.Judging.{IsJudged, found, is_agreed, judgement, other_directory, other_node, other_program};
 
 use crate::convicting::convicted;
 use crate::fault::TextFault;
@@ -14,6 +14,23 @@ use bundles::OpenBundle;
 use replay_verifier::Program;
 use sha2::{Digest, Sha256};
 use std::alloc::{AllocError, Global};
+
+/// What is said of a bundle.
+#[derive(Debug, Drop)]
+pub struct Judgement {
+    /// The text.
+    pub text: Vec<u8>,
+    /// Whether the bundle names the node and the program that were found, and has the directory that was given.
+    pub agrees: bool,
+}
+
+/// Whether the bundle names this node and this program, and has this directory.
+pub(crate) fn is_agreed(node: NodeId, name: &[u8], directory: &[u8], bundle: &OpenBundle) -> bool
+    ensures { result ≡ is_agreed node name.now directory.now bundle.now }
+{
+    let own: &[u8] = &bundle.directory;
+    u64::from(node.0) == bundle.node && name == bundle.program && directory == own
+}
 
 /// The SHA-256 value of the bytes, in digits.
 pub(crate) fn sum_of(bytes: &[u8]) -> [u8; 64]
@@ -116,7 +133,7 @@ fn judgement_of(
 
 /// Whom the bundle's proof convicts under the program, which has this name, and the directory: `exposes ID`, `program NAME` and
 /// `directory SUM`, each with a line feed; and a line `disagrees: ..` where the bundle names another node or program, or has another
-/// directory.
+/// directory. It agrees where there is no such line.
 ///
 /// It is refused where the texts convict nobody, the directory's fault before the proof's. Memory may run out in place of these.
 pub fn judge<P: Program>(
@@ -125,10 +142,11 @@ pub fn judge<P: Program>(
     name: &[u8],
     directory: &[u8],
     bundle: &OpenBundle,
-) -> Result<Vec<u8>, TextFault>
-    ensures { MatchResult result (λ text. IsJudged P.means name.now directory.now bundle.now text.items) (λ f. RefusesTexts P.means directory.now bundle.now.proof f) }
+) -> Result<Judgement, TextFault>
+    ensures { MatchResult result (λ said. IsJudged P.means name.now directory.now bundle.now said.text.items said.agrees) (λ f. RefusesTexts P.means directory.now bundle.now.proof f) }
 {
     let found = convicted(alloc, program, directory, &bundle.proof)?;
     let text = judgement_of(alloc, found.node, name, directory, bundle)?;
-    Ok(text)
+    let agrees = is_agreed(found.node, name, directory, bundle);
+    Ok(Judgement { text, agrees })
 }

@@ -6,7 +6,7 @@ ghost use Rattle.bundling.specs.JudgingJson.{IsJudgedInJson, document, members};
 
 use crate::convicting::convicted;
 use crate::fault::TextFault;
-use crate::judging::sum_of;
+use crate::judging::{Judgement, is_agreed, sum_of};
 use crate::sentences::decimal_of;
 use authenticators::NodeId;
 use bundles::OpenBundle;
@@ -66,10 +66,11 @@ pub fn judge_in_json<P: Program>(
     name: &[u8],
     directory: &[u8],
     bundle: &OpenBundle,
-) -> Result<Vec<u8>, TextFault>
-    ensures { MatchResult result (λ text. IsJudgedInJson P.means name.now directory.now bundle.now text.items) (λ f. RefusesTexts P.means directory.now bundle.now.proof f) }
+) -> Result<Judgement, TextFault>
+    ensures { MatchResult result (λ said. IsJudgedInJson P.means name.now directory.now bundle.now said.text.items said.agrees) (λ f. RefusesTexts P.means directory.now bundle.now.proof f) }
 {
     let found = convicted(alloc, program, directory, &bundle.proof)?;
     let text = document_of(alloc, found.node, name, directory, bundle)?;
-    Ok(text)
+    let agrees = is_agreed(found.node, name, directory, bundle);
+    Ok(Judgement { text, agrees })
 }

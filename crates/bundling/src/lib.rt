@@ -9,7 +9,7 @@
 #![tactic(auto)]
 
 pub use fault::{MakeFault, TextFault};
-pub use judging::judge;
+pub use judging::{Judgement, judge};
 pub use judging_json::judge_in_json;
 pub use making::make;
 

@@ -1,5 +1,9 @@
+pub mod Accepted
 pub mod Checked
+pub mod Demanded
+pub mod Evident
 pub mod Logged
 pub mod Replied
 pub mod TakenItems
+pub mod Told
 pub mod Unanswered

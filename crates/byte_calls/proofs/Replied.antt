@@ -14,4 +14,4 @@ use Rattle.byte_calls.specs.Stores.{valid_item_of}
 
 pub reply_refused : {S X : Type 0} (program : Meaning S) (challenge entropy : List ℕ) (n : NodeState S) (ds : Listing) (asked : Fields) (bytes : List ℕ) (r : Result X Refusal) → ds ≡ n.directory → of_length 32 entropy ≡ Ok bytes → valid_item_of ds challenge ≡ Ok asked → IfErr r (λ f. (e : AnswerFault) × IsRefused program n asked bytes e × (f ≡ of_answering e)) → IfErr r (λ f. (f ≡ Memory) ⊎ RefusesReply program challenge entropy n f)
 reply_refused program challenge entropy n ds asked bytes (Ok x) same long valid h = tt
-reply_refused program challenge entropy n ds asked bytes (Err f) same long valid h = inr (inr (inr (asked, bytes, h.0, subst (λ (d : Listing). valid_item_of d challenge ≡ Ok asked) same valid, long, h.1, h.2)))
+reply_refused program challenge entropy n ds asked bytes (Err f) same long valid h = inr (inr (bytes, long, inr (asked, h.0, subst (λ (d : Listing). valid_item_of d challenge ≡ Ok asked) same valid, h.1, h.2)))

@@ -1,20 +1,35 @@
--- What texts for a person tell of nodes.
-use Rattle.std.specs.Prelude.{◌≡◌, ℕ, List, [], ◌∷◌, map}
+-- What texts for a person tell of nodes, and under what.
+use Rattle.std.specs.Prelude.{◌≡◌, ℕ, List, ◌++◌, codes, Ok}
+use Rattle.hex.specs.Hex.{encode_lower}
+use Rattle.sha2.specs.Sha256.{sha256}
 use Rattle.replay_verifier.specs.Meaning.{Meaning}
-use Rattle.evidence_set.specs.declared.indication.Indication.TheVariants.{Exposed}
+use Rattle.proofs.specs.Convicting.{Convicts}
 use Rattle.evidence.specs.Contents.{Contents}
 use Rattle.sentences.specs.declared.explanation.Explanation.{Explanation}
 use Rattle.sentences.specs.Texts.{text_of}
-use Rattle.explanations.specs.Whys.{AreIndications, told_of}
+use Rattle.explanations.specs.Whys.{ExplainsParts, ExplainsSet}
+use Rattle.byte_calls.specs.Checks.{Presented, presented_of}
 
--- The text tells of each listed node, and of no other, what the items say of it.
-pub record TellsOfAll {S : Type 0} (program : Meaning S) (s : Contents) (text : List ℕ) : Type 0 where
-  pub explanation : Explanation
-  pub written : text ≡ text_of explanation
-  pub indicated : AreIndications program s explanation.nodes.items
+-- The SHA-256 of a text, in lower-case digits.
+abbrev pub sum_of : List ℕ → List ℕ
+sum_of text = encode_lower (sha256 text)
 
--- The text tells of the node alone, and that it is exposed.
-pub record TellsOf (node : ℕ) (text : List ℕ) : Type 0 where
+-- Under what a verdict is given: the program's name, and the digits of the sum of the directory's text, a line each.
+abbrev pub basis_text : List ℕ → List ℕ → List ℕ
+basis_text name sum = codes "program " ++ name ++ codes "\ndirectory " ++ sum ++ codes "\n"
+
+-- The text tells of each listed node, and of no other, what the items say of it under this program, and why; and before that under what.
+pub record TellsOfAll {S : Type 0} (program : Meaning S) (name sum : List ℕ) (s : Contents) (text : List ℕ) : Type 0 where
   pub explanation : Explanation
-  pub written : text ≡ text_of explanation
-  pub exposed : map told_of explanation.nodes.items ≡ (node, Exposed) ∷ []
+  pub written : text ≡ basis_text name sum ++ text_of explanation
+  pub explained : ExplainsSet program s explanation
+
+-- The text tells whom a proof convicts under the directory of a text and this program, and why; and before that under what.
+pub record TellsOfProof {S : Type 0} (program : Meaning S) (name directory proof text : List ℕ) : Type 0 where
+  pub presented : Presented
+  pub node : ℕ
+  pub explanation : Explanation
+  pub is : presented_of directory proof ≡ Ok presented
+  pub convicts : Convicts presented.directory program node presented.parts
+  pub written : text ≡ basis_text name (sum_of directory) ++ text_of explanation
+  pub explained : ExplainsParts node presented.parts explanation

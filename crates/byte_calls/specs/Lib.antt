@@ -1,5 +1,6 @@
 pub mod Checks
 pub mod Explanations
+pub mod ItemTexts
 pub mod Nodes
 pub mod Refusals
 pub mod Stores

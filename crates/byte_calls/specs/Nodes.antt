@@ -1,24 +1,27 @@
 -- Nodes, by the texts and numbers that are handed to them.
-use Rattle.std.specs.Prelude.{◌≡◌, ◌⊎◌, ◌==◌, ℕ, nat_lt, List, length, Option, None, Some, Result, Ok, Err, if◌then◌else◌}
+use Rattle.std.specs.Prelude.{◌≡◌, ◌⊎◌, ◌==◌, ℕ, nat_eq, nat_lt, Bool, false, List, length, Option, None, Some, is_some, Result, Ok, Err, if◌then◌else◌}
 use Rattle.std.specs.List.{All, flat_map}
+use Rattle.std.specs.Map.{lookup}
 use Rattle.outcome.specs.Outcome.{◌>>=◌, told_as}
 use Rattle.lms_sign.specs.Parameters.{height, lms_type_of, ots_type_of}
 use Rattle.lms_sign.specs.Signing.{PrivateKey, new_key, public_key}
 use Rattle.lms_sign.specs.KeyText.{key_text}
-use Rattle.authenticators.specs.Directory.{keys_at}
+use Rattle.authenticators.specs.Directory.{Listing, keys_at}
 use Rattle.authenticators.specs.DirectoryText.{directory_of}
 use Rattle.replay_verifier.specs.Meaning.{Meaning}
-use Rattle.commitment.specs.declared.message.Ack.{Ack}
 use Rattle.commitment.specs.declared.message.Message.{Message}
-use Rattle.commitment.specs.Nodes.{NodeState, accepts, begins_by, new_node, ticked}
+use Rattle.commitment.specs.Accounts.{acknowledged}
+use Rattle.commitment.specs.Messages.{is_same_message}
+use Rattle.commitment.specs.Nodes.{NodeState, begins_by, new_node, ticked}
+use Rattle.item_forms.specs.declared.forms.AckItem.{AckItem}
 use Rattle.item_forms.specs.declared.forms.Fields.{Fields}
 use Rattle.item_forms.specs.declared.forms.Fields.TheVariants as form
 use Rattle.item_forms.specs.Reading.{item_of}
-use Rattle.item_forms.specs.Spelling.{FitsEntry, entry_spelling}
-use Rattle.evidence_item.specs.Validity.{IsValid}
+use Rattle.item_forms.specs.Spelling.{FitsEntry, entry_spelling, spelling}
+use Rattle.evidence_item.specs.Validity.{IsValid, fault_of}
 use Rattle.evidence_set.specs.Challenges.{Answers}
 use Rattle.challenges.specs.declared.fault.AnswerFault.{AnswerFault}
-use Rattle.challenges.specs.Answers.{IsAnswered, IsRefused}
+use Rattle.challenges.specs.Answers.{IsAnswered, IsRefused, answer_fault}
 use Rattle.byte_calls.specs.declared.refusal.Refusal.{Refusal}
 use Rattle.byte_calls.specs.declared.refusal.Refusal.TheVariants as refusal
 use Rattle.byte_calls.specs.Refusals.{of_answering, of_beginning, of_directory, of_node, of_reading}
@@ -74,34 +77,72 @@ log_text n = flat_map entry_spelling n.account.entries
 abbrev pub RefusesLog : {S : Type 0} → NodeState S → Refusal → Type 0
 RefusesLog n f = (f ≡ refusal.Memory) ⊎ ((f ≡ refusal.TooLong) × ¬ (All FitsEntry n.account.entries))
 
--- The acknowledgement that an item holds.
-abbrev pub ack_in : Fields → Result Ack Refusal
+-- The acknowledgement that an item is.
+abbrev pub ack_in : Fields → Result AckItem Refusal
 ack_in (form.Auth a) = Err refusal.BadTag
 ack_in (form.Segment s) = Err refusal.BadTag
 ack_in (form.Audit c) = Err refusal.BadTag
 ack_in (form.Send m) = Err refusal.BadTag
-ack_in (form.Ack a) = Ok (record { from = a.message.to; send_seq = a.message.seq; seq = a.seq; prev = a.prev; sig = a.sig })
+ack_in (form.Ack a) = Ok a
+
+-- The same, where the item is evidence under the directory, as a store takes it.
+abbrev pub evident : Listing → AckItem → Result AckItem Refusal
+evident ds a = if is_some (fault_of ds (form.Ack a)) then Err refusal.BadAck else Ok a
+
+unfoldable pub evident_in : Listing → Fields → Result AckItem Refusal
+evident_in ds x = do
+  a ← ack_in x
+  evident ds a
+
+-- The acknowledgement that the item of a text is, where it is evidence.
+unfoldable pub evident_ack : Listing → List ℕ → Result AckItem Refusal
+evident_ack ds text = do
+  x ← told_as of_reading (item_of text)
+  evident_in ds x
+
+-- What the node sent with the message's number is this message, byte by byte.
+abbrev pub is_as_sent : Message → Option Message → Bool
+is_as_sent m None = false
+is_as_sent m (Some sent) = is_same_message sent m
+
+abbrev pub is_sent : {S : Type 0} → NodeState S → Message → Bool
+is_sent n m = is_as_sent m (lookup (nat_eq m.seq) n.account.sent)
+
+-- The node once the message with this number waits no longer.
+abbrev pub answered_by : {S : Type 0} → NodeState S → ℕ → NodeState S
+answered_by n seq = record { directory = n.directory; account = acknowledged n.account seq; state = n.state }
 
 -- The node once the acknowledgement of a text is accepted.
 unfoldable pub accepted : {S : Type 0} → NodeState S → List ℕ → Result (NodeState S) Refusal
 accepted n text = do
-  item ← told_as of_reading (item_of text)
-  ack ← ack_in item
-  told_as of_node (accepts n ack)
+  a ← evident_ack n.directory text
+  if is_sent n a.message then Ok (answered_by n a.message.seq) else Err refusal.BadAck
 
--- A valid challenge was answered: by a valid item that answers it, and as the node answers.
+-- The text is that of an acknowledgement that a store of the same directory takes, and its message is one that the node sent.
+pub record AcknowledgesSent {S : Type 0} (n : NodeState S) (text : List ℕ) : Type 0 where
+  pub item : AckItem
+  pub spelled : text ≡ spelling (form.Ack item)
+  pub valid : IsValid n.directory (form.Ack item)
+  pub sent : lookup (nat_eq item.message.seq) n.account.sent ≡ Some item.message
+
+-- A valid challenge without a fault was answered: by a valid item that answers it, and as the node answers.
 pub record Replies {S : Type 0} (program : Meaning S) (challenge entropy : List ℕ) (item : Fields) (old new : NodeState S) : Type 0 where
   pub asked : Fields
   pub bytes : List ℕ
   pub sent : List Message
   pub is_asked : valid_item_of old.directory challenge ≡ Ok asked
   pub are_bytes : of_length 32 entropy ≡ Ok bytes
+  pub allowed : answer_fault old.account.me old.account.entries asked ≡ None
   pub valid : IsValid old.directory item
   pub answers : Answers old.directory asked item
   pub done : IsAnswered program old asked bytes new item sent
 
--- Why the challenge of a text is not answered: for the entropy's length, for the text or its item, or as a node refuses.
+-- Why a node does not answer the valid challenge of a text.
+abbrev pub RefusesAsked : {S : Type 0} → Meaning S → List ℕ → List ℕ → NodeState S → Refusal → Type 0
+RefusesAsked program challenge bytes n f =
+    (asked : Fields) × (e : AnswerFault) × (valid_item_of n.directory challenge ≡ Ok asked) × IsRefused program n asked bytes e × (f ≡ of_answering e)
+
+-- Why the challenge of a text is not answered: for the entropy's length; else for the text or its item; else as a node refuses.
 abbrev pub RefusesReply : {S : Type 0} → Meaning S → List ℕ → List ℕ → NodeState S → Refusal → Type 0
 RefusesReply program challenge entropy n f =
-    (of_length 32 entropy ≡ Err f) ⊎ (valid_item_of n.directory challenge ≡ Err f)
-    ⊎ ((asked : Fields) × (bytes : List ℕ) × (e : AnswerFault) × (valid_item_of n.directory challenge ≡ Ok asked) × (of_length 32 entropy ≡ Ok bytes) × IsRefused program n asked bytes e × (f ≡ of_answering e))
+    (of_length 32 entropy ≡ Err f) ⊎ ((bytes : List ℕ) × (of_length 32 entropy ≡ Ok bytes) × ((valid_item_of n.directory challenge ≡ Err f) ⊎ RefusesAsked program challenge bytes n f))

@@ -1,43 +1,89 @@
-//! Explanations, as texts for a person to read. No contract speaks of their sentences.
+//! Explanations, as texts for a person to read: under what the verdict is given, and what it is. Of the sentences contracts say how those of
+//! an exposed node begin.
 
-ghost use Rattle.std.specs.Prelude.{◌≡◌, ◌⊎◌, ℕ, IfErr, IfOk, Ok, Err};
+ghost use Rattle.std.specs.Prelude.{◌≡◌, ◌⊎◌, ◌++◌, IfErr, IfOk, OnOk, Err};
+ghost use Rattle.sentences.specs.Texts.{text_of};
 ghost use Rattle.byte_calls.specs.declared.refusal.Refusal.TheVariants.{Memory};
 ghost use Rattle.byte_calls.specs.Checks.{Check};
-ghost use Rattle.byte_calls.specs.Explanations.{TellsOf, TellsOfAll};
+ghost use Rattle.byte_calls.specs.Explanations.{TellsOfAll, TellsOfProof, basis_text, sum_of};
 
 use crate::checking::read_proof;
 use crate::refusal::Refusal;
 use evidence::Evidence;
-use explanations::{PlainVoice, explain_proof, explain_store, text_of};
+use explanations::{Explanation, PlainVoice, explain_proof, explain_store, text_of};
 use replay_verifier::Program;
-use std::alloc::Global;
+use sha2::{Digest, Sha256};
+use std::alloc::{AllocError, Global};
 
-/// What the items say of each node that the directory lists, and why.
-pub fn store<P: Program, S: Evidence<P>>(
-    alloc: Global,
-    program: &P,
-    store: &S,
-) -> Result<Vec<u8>, Refusal>
-    ensures told { IfOk result (λ text. TellsOfAll P.means (S.contents store.now) text.items) }
-    ensures refused { IfErr result (λ f. f ≡ Memory) }
+/// The SHA-256 of a text, in lower-case digits.
+pub fn sum_of(text: &[u8]) -> [u8; 64]
+    ensures { result ≡ sum_of text.now }
 {
-    let explanation = explain_store::<P, S, PlainVoice>(alloc, program, &PlainVoice, store)?;
-    let text = text_of(alloc, &explanation)?;
+    let mut sum = [0u8; 64];
+    let Ok(()) = hex::encode_to_slice(Sha256::digest(text), &mut sum) else {
+        unreachable!();
+    };
+    sum
+}
+
+/// Writes under what a verdict is given: the program's name and the sum of the directory's text, a line each.
+fn put_basis(text: &mut Vec<u8>, name: &str, directory: &[u8; 64]) -> Result<(), AllocError>
+    ensures { OnOk result (text.new.items ≡ text.old.items ++ basis_text name.now directory.now) }
+{
+    text.extend_from_slice(b"program ")?;
+    text.extend_from_slice(name.as_bytes())?;
+    text.extend_from_slice(b"\ndirectory ")?;
+    text.extend_from_slice(directory)?;
+    text.extend_from_slice(b"\n")
+}
+
+/// The text of an explanation behind these two lines.
+fn told_text(
+    alloc: Global,
+    name: &str,
+    directory: &[u8; 64],
+    explanation: &Explanation,
+) -> Result<Vec<u8>, AllocError>
+    ensures { IfOk result (λ text. text.items ≡ basis_text name.now directory.now ++ text_of explanation.now) }
+{
+    let mut text = Vec::new(alloc);
+    put_basis(&mut text, name, directory)?;
+    let told = text_of(alloc, explanation)?;
+    text.extend_from_slice(&told)?;
     Ok(text)
 }
 
-/// Whom a proof convicts, and why; the directory and the proof are given by their texts. Refused as [`check_proof`](crate::check_proof) is.
+/// What the items say of each node that the directory lists, and why; before it the program's name and the sum of the directory's text,
+/// which are handed in.
+pub fn store<P: Program, S: Evidence<P>>(
+    alloc: Global,
+    program: &P,
+    name: &str,
+    directory: &[u8; 64],
+    store: &S,
+) -> Result<Vec<u8>, Refusal>
+    ensures told { IfOk result (λ text. TellsOfAll P.means name.now directory.now (S.contents store.now) text.items) }
+    ensures refused { IfErr result (λ f. f ≡ Memory) }
+{
+    let explanation = explain_store::<P, S, PlainVoice>(alloc, program, &PlainVoice, store)?;
+    let text = told_text(alloc, name, directory, &explanation)?;
+    Ok(text)
+}
+
+/// Whom a proof convicts, and why; before it the program's name, which is handed in, and the sum of the directory's text. The directory and
+/// the proof are given by their texts. Refused as [`check_proof`](crate::check_proof) is.
 pub fn proof<P: Program>(
     alloc: Global,
     program: &P,
+    name: &str,
     directory: &[u8],
     proof: &[u8],
 ) -> Result<Vec<u8>, Refusal>
-    ensures told { IfOk result (λ text. (node : ℕ) × Check P.means directory.now proof.now (Ok node) × TellsOf node text.items) }
+    ensures told { IfOk result (λ text. TellsOfProof P.means name.now directory.now proof.now text.items) }
     ensures refused { IfErr result (λ f. (f ≡ Memory) ⊎ Check P.means directory.now proof.now (Err f)) }
 {
-    let (directory, proof) = read_proof(alloc, directory, proof)?;
-    let conviction = explain_proof(alloc, program, &PlainVoice, &directory, &proof)?;
-    let text = text_of(alloc, &conviction.explanation)?;
+    let (read, parts) = read_proof(alloc, directory, proof)?;
+    let conviction = explain_proof(alloc, program, &PlainVoice, &read, &parts)?;
+    let text = told_text(alloc, name, &sum_of(directory), &conviction.explanation)?;
     Ok(text)
 }

@@ -4,6 +4,7 @@
 //! - [`check_proof`] tells whom a proof convicts.
 //! - [`stores`] has what a store of evidence is handed and asked, [`transfers`] what stores give one another, and [`nodes`] what a
 //!   node is handed and answers. Each call is generic in the program that nodes follow, and in the store.
+//! - [`items`] makes of items the statements that they hold, and challenges.
 //! - [`explaining`] tells in sentences what a store says of its nodes, or whom a proof convicts, and why.
 //! - [`Refusal`] is why a call is refused.
 //!
@@ -15,6 +16,7 @@ pub use refusal::Refusal;
 
 mod checking;
 pub mod explaining;
+pub mod items;
 pub mod nodes;
 mod refusal;
 pub mod stores;

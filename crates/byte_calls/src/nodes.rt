@@ -7,23 +7,25 @@ ghost use Rattle.outcome.specs.Outcome.{Fails, Gives, Leaves, told_as};
 ghost use Rattle.evidence_item.specs.Checking.{IsChecked};
 ghost use Rattle.evidence_item.specs.Validity.{IsValid};
 ghost use Rattle.evidence_set.specs.Challenges.{Answers};
-ghost use Rattle.challenges.specs.Answers.{IsAnswered, IsRefused};
+ghost use Rattle.challenges.specs.Answers.{IsAnswered, IsRefused, answer_fault};
 ghost use Rattle.challenges.specs.declared.fault.AnswerFault.{AnswerFault as TheAnswerFault};
 ghost use Rattle.item_forms.specs.declared.forms.Fields.TheVariants as form;
 ghost use Rattle.item_forms.specs.Spelling.{Fits, FitsEntry, entry_spelling, spelling};
 ghost use Rattle.commitment.specs.declared.message.Message.{Message as TheMessage};
+ghost use Rattle.commitment.specs.Messages.{is_same_message};
 ghost use Rattle.commitment.specs.Nodes.{checkpointed, rekeyed};
 ghost use Rattle.byte_calls.specs.declared.refusal.Refusal.TheVariants.{Memory, OutOfRange, TooLong, WrongKey};
-ghost use Rattle.byte_calls.specs.Nodes.{Replies, RefusesLog, RefusesReply, accepted, ack_in, begun, key_of, key_text_of, known, log_text, of_length, ticked_by};
+ghost use Rattle.byte_calls.specs.Nodes.{AcknowledgesSent, Replies, RefusesLog, RefusesReply, accepted, ack_in, begun, evident_ack, evident_in, is_sent, key_of, key_text_of, known, log_text, of_length, ticked_by};
 ghost use Rattle.byte_calls.specs.Refusals.{of_answering, of_node};
 
 use crate::refusal::Refusal;
 use crate::stores::read_item;
+use authenticators::laws::the_test_is_signed;
 use authenticators::{Directory, NodeId};
 use challenges::answer as answer_challenge;
-use commitment::{Ack, Node};
-use evidence_item::Checked;
-use item_forms::{AckItem, Fields, Item, write_entry};
+use commitment::{Ack, Message, Node};
+use evidence_item::{Checked, check_item};
+use item_forms::{AckItem, Fields, Form, Item, write_entry};
 use lms_sign::{LmsType, OtsType, SecretKey};
 use log_chain::laws::bytes_fit;
 use log_chain::{Entry, FieldWriter, LONGEST_CONTENT};
@@ -166,7 +168,7 @@ pub fn message<P: Program + Drop>(
     node: &Node<P>,
     seq: u64,
 ) -> Result<Vec<u8>, Refusal>
-    ensures text { IfOk result (λ text. (m : TheMessage) × (lookup (nat_eq seq) node.now.account.sent ≡ Some m) × (text.items ≡ spelling (form.Send m))) }
+    ensures text { IfOk result (λ text. (m : TheMessage) × (lookup (nat_eq seq) node.now.account.sent ≡ Some m) × Fits (form.Send m) × (text.items ≡ spelling (form.Send m))) }
     ensures refused { IfErr result (λ f. (f ≡ Memory) ⊎ ((f ≡ OutOfRange) × (lookup (nat_eq seq) node.now.account.sent ≡ None)) ⊎ ((f ≡ TooLong) × ((m : TheMessage) × (lookup (nat_eq seq) node.now.account.sent ≡ Some m) × ¬ (Fits (form.Send m))))) }
 {
     let Some(message) = node.message(seq) else {
@@ -228,6 +230,7 @@ fn reply<P: Program + Drop>(
     ensures done { IfOk result (λ item. (sent : List TheMessage) × IsAnswered P.means node.old challenge.now.item.fields entropy node.new item.fields sent) }
     ensures valid { IfOk result (λ item. IsValid node.old.directory item.fields) }
     ensures answers { IfOk result (λ item. Answers node.old.directory challenge.now.item.fields item.fields) }
+    ensures allowed { OnOk result (answer_fault node.old.account.me node.old.account.entries challenge.now.item.fields ≡ None) }
     ensures refused { IfErr result (λ f. (e : TheAnswerFault) × IsRefused P.means node.old challenge.now.item.fields entropy e × (f ≡ of_answering e)) }
     ensures unchanged { OnErr result (node.new ≡ node.old) }
 {
@@ -256,40 +259,110 @@ pub fn answer<P: Program + Drop>(
     reply(alloc, node, &checked, entropy)
 }
 
-/// The acknowledgement that an item holds.
-fn ack_of(item: Item) -> Result<Ack, Refusal>
+// ---- acknowledgements
+
+/// The acknowledgement that an item is.
+fn ack_of(item: Item) -> Result<AckItem, Refusal>
     ensures { Gives Memory (λ ack. ack) result (ack_in item.fields) }
 {
-    let Fields::Ack(item) = item.into_fields() else {
+    let Fields::Ack(ack) = item.into_fields() else {
         return Err(Refusal::BadTag);
     };
+    Ok(ack)
+}
+
+/// The same, where the item is evidence under the directory.
+#[tactic(auto, unfolding(crate::specs::Nodes::evident_in))]
+fn evident<P: Program>(
+    alloc: Global,
+    program: &P,
+    directory: &Directory,
+    item: Item,
+) -> Result<AckItem, Refusal>
+    ensures exact { Gives Memory (λ ack. ack) result (evident_in directory.now item.fields) }
+    ensures valid { IfOk result (λ ack. IsValid directory.now (form.Ack ack)) }
+{
+    let Form::Ack(_) = item.form() else {
+        return Err(Refusal::BadTag);
+    };
+    let Ok(checked) = check_item(alloc, program, directory, item) else {
+        return Err(Refusal::BadAck);
+    };
+    ack_of(checked.into_item())
+}
+
+/// The acknowledgement of a text, where it is evidence under the directory.
+#[tactic(auto, unfolding(crate::specs::Nodes::evident_ack))]
+fn read_ack<P: Program>(
+    alloc: Global,
+    program: &P,
+    directory: &Directory,
+    text: &[u8],
+) -> Result<AckItem, Refusal>
+    ensures exact { Gives Memory (λ ack. ack) result (evident_ack directory.now text.now) }
+    ensures valid { IfOk result (λ ack. IsValid directory.now (form.Ack ack)) }
+    ensures spelled { IfOk result (λ ack. text.now ≡ spelling (form.Ack ack)) }
+{
+    let item = Item::decode(alloc, text)?;
+    evident(alloc, program, directory, item)
+}
+
+/// Whether the two messages are the same in all six fields.
+fn is_same(one: &Message, other: &Message) -> bool
+    ensures { result ≡ is_same_message one.now other.now }
+{
+    one.from == other.from
+        && one.to == other.to
+        && one.seq == other.seq
+        && one.prev == other.prev
+        && one.sig == other.sig
+        && one.payload == other.payload
+}
+
+/// Whether the node sent this very message.
+fn is_sent<P: Program + Drop>(node: &Node<P>, message: &Message) -> bool
+    ensures { result ≡ is_sent node.now message.now }
+{
+    match node.message(message.seq) {
+        None => false,
+        Some(sent) => is_same(sent, message),
+    }
+}
+
+/// Accepts the acknowledgement of a text: its message waits no longer. It is refused as the text is (40 to 43), with `BadTag` (41) where
+/// it is another item, and with `BadAck` (38) where it is no evidence under the node's directory, or its message is not, byte by byte, one
+/// that the node sent.
+#[tactic(auto, unfolding(crate::specs::Nodes::accepted))]
+pub fn accept<P: Program + Drop>(
+    alloc: Global,
+    node: &mut Node<P>,
+    program: &P,
+    ack: &[u8],
+) -> Result<(), Refusal>
+    ensures exact { Leaves Memory result node.old node.new (accepted node.old ack.now) }
+    // A store under the same directory takes what is accepted.
+    ensures evidence { OnOk result (AcknowledgesSent node.old ack.now) }
+{
+    the_test_is_signed();
+    let item = read_ack(alloc, program, node.directory(), ack)?;
+    if !is_sent(node, &item.message) {
+        return Err(Refusal::BadAck);
+    }
     let AckItem {
         message,
         seq,
         prev,
         sig,
     } = item;
-    Ok(Ack {
+    let ack = Ack {
         from: message.to,
         send_seq: message.seq,
         seq,
         prev,
         sig,
-    })
-}
-
-/// Accepts the acknowledgement of a text: its message waits no longer. It is refused as the text is (40 to 43), with `BadTag` (41) where
-/// it is another item, and with `BadAck` (38).
-#[tactic(auto, unfolding(crate::specs::Nodes::accepted))]
-pub fn accept<P: Program + Drop>(
-    alloc: Global,
-    node: &mut Node<P>,
-    ack: &[u8],
-) -> Result<(), Refusal>
-    ensures { Leaves Memory result node.old node.new (accepted node.old ack.now) }
-{
-    let item = Item::decode(alloc, ack)?;
-    let ack = ack_of(item)?;
-    node.accept_ack(&ack)?;
-    Ok(())
+    };
+    match node.accept_ack(&ack) {
+        Ok(()) => Ok(()),
+        Err(fault) => Err(Refusal::from(fault)),
+    }
 }

@@ -1,6 +1,6 @@
 //! Stores of evidence: what is handed to them, and what they answer, as bytes and numbers.
 
-ghost use Rattle.std.specs.Prelude.{◌≡◌, ◌+◌, ◌⊎◌, ◌↔◌, false, IfErr, IfOk, IfSome, IsSome, OnErr, OnOk, map};
+ghost use Rattle.std.specs.Prelude.{◌≡◌, ◌+◌, ◌⊎◌, ◌↔◌, false, true, IfErr, IfOk, IfSome, IsSome, OnErr, OnOk, map};
 ghost use Rattle.outcome.specs.Outcome.{Fails, Gives, told_as};
 ghost use Rattle.authenticators.specs.Directory.{is_listed};
 ghost use Rattle.proofs.specs.Cases.{Case};
@@ -56,6 +56,7 @@ pub fn import<P: Program, S: Evidence<P>>(
 pub fn merge<P: Program, S: Evidence<P>>(store: &mut S, other: &S) -> Result<u64, Refusal>
     ensures told { IfOk result (λ new. count (S.contents store.old).items + new ≡ count (S.contents store.new).items) }
     ensures joined { OnOk result (S.contents store.new ≡ with_items (S.contents store.old) (Join (S.contents store.old).items (S.contents other.now).items)) }
+    ensures allowed { OnOk result ((S.contents store.old).directory ≡ (S.contents other.now).directory) }
     ensures refused { IfErr result (λ f. (f ≡ Memory) ⊎ ((f ≡ OtherDirectory) × ((S.contents store.old).directory ≡ (S.contents other.now).directory → ⊥))) }
     ensures unchanged { OnErr result (S.contents store.new ≡ S.contents store.old) }
 {
@@ -69,6 +70,7 @@ pub fn merge<P: Program, S: Evidence<P>>(store: &mut S, other: &S) -> Result<u64
 /// What the items say of the node. `UnknownNode` (44) where the directory does not list it.
 pub fn indication<P: Program, S: Evidence<P>>(store: &S, node: u32) -> Result<Indication, Refusal>
     ensures told { IfOk result (λ i. IsIndication (S.contents store.now).directory P.means (S.contents store.now).items node i) }
+    ensures listed { OnOk result (is_listed (S.contents store.now).directory node ≡ true) }
     ensures refused { IfErr result (λ f. (f ≡ UnknownNode) × (is_listed (S.contents store.now).directory node ≡ false)) }
 {
     let indication = store.indication(NodeId(node))?;
@@ -79,6 +81,7 @@ pub fn indication<P: Program, S: Evidence<P>>(store: &S, node: u32) -> Result<In
 fn found_proof<P: Program, S: Evidence<P>>(store: &S, node: u32) -> Result<Option<Proof>, Refusal>
     ensures some { IfOk result (λ p. IsSome p ↔ IsExposed (S.contents store.now).directory P.means (S.contents store.now).items node) }
     ensures convicts { IfOk result (λ p. IfSome p (λ q. Convicts (S.contents store.now).directory P.means node q.parts)) }
+    ensures listed { OnOk result (is_listed (S.contents store.now).directory node ≡ true) }
     ensures refused { IfErr result (λ f. (f ≡ Memory) ⊎ ((f ≡ UnknownNode) × (is_listed (S.contents store.now).directory node ≡ false))) }
 {
     match store.proof(NodeId(node)) {
@@ -95,6 +98,7 @@ pub fn proof<P: Program, S: Evidence<P>>(
     node: u32,
 ) -> Result<Option<Vec<u8>>, Refusal>
     ensures some { IfOk result (λ found. IsSome found ↔ IsExposed (S.contents store.now).directory P.means (S.contents store.now).items node) }
+    ensures listed { OnOk result (is_listed (S.contents store.now).directory node ≡ true) }
     ensures refused { IfErr result (λ f. (f ≡ Memory) ⊎ ((f ≡ UnknownNode) × (is_listed (S.contents store.now).directory node ≡ false))) }
     ensures convicts { IfOk result (λ found. IfSome found (λ text. (c : Case) × (text.items ≡ proof_text c.parts) × Convicts (S.contents store.now).directory P.means node c.parts)) }
 {
@@ -110,6 +114,7 @@ pub fn proof<P: Program, S: Evidence<P>>(
 /// The challenges against the node that no item answers.
 fn unanswered<P: Program, S: Evidence<P>>(store: &S, node: u32) -> Result<Vec<&Item>, Refusal>
     ensures all { IfOk result (λ found. AreUnanswered (S.contents store.now) node (map (λ i. i.now) found.items)) }
+    ensures listed { OnOk result (is_listed (S.contents store.now).directory node ≡ true) }
     ensures refused { IfErr result (λ f. (f ≡ Memory) ⊎ ((f ≡ UnknownNode) × (is_listed (S.contents store.now).directory node ≡ false))) }
 {
     match store.open_challenges(NodeId(node)) {
@@ -128,7 +133,8 @@ pub fn challenge<P: Program, S: Evidence<P>>(
     place: usize,
 ) -> Result<Vec<u8>, Refusal>
     ensures text { IfOk result (λ text. IsUnansweredAt (S.contents store.now) node place text.items) }
-    ensures refused { IfErr result (λ f. (f ≡ Memory) ⊎ ((f ≡ UnknownNode) × (is_listed (S.contents store.now).directory node ≡ false)) ⊎ ((f ≡ OutOfRange) × AreFewer (S.contents store.now) node place)) }
+    ensures listed { OnOk result (is_listed (S.contents store.now).directory node ≡ true) }
+    ensures refused { IfErr result (λ f. (f ≡ Memory) ⊎ ((f ≡ UnknownNode) × (is_listed (S.contents store.now).directory node ≡ false)) ⊎ ((f ≡ OutOfRange) × (is_listed (S.contents store.now).directory node ≡ true) × AreFewer (S.contents store.now) node place)) }
 {
     let found = unanswered(store, node)?;
     match found.get(place) {

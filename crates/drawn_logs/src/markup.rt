@@ -1,5 +1,7 @@
 //! Elements in short.
 
+ghost use Rattle.std.specs.Prelude.{◌≡◌, ◌++◌, ℕ, List, OnOk};
+
 use page_text::Piece::{self, Close, End, Inside, Line, Number, Open, Set, Text};
 use page_text::{Attribute, Page, Tag};
 use std::alloc::AllocError;
@@ -62,7 +64,10 @@ pub fn count(
 }
 
 /// Begins a section with a heading that it is named by.
-pub fn begin_section<'a>(page: &mut Page, id: &'a str, heading: &'a str) -> Result<(), AllocError> {
+pub fn begin_section<'a>(page: &mut Page, id: &'a str, heading: &'a str) -> Result<(), AllocError>
+    // What was written stays.
+    ensures { OnOk result ((more : List ℕ) × (page.new ≡ page.old ++ more)) }
+{
     page.write(&[
         Open(Tag::Section),
         Set(Attribute::AriaLabelledby),
@@ -78,5 +83,6 @@ pub fn begin_section<'a>(page: &mut Page, id: &'a str, heading: &'a str) -> Resu
         Text(heading.as_bytes()),
         Close(Tag::H2),
         Line,
-    ])
+    ])?;
+    Ok(())
 }

@@ -1,5 +1,5 @@
 -- What is written of an input, for a person to read, or its refusal. The words are those of the commands, `commands/specs/Output.antt`.
-use Rattle.std.specs.Prelude.{◌≡◌, ℕ, List, [], ◌∷◌, map, Bool, false, true, Result, Ok, Err}
+use Rattle.std.specs.Prelude.{◌≡◌, ℕ, List, [], ◌∷◌, ◌++◌, string_bytes, Bool, false, true, Result, Ok, Err}
 use Rattle.std.specs.Result.{IsOk}
 use Rattle.outcome.specs.Outcome.{◌>>=◌, told_as}
 use Rattle.authenticators.specs.Directory.{Listing}
@@ -7,14 +7,21 @@ use Rattle.authenticators.specs.DirectoryText.{directory_of}
 use Rattle.replay_verifier.specs.Meaning.{Meaning}
 use Rattle.page_text.specs.Pages.{IsPage}
 use Rattle.proofs.specs.Convicting.{Convicts}
-use Rattle.evidence_set.specs.declared.indication.Indication.TheVariants.{Exposed}
+use Rattle.sha2.specs.Sha256.{sha256}
+use Rattle.evidence_set.specs.Exports.{export_of}
 use Rattle.evidence.specs.Contents.{Contents}
+use Rattle.proofs.specs.declared.proof.Parts.{Parts}
+use Rattle.sentences.specs.declared.basis.Basis.{Basis}
 use Rattle.sentences.specs.declared.explanation.Explanation.{Explanation}
-use Rattle.sentences.specs.Texts.{EndsWith, text_of}
-use Rattle.explanations.specs.Whys.{IsExplained, told_of}
+use Rattle.sentences.specs.declared.site.Input.{Input}
+use Rattle.sentences.specs.declared.site.Input.TheVariants as kind
+use Rattle.sentences.specs.Bases.{basis_text}
+use Rattle.sentences.specs.Texts.{text_of}
+use Rattle.explanations.specs.Whys.{ExplainsParts, ExplainsSet, IsExplained}
+use Rattle.explanation_pages.specs.Shown.{IsPageOf}
 use Rattle.commands.specs.declared.fault.Fault.{Fault}
 use Rattle.commands.specs.declared.fault.Fault.TheVariants.{LineCount}
-use Rattle.commands.specs.HexLines.{all_texts_of, bytes_of, first_and_others, lines_of}
+use Rattle.commands.specs.HexLines.{all_texts_of, bytes_of, first_and_others, lines_of, two_texts_of}
 use Rattle.commands.specs.Inputs.{IsEvidence, Parsed, Presented, evidence_of, presented_of}
 use Rattle.commands.specs.Output.{Check}
 use Rattle.commands.specs.Refusals.{of_directory}
@@ -54,35 +61,86 @@ listed_of input = do
   text ← bytes_of lines.0
   told_as of_directory (directory_of text)
 
+-- ---- under what it is judged
+
+-- The basis names the program, and has the SHA-256 of the directory's text and of what was judged.
+pub record IsBasis (name listing : List ℕ) (form : Input) (judged : List ℕ) (b : Basis) : Type 0 where
+  pub program : string_bytes b.program ≡ name
+  pub directory : b.directory ≡ sha256 listing
+  pub input : b.input ≡ form
+  pub evidence : b.evidence ≡ sha256 judged
+
+-- Of stores, one is judged by its own text, and of several the text of their union.
+abbrev pub IsBasisOfStores : List ℕ → List ℕ → List (List ℕ) → Contents → Basis → Type 0
+IsBasisOfStores name directory (store ∷ []) s b = IsBasis name directory kind.Store store b
+IsBasisOfStores name directory [] s b = IsBasis name directory kind.Union (export_of s.items) b
+IsBasisOfStores name directory (store ∷ other ∷ more) s b = IsBasis name directory kind.Union (export_of s.items) b
+
+-- The lines of an input are a directory and stores, under the basis of which the items are judged.
+pub record AreUnder (name input : List ℕ) (s : Contents) (b : Basis) : Type 0 where
+  pub directory : List ℕ
+  pub stores : List (List ℕ)
+  pub lines : some_texts_of input ≡ Ok (directory, stores)
+  pub basis : IsBasisOfStores name directory stores s b
+
 -- ---- what is written of what was read
 
--- Of evidence: an explanation of it, or a page.
-pub record ExplainsStore {S : Type 0} (is_page : Bool) (program : Meaning S) (s : Contents) (text : List ℕ) : Type 0 where
-  pub says : is_page ≡ false → IsExplained program s text
-  pub page : is_page ≡ true → IsPage text
-
--- The text ends with what is told of the node alone, and that it is exposed.
-pub record TellsOf (node : ℕ) (text : List ℕ) : Type 0 where
+-- Of evidence: a page of what is told of it under a basis.
+pub record PagesStore {S : Type 0} (program : Meaning S) (basis : Basis) (s : Contents) (text : List ℕ) : Type 0 where
   pub explanation : Explanation
-  pub ends : EndsWith text (text_of explanation)
-  pub exposed : map told_of explanation.nodes.items ≡ (node, Exposed) ∷ []
+  pub told : ExplainsSet program s explanation
+  pub page : IsPageOf basis explanation text
 
--- Of a proof that convicts a node: a text that tells of it, or a page.
-pub record ExplainsProof (is_page : Bool) (node : ℕ) (text : List ℕ) : Type 0 where
-  pub says : is_page ≡ false → TellsOf node text
-  pub page : is_page ≡ true → IsPage text
+-- Of evidence: an explanation of it under a basis, or a page.
+pub record ExplainsStore {S : Type 0} (is_page : Bool) (program : Meaning S) (basis : Basis) (s : Contents) (text : List ℕ) : Type 0 where
+  pub says : is_page ≡ false → IsExplained program basis s text
+  pub page : is_page ≡ true → PagesStore program basis s text
+
+-- Of a proof of these parts, which convict the node: a text, or a page.
+pub record TellsProof (node : ℕ) (x : Parts) (basis : Basis) (text : List ℕ) : Type 0 where
+  pub explanation : Explanation
+  pub told : ExplainsParts node x explanation
+  pub is : text ≡ basis_text basis ++ text_of explanation
+
+pub record PagesProof (node : ℕ) (x : Parts) (basis : Basis) (text : List ℕ) : Type 0 where
+  pub explanation : Explanation
+  pub told : ExplainsParts node x explanation
+  pub page : IsPageOf basis explanation text
+
+pub record ExplainsProof (is_page : Bool) (node : ℕ) (x : Parts) (basis : Basis) (text : List ℕ) : Type 0 where
+  pub says : is_page ≡ false → TellsProof node x basis text
+  pub page : is_page ≡ true → PagesProof node x basis text
 
 -- ---- what is written of an input
 
--- Of stores, or their refusal: that of the lines, of the directory, or of the first store that is refused.
-abbrev pub ExplainStores : {S : Type 0} → Bool → Meaning S → List ℕ → Result (List ℕ) Fault → Type 0
-ExplainStores is_page program input (Ok text) = (s : Contents) × IsEvidence (some_stores_of input) s × ExplainsStore is_page program s text
-ExplainStores is_page program input (Err f) = some_stores_of input ≡ Err f
+-- Of stores, under the basis of what was read; or their refusal: that of the lines, of the directory, or of the first store that is refused.
+pub record ExplainsLines {S : Type 0} (is_page : Bool) (name : List ℕ) (program : Meaning S) (input text : List ℕ) : Type 0 where
+  pub contents : Contents
+  pub evidence : IsEvidence (some_stores_of input) contents
+  pub basis : Basis
+  pub under : AreUnder name input contents basis
+  pub explains : ExplainsStore is_page program basis contents text
 
--- Of a proof, which is refused as `check` refuses it.
-abbrev pub ExplainProof : {S : Type 0} → Bool → Meaning S → List ℕ → Result (List ℕ) Fault → Type 0
-ExplainProof is_page program input (Ok text) = (p : Presented) × (node : ℕ) × (presented_of input ≡ Ok p) × Convicts p.directory program node p.parts × ExplainsProof is_page node text
-ExplainProof is_page program input (Err f) = Check program input (Err f)
+abbrev pub ExplainStores : {S : Type 0} → Bool → List ℕ → Meaning S → List ℕ → Result (List ℕ) Fault → Type 0
+ExplainStores is_page name program input (Ok text) = ExplainsLines is_page name program input text
+ExplainStores is_page name program input (Err f) = some_stores_of input ≡ Err f
+
+-- Of a proof, under the basis of what was read; or its refusal, as `check` refuses it.
+pub record ExplainsTwoLines {S : Type 0} (is_page : Bool) (name : List ℕ) (program : Meaning S) (input text : List ℕ) : Type 0 where
+  pub presented : Presented
+  pub reads : presented_of input ≡ Ok presented
+  pub node : ℕ
+  pub convicts : Convicts presented.directory program node presented.parts
+  pub directory : List ℕ
+  pub proof : List ℕ
+  pub lines : two_texts_of input ≡ Ok (directory, proof)
+  pub basis : Basis
+  pub under : IsBasis name directory kind.Proof proof basis
+  pub explains : ExplainsProof is_page node presented.parts basis text
+
+abbrev pub ExplainProof : {S : Type 0} → Bool → List ℕ → Meaning S → List ℕ → Result (List ℕ) Fault → Type 0
+ExplainProof is_page name program input (Ok text) = ExplainsTwoLines is_page name program input text
+ExplainProof is_page name program input (Err f) = Check program input (Err f)
 
 -- Of a directory, or its refusal. Of the text nothing is said.
 abbrev pub ExplainDirectory : Bool → List ℕ → Result (List ℕ) Fault → Type 0
@@ -91,11 +149,11 @@ ExplainDirectory is_page input (Err f) = listed_of input ≡ Err f
 
 -- ---- `explain`
 
-abbrev pub ExplainSubject : {S : Type 0} → Subject → Bool → Meaning S → List ℕ → Result (List ℕ) Fault → Type 0
-ExplainSubject subject.Store is_page program = ExplainStores is_page program
-ExplainSubject subject.Proof is_page program = ExplainProof is_page program
-ExplainSubject subject.Directory is_page program = ExplainDirectory is_page
+abbrev pub ExplainSubject : {S : Type 0} → Subject → Bool → List ℕ → Meaning S → List ℕ → Result (List ℕ) Fault → Type 0
+ExplainSubject subject.Store is_page name program = ExplainStores is_page name program
+ExplainSubject subject.Proof is_page name program = ExplainProof is_page name program
+ExplainSubject subject.Directory is_page name program = ExplainDirectory is_page
 
--- What is written of an input, or its refusal.
-abbrev pub Explain : {S : Type 0} → Meaning S → Request → List ℕ → Result (List ℕ) Fault → Type 0
-Explain program request = ExplainSubject request.subject request.html program
+-- What is written of an input, or its refusal, of nodes that are to follow the program of this name.
+abbrev pub Explain : {S : Type 0} → List ℕ → Meaning S → Request → List ℕ → Result (List ℕ) Fault → Type 0
+Explain name program request = ExplainSubject request.subject request.html name program

@@ -21,7 +21,7 @@ fn of_stores<P: Program, V: Voice>(
     is_page: bool,
     input: Vec<u8>,
 ) -> Result<Vec<u8>, Refusal>
-    ensures { Answers (λ text. text.items) (ExplainStores is_page P.means) input.items result }
+    ensures { Answers (λ text. text.items) (ExplainStores is_page followed.now.name.now P.means) input.items result }
 {
     let read: ReadStore<IndexedStore<P>> = read_store(
         alloc,
@@ -46,7 +46,7 @@ fn of_proof<P: Program, V: Voice>(
     is_page: bool,
     input: Vec<u8>,
 ) -> Result<Vec<u8>, Refusal>
-    ensures { Answers (λ text. text.items) (ExplainProof is_page P.means) input.items result }
+    ensures { Answers (λ text. text.items) (ExplainProof is_page followed.now.name.now P.means) input.items result }
 {
     let read = read_proof(alloc, followed.name, input)?;
     let presented = ReadProof {
@@ -78,7 +78,7 @@ pub(crate) fn answer<P: Program, V: Voice>(
     request: Request,
     input: Vec<u8>,
 ) -> Result<Vec<u8>, Refusal>
-    ensures { Answers (λ text. text.items) (Explain P.means request) input.items result }
+    ensures { Answers (λ text. text.items) (Explain followed.now.name.now P.means request) input.items result }
 {
     let is_page = request.html;
     match request.subject {

@@ -34,7 +34,7 @@ pub fn run<P: Program, V: Voice, R: Source, W: Sink>(
     writer: &mut W,
 ) -> Result<(), Refusal>
     requires { HasRoom (R.seen reader.old) (W.seen writer.old) }
-    ensures { Ran (Explain P.means request) (without_place result) (R.seen reader.old) (R.seen reader.new) W.seen writer.old writer.new }
+    ensures { Ran (Explain followed.now.name.now P.means request) (without_place result) (R.seen reader.old) (R.seen reader.new) W.seen writer.old writer.new }
 {
     let input = read_input(alloc, reader, LONGEST_INPUT, MOST_READS)?;
     let text = answer(alloc, followed, request, input)?;

@@ -1,6 +1,6 @@
 //! The engine of `explain`: what a store of evidence, a proof or a directory says, for a person to read, of nodes that follow any program.
 //!
-//! - [`read_words`] reads what is asked for, and [`run`] reads an input and writes what it says. [`told`] tells a [`Refusal`], with its
+//! - [`read_words`] reads what is asked for, and [`run`] reads an input and writes what it says. [`exit_of`] tells a [`Refusal`], with its
 //!   place, and with what stands there.
 //! - An input is what the commands of `node_sim` read: lines of hexadecimal text, of a directory and behind it stores or a proof. Of several
 //!   stores the union is explained.
@@ -12,7 +12,7 @@
 pub use commands::device::{CountedReader, CountedWriter};
 pub use engine::{Followed, run};
 pub use explanations::{PlainVoice, Voice};
-pub use refusal::{Refusal, told};
+pub use refusal::{Refusal, exit_of};
 pub use saying::{ReadProof, listing_text, proof_text, store_text};
 pub use sentences::Shown;
 pub use words::{Asked, Request, Subject, read_words};

@@ -1,17 +1,18 @@
 //! Reading an input: lines of hexadecimal digits, of a directory and behind it stores or a proof.
 
-ghost use Rattle.std.specs.Prelude.{◌≡◌, ◌<◌, ◌^◌, [], IfErr, IsOk, MatchResult, OnOk, map};
+ghost use Rattle.std.specs.Prelude.{◌≡◌, ◌<◌, ◌^◌, [], IfErr, IfOk, IsOk, MatchResult, Ok, OnOk, map};
 ghost use Rattle.outcome.specs.Outcome.{Fails, told_as};
 ghost use Rattle.authenticators.specs.DirectoryText.{directory_of};
-ghost use Rattle.evidence_set.specs.Exports.{AreValid};
+ghost use Rattle.evidence_set.specs.Exports.{AreValid, export_of};
 ghost use Rattle.evidence_set.specs.ItemSets.{count};
 ghost use Rattle.proofs.specs.ProofTexts.{proof_of};
 ghost use Rattle.commands.specs.Adding.{AddsStore};
 ghost use Rattle.commands.specs.HexLines.{bytes_of, each_bytes_after, lines_of, two_texts_of};
 ghost use Rattle.commands.specs.Inputs.{evidence_of, presented_of, store_of};
 ghost use Rattle.commands.specs.Refusals.{of_directory, of_reading};
-ghost use Rattle.explaining.specs.Explained.{listed_of, some_stores_of, some_texts_of};
-ghost use Rattle.explaining.specs.within.Steps.{Holds, IsRefusal, Reads, under};
+ghost use Rattle.sentences.specs.declared.site.Input.TheVariants as kind;
+ghost use Rattle.explaining.specs.Explained.{AreUnder, IsBasis, IsBasisOfStores, listed_of, some_stores_of, some_texts_of};
+ghost use Rattle.explaining.specs.within.Steps.{Holds, IsRefusal, ReadsAs, under};
 
 use crate::place::FaultPlace;
 use crate::refusal::{Refusal, Seen, Wanted};
@@ -33,7 +34,7 @@ use std::alloc::Global;
 
 /// The bytes that a line spells, with digits in either case. The line has this number, from 1.
 fn spelled(alloc: Global, line: &[u8], number: u64) -> Result<Vec<u8>, Refusal>
-    ensures { Reads (λ text. text.items) result (bytes_of line.now) }
+    ensures { ReadsAs (λ text. text.items) result (bytes_of line.now) }
 {
     match bytes_of(alloc, line) {
         Ok(bytes) => Ok(bytes),
@@ -51,7 +52,7 @@ fn spelled(alloc: Global, line: &[u8], number: u64) -> Result<Vec<u8>, Refusal>
 
 /// What each line of a text spells. The first of them has this number.
 fn texts_of(alloc: Global, lines: &[u8], first: u64) -> Result<Vec<Vec<u8>>, Refusal>
-    ensures { Reads (λ texts. map (λ text. text.items) texts.items) result (each_bytes_after [] (lines_of lines.now)) }
+    ensures { ReadsAs (λ texts. map (λ text. text.items) texts.items) result (each_bytes_after [] (lines_of lines.now)) }
 {
     let mut texts = Vec::new(alloc);
     let mut number = first;
@@ -69,7 +70,7 @@ fn texts_of(alloc: Global, lines: &[u8], first: u64) -> Result<Vec<Vec<u8>>, Ref
 
 /// What two lines and more spell: the first, and each other one. The input is freed.
 fn some_texts(alloc: Global, input: Vec<u8>) -> Result<(Vec<u8>, Vec<Vec<u8>>), Refusal>
-    ensures { Reads (λ texts. (texts.0.items, map (λ text. text.items) texts.1.items)) result (some_texts_of input.items) }
+    ensures { ReadsAs (λ texts. (texts.0.items, map (λ text. text.items) texts.1.items)) result (some_texts_of input.items) }
 {
     let Some((first, rest)) = first_line(&input) else {
         return Err(Refusal::of_count(&input, Wanted::Stores));
@@ -85,7 +86,7 @@ fn some_texts(alloc: Global, input: Vec<u8>) -> Result<(Vec<u8>, Vec<Vec<u8>>), 
 /// What two lines spell. The input is freed.
 #[tactic(auto, unfolding(commands::specs::HexLines::two_texts_of))]
 fn two_texts(alloc: Global, input: Vec<u8>) -> Result<(Vec<u8>, Vec<u8>), Refusal>
-    ensures { Reads (λ texts. (texts.0.items, texts.1.items)) result (two_texts_of input.items) }
+    ensures { ReadsAs (λ texts. (texts.0.items, texts.1.items)) result (two_texts_of input.items) }
 {
     let Some((first, rest)) = first_line(&input) else {
         return Err(Refusal::of_count(&input, Wanted::Proof));
@@ -105,7 +106,7 @@ fn two_texts(alloc: Global, input: Vec<u8>) -> Result<(Vec<u8>, Vec<u8>), Refusa
 
 /// The directory that the first line spells.
 fn directory_of(alloc: Global, text: &[u8]) -> Result<Directory, Refusal>
-    ensures { Reads (λ directory. directory) result (told_as of_directory (directory_of text.now)) }
+    ensures { ReadsAs (λ directory. directory) result (told_as of_directory (directory_of text.now)) }
 {
     match Directory::from_bytes(alloc, text) {
         Ok(directory) => Ok(directory),
@@ -188,6 +189,34 @@ fn evidence_of<P: Program, S: Evidence<P>>(
     store_under::<P, S>(alloc, program, directory, stores)
 }
 
+/// Under what a text is judged.
+fn basis_of_text(
+    alloc: Global,
+    name: &str,
+    directory: &[u8],
+    input: Input,
+    text: &[u8],
+) -> Result<Basis, Memory>
+    ensures { IfOk result (λ basis. IsBasis name.now directory.now input text.now basis) }
+{
+    let basis = Basis::of(alloc, name, directory, input, text)?;
+    Ok(basis)
+}
+
+/// Under what the union of stores is judged.
+fn basis_of_union<P: Program, S: Evidence<P>>(
+    alloc: Global,
+    name: &str,
+    directory: &[u8],
+    store: &S,
+) -> Result<Basis, Memory>
+    ensures { IfOk result (λ basis. IsBasis name.now directory.now kind.Union (export_of (S.contents store.now).items) basis) }
+{
+    let union = store.export()?;
+    let basis = basis_of_text(alloc, name, directory, Input::Union, &union)?;
+    Ok(basis)
+}
+
 /// Under what stores are judged: one by its text, of several the text of their union. It is refused memory alone.
 fn basis_of<P: Program, S: Evidence<P>>(
     alloc: Global,
@@ -195,12 +224,17 @@ fn basis_of<P: Program, S: Evidence<P>>(
     directory: &[u8],
     stores: &[Vec<u8>],
     store: &S,
-) -> Result<Basis, Memory> {
+) -> Result<Basis, Memory>
+    ensures { IfOk result (λ basis. IsBasisOfStores name.now directory.now (map (λ text. text.items) stores.now) (S.contents store.now) basis) }
+{
     match stores {
-        [one] => Basis::of(alloc, name, directory, Input::Store, one),
-        _ => {
-            let union = store.export()?;
-            Basis::of(alloc, name, directory, Input::Union, &union)
+        [one] => {
+            let basis = basis_of_text(alloc, name, directory, Input::Store, one)?;
+            Ok(basis)
+        }
+        [] | [_, _, ..] => {
+            let basis = basis_of_union::<P, S>(alloc, name, directory, store)?;
+            Ok(basis)
         }
     }
 }
@@ -220,7 +254,8 @@ pub(crate) fn read_store<P: Program, S: Evidence<P>>(
     name: &str,
     input: Vec<u8>,
 ) -> Result<ReadStore<S>, Refusal>
-    ensures { Holds (λ read. S.contents read.store) result (some_stores_of input.items) }
+    ensures read { Holds (λ read. S.contents read.store) result (some_stores_of input.items) }
+    ensures under { IfOk result (λ read. AreUnder name.now input.items (S.contents read.store) read.basis) }
 {
     let (first, stores) = some_texts(alloc, input)?;
     let store = evidence_of::<P, S>(alloc, program, &first, &stores)?;
@@ -245,7 +280,7 @@ pub(crate) struct TwoLines {
 
 /// The proof of a text, which line 2 spells.
 fn proof_of(alloc: Global, text: &[u8]) -> Result<Proof, Refusal>
-    ensures { Reads (λ proof. proof.parts) result (told_as of_reading (proof_of text.now)) }
+    ensures { ReadsAs (λ proof. proof.parts) result (told_as of_reading (proof_of text.now)) }
 {
     match Proof::decode(alloc, text) {
         Ok(proof) => Ok(proof),
@@ -261,12 +296,14 @@ fn proof_of(alloc: Global, text: &[u8]) -> Result<Proof, Refusal>
 /// The directory and the proof of an input of two lines, and under what it is judged by the program of this name.
 #[tactic(auto, unfolding(commands::specs::Inputs::presented_of))]
 pub(crate) fn read_proof(alloc: Global, name: &str, input: Vec<u8>) -> Result<TwoLines, Refusal>
-    ensures { Reads (λ read. record { directory = read.directory; parts = read.proof.parts }) result (presented_of input.items) }
+    ensures read { ReadsAs (λ read. record { directory = read.directory; parts = read.proof.parts }) result (presented_of input.items) }
+    ensures lines { IfOk result (λ read. two_texts_of input.items ≡ Ok (read.directory_text.items, read.proof_text.items)) }
+    ensures under { IfOk result (λ read. IsBasis name.now read.directory_text.items kind.Proof read.proof_text.items read.basis) }
 {
     let (directory_text, proof_text) = two_texts(alloc, input)?;
     let directory = directory_of(alloc, &directory_text)?;
     let proof = proof_of(alloc, &proof_text)?;
-    let basis = Basis::of(alloc, name, &directory_text, Input::Proof, &proof_text)?;
+    let basis = basis_of_text(alloc, name, &directory_text, Input::Proof, &proof_text)?;
     Ok(TwoLines {
         basis,
         directory,

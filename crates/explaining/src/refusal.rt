@@ -117,8 +117,8 @@ impl Refusal {
     }
 }
 
-/// Tells a refusal on standard error. Where that cannot be written, the exit status alone tells it.
-pub fn told(rt: &HostRuntime, done: Result<(), Refusal>) -> ExitCode {
+/// The exit status, behind the line of a refusal on standard error. Where that cannot be written, the status alone tells it.
+pub fn exit_of(rt: &HostRuntime, done: Result<(), Refusal>) -> ExitCode {
     match done {
         Ok(()) => ExitCode::SUCCESS,
         Err(refusal) => {

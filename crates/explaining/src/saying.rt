@@ -1,11 +1,11 @@
 //! What is written of what was read.
 
-ghost use Rattle.std.specs.Prelude.{◌≡◌, ◌∷◌, [], ℕ, Err, IfOk, MatchResult, false, map, true};
+ghost use Rattle.std.specs.Prelude.{◌≡◌, ℕ, Err, IfOk, MatchResult, false, true};
 ghost use Rattle.page_text.specs.Pages.{IsPage};
 ghost use Rattle.proofs.specs.Convicting.{Convicts, Tells};
-ghost use Rattle.evidence_set.specs.declared.indication.Indication.TheVariants.{Exposed};
-ghost use Rattle.explanations.specs.Whys.{IsExplained, told_of};
-ghost use Rattle.explaining.specs.Explained.{ExplainsProof, TellsOf};
+ghost use Rattle.explanation_pages.specs.Shown.{IsPageOf};
+ghost use Rattle.explanations.specs.Whys.{ExplainsParts, IsExplained};
+ghost use Rattle.explaining.specs.Explained.{ExplainsProof, PagesProof, PagesStore, TellsProof};
 
 use crate::engine::Followed;
 use authenticators::Directory;
@@ -17,7 +17,7 @@ use explanations::{
 use outcome::Memory;
 use proofs::{Proof, ProofFault};
 use replay_verifier::Program;
-use sentences::Listing;
+use sentences::{Listing, listing_lines};
 use std::alloc::{AllocError, Global};
 
 /// What a store says, as a page.
@@ -27,7 +27,7 @@ fn store_page<P: Program, S: Evidence<P>, V: Voice>(
     basis: &Basis,
     store: &S,
 ) -> Result<Vec<u8>, Memory>
-    ensures { IfOk result (λ text. IsPage text.items) }
+    ensures { IfOk result (λ text. PagesStore P.means basis.now (S.contents store.now) text.items) }
 {
     let Followed {
         program,
@@ -49,8 +49,8 @@ pub fn store_text<P: Program, S: Evidence<P>, V: Voice>(
     basis: &Basis,
     store: &S,
 ) -> Result<Vec<u8>, Memory>
-    ensures says { IfOk result (λ text. is_page ≡ false → IsExplained P.means (S.contents store.now) text.items) }
-    ensures page { IfOk result (λ text. is_page ≡ true → IsPage text.items) }
+    ensures says { IfOk result (λ text. is_page ≡ false → IsExplained P.means basis.now (S.contents store.now) text.items) }
+    ensures page { IfOk result (λ text. is_page ≡ true → PagesStore P.means basis.now (S.contents store.now) text.items) }
 {
     if is_page {
         let page = store_page::<P, S, V>(alloc, followed, basis, store)?;
@@ -82,7 +82,7 @@ fn proof_page<V: Voice>(
     read: &ReadProof<'_>,
     conviction: &Conviction,
 ) -> Result<Vec<u8>, Memory>
-    ensures { IfOk result (λ text. IsPage text.items) }
+    ensures { IfOk result (λ text. IsPageOf read.now.basis.now conviction.now.explanation text.items) }
 {
     let rows = rows_of_proof(alloc, read.directory, read.proof)?;
     let lines: [&[u8]; 2] = [read.directory_text, read.proof_text];
@@ -105,9 +105,9 @@ fn conviction_text<V: Voice>(
     read: &ReadProof<'_>,
     conviction: &Conviction,
 ) -> Result<Vec<u8>, Memory>
-    requires { map told_of conviction.now.explanation.nodes.items ≡ (conviction.now.node, Exposed) ∷ [] }
-    ensures says { IfOk result (λ text. is_page ≡ false → TellsOf conviction.now.node text.items) }
-    ensures page { IfOk result (λ text. is_page ≡ true → IsPage text.items) }
+    requires { ExplainsParts conviction.now.node read.now.proof.now.parts conviction.now.explanation }
+    ensures says { IfOk result (λ text. is_page ≡ false → TellsProof conviction.now.node read.now.proof.now.parts read.now.basis.now text.items) }
+    ensures page { IfOk result (λ text. is_page ≡ true → PagesProof conviction.now.node read.now.proof.now.parts read.now.basis.now text.items) }
 {
     if is_page {
         let page = proof_page(alloc, voice, read, conviction)?;
@@ -124,7 +124,7 @@ pub fn proof_text<P: Program, V: Voice>(
     is_page: bool,
     read: &ReadProof<'_>,
 ) -> Result<Vec<u8>, ProofFault>
-    ensures { MatchResult result (λ text. (node : ℕ) × Convicts read.now.directory.now P.means node read.now.proof.now.parts × ExplainsProof is_page node text.items) (λ e. Tells read.now.directory.now P.means read.now.proof.now.parts (Err e)) }
+    ensures { MatchResult result (λ text. (node : ℕ) × Convicts read.now.directory.now P.means node read.now.proof.now.parts × ExplainsProof is_page node read.now.proof.now.parts read.now.basis.now text.items) (λ e. Tells read.now.directory.now P.means read.now.proof.now.parts (Err e)) }
 {
     let Followed {
         program,
@@ -143,6 +143,5 @@ pub fn listing_text(alloc: Global, is_page: bool, listing: &Listing) -> Result<V
     if is_page {
         return page_of_listing(alloc, listing);
     }
-    let text: Result<String, AllocError> = format!(in alloc; "{listing}");
-    Ok(text?.into_bytes())
+    listing_lines(alloc, listing)
 }

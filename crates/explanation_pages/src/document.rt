@@ -2,8 +2,11 @@
 
 ghost use Rattle.std.specs.Prelude.{IfOk};
 ghost use Rattle.page_text.specs.Pages.{IsPage};
+ghost use Rattle.explanation_pages.specs.Shown.{IsPageOf, Shows};
 
-use crate::head::{end_page, title_of, write_basis, write_chips, write_lines, write_note};
+use crate::basis::{title_of, write_front};
+use crate::head::{end_page, write_chips, write_lines, write_note};
+use crate::index::write_index;
 use crate::legend::write_legend;
 use crate::picture::draw;
 use crate::sections::write_nodes;
@@ -13,7 +16,7 @@ use drawn_logs::{Choice, Grid, Marks, PictureRow, View, choice_of};
 use known_logs::Rows;
 use page_text::Piece::{Inside, Line, Number, Open, Text};
 use page_text::{Attribute, Page, Tag};
-use sentences::{Basis, Explanation, Voice};
+use sentences::{Basis, Explanation, NodeExplanation, Voice};
 use std::alloc::{AllocError, Global};
 
 /// What is drawn of a row that is cut.
@@ -113,6 +116,41 @@ fn write_picture<V: Voice>(page: &mut Page, view: &View<'_, V>) -> Result<(), Al
     end(page, Tag::Section)
 }
 
+/// What stands between the front of a page and the list of all nodes: links, the picture, what is told of each node, and the lines.
+fn middle_of<V: Voice>(
+    view: &View<'_, V>,
+    nodes: &[NodeExplanation],
+    lines: &[&[u8]],
+) -> Result<Page, AllocError> {
+    let mut part = Page::part(view.alloc);
+    write_chips(&mut part, nodes)?;
+    write_picture(&mut part, view)?;
+    write_nodes(&mut part, view, nodes)?;
+    write_lines(&mut part, lines)?;
+    Ok(part)
+}
+
+/// The page, with this between its front and the list of all nodes.
+fn page_around(
+    alloc: Global,
+    basis: &Basis,
+    summary: &str,
+    middle: &Page,
+    nodes: &[NodeExplanation],
+) -> Result<Vec<u8>, AllocError>
+    ensures page { IfOk result (λ page. IsPage page.items) }
+    ensures shows { IfOk result (λ page. Shows basis.now summary.now nodes.now page.items) }
+{
+    let title = title_of(alloc, basis, summary)?;
+    let mut page = Page::new(alloc, title.as_bytes(), STYLE.as_bytes())?;
+    write_front(alloc, &mut page, basis, summary)?;
+    page.append(middle)?;
+    write_index(&mut page, nodes)?;
+    end_page(&mut page)?;
+    let text = page.finish()?;
+    Ok(text)
+}
+
 /// The page of what is told under a basis: HTML with its style and its picture in it. Payloads are said by the voice. The lines, each of
 /// bytes, stand in it folded away, in hexadecimal digits.
 pub fn page_of<V: Voice>(
@@ -123,25 +161,21 @@ pub fn page_of<V: Voice>(
     rows: &Rows,
     lines: &[&[u8]],
 ) -> Result<Vec<u8>, AllocError>
-    // It runs nothing and loads nothing; and it is elements and attributes of a closed set, and texts that are escaped.
-    ensures { IfOk result (λ page. IsPage page.items) }
+    // It runs nothing and loads nothing; it is elements and attributes of a closed set, and texts that are escaped and stand in no tag.
+    // It begins with the line about the whole and the basis, and it lists each node with what is said of it.
+    ensures { IfOk result (λ page. IsPageOf basis.now explanation.now page.items) }
 {
     let marks = Marks::of_explanation(alloc, explanation)?;
     let choice = choice_of(alloc, explanation, rows, &marks)?;
-    let summary = explanation.heading.as_str();
-    let title = title_of(alloc, basis, summary)?;
-    let mut page = Page::new(alloc, title.as_bytes(), STYLE.as_bytes())?;
     let view = View {
         alloc,
         voice,
         rows,
         choice: &choice,
     };
-    write_basis(alloc, &mut page, basis, summary)?;
-    write_chips(&mut page, &explanation.nodes)?;
-    write_picture(&mut page, &view)?;
-    write_nodes(&mut page, &view, &explanation.nodes)?;
-    write_lines(&mut page, lines)?;
-    end_page(&mut page)?;
-    page.finish()
+    let nodes = explanation.nodes.as_slice();
+    let middle = middle_of(&view, nodes, lines)?;
+    let summary = explanation.heading.as_str();
+    let page = page_around(alloc, basis, summary, &middle, nodes)?;
+    Ok(page)
 }

@@ -1,16 +1,20 @@
-//! The page's head: what was judged and under what, and links to the nodes.
+//! Links to the nodes, the lines that can be checked, and the page's end.
+
+ghost use Rattle.std.specs.Prelude.{◌≡◌, ◌++◌, ℕ, List, OnOk};
+ghost use Rattle.evidence_set.specs.Names.{name_of};
 
 use crate::folding::{count_of, fold_name, fold_words, open_of};
 use drawn_logs::markup::{begin, begin_section, count, element, end, part};
 use evidence_set::Indication;
-use log_chain::Hash;
 use page_text::Piece::{Close, Digits, End, Inside, Line, Link, Number, Open, Set, Text};
 use page_text::{Attribute, Page, Piece, Sign, Tag};
-use sentences::{Basis, Grouped, Input, NodeExplanation};
-use std::alloc::{AllocError, Global};
+use sentences::NodeExplanation;
+use std::alloc::AllocError;
 
 /// The word for what is said of a node.
-pub(crate) fn word(indication: Indication) -> &'static str {
+pub(crate) fn word(indication: Indication) -> &'static str
+    ensures { result.now ≡ name_of indication }
+{
     match indication {
         Indication::Trusted => "trusted",
         Indication::Suspected => "suspected",
@@ -42,87 +46,6 @@ pub(crate) fn write_sign(page: &mut Page, indication: Indication) -> Result<(), 
         Close(Tag::Span),
         Text(b" "),
     ])
-}
-
-/// The page's heading, by what was judged.
-fn heading(input: Input) -> &'static str {
-    match input {
-        Input::Store | Input::Union => "What the evidence says",
-        Input::Proof => "What the proof shows",
-    }
-}
-
-/// The page's title.
-pub(crate) fn title_of(alloc: Global, basis: &Basis, summary: &str) -> Result<String, AllocError> {
-    let heading = heading(basis.input);
-    format!(in alloc; "{heading}: {summary}")
-}
-
-/// Writes the page's heading, and the line about the whole.
-pub(crate) fn write_heading(
-    page: &mut Page,
-    heading: &str,
-    summary: &str,
-) -> Result<(), AllocError> {
-    page.write(&[
-        Open(Tag::Body),
-        Inside,
-        Line,
-        Open(Tag::Header),
-        Inside,
-        Line,
-    ])?;
-    element(page, Tag::H1, &[Text(heading.as_bytes())])?;
-    page.write(&[Line])?;
-    part(page, Tag::P, "summary", &[Text(summary.as_bytes())])?;
-    page.write(&[Line])
-}
-
-/// Writes a name, and what it is the name of.
-fn write_term(page: &mut Page, name: &str, value: &str) -> Result<(), AllocError> {
-    element(page, Tag::Dt, &[Text(name.as_bytes())])?;
-    element(page, Tag::Dd, &[Text(value.as_bytes())])?;
-    page.write(&[Line])
-}
-
-/// Writes a digest in groups of four digits, behind its name.
-pub(crate) fn write_digest(
-    alloc: Global,
-    page: &mut Page,
-    name: &str,
-    hash: &Hash,
-) -> Result<(), AllocError> {
-    let grouped = Grouped(hash);
-    let digits = format!(in alloc; "{grouped}")?;
-    element(
-        page,
-        Tag::Dt,
-        &[Text(b"SHA-256 of "), Text(name.as_bytes())],
-    )?;
-    page.write(&[Open(Tag::Dd), Inside])?;
-    element(page, Tag::Code, &[Text(digits.as_bytes())])?;
-    end(page, Tag::Dd)
-}
-
-/// Writes what was judged, under what, and what says so.
-pub(crate) fn write_basis(
-    alloc: Global,
-    page: &mut Page,
-    basis: &Basis,
-    summary: &str,
-) -> Result<(), AllocError> {
-    write_heading(page, heading(basis.input), summary)?;
-    begin(page, Tag::Dl, "basis")?;
-    page.write(&[Line])?;
-    write_term(page, "Program", basis.program.as_str())?;
-    write_digest(alloc, page, "the directory", &basis.directory)?;
-    let name = match basis.input {
-        Input::Store => "the store",
-        Input::Union => "the union of the stores",
-        Input::Proof => "the proof",
-    };
-    write_digest(alloc, page, name, &basis.evidence)?;
-    end(page, Tag::Dl)
 }
 
 /// Writes the lines that can be checked as they are, folded away.
@@ -224,10 +147,18 @@ pub(crate) fn begin_main(page: &mut Page) -> Result<(), AllocError> {
 }
 
 /// Ends the main part and the page.
-pub(crate) fn end_page(page: &mut Page) -> Result<(), AllocError> {
-    end(page, Tag::Main)?;
-    end(page, Tag::Body)?;
-    end(page, Tag::Html)
+pub(crate) fn end_page(page: &mut Page) -> Result<(), AllocError>
+    ensures { OnOk result ((behind : List ℕ) × (page.new ≡ page.old ++ behind)) }
+{
+    page.write(&[
+        Close(Tag::Main),
+        Line,
+        Close(Tag::Body),
+        Line,
+        Close(Tag::Html),
+        Line,
+    ])?;
+    Ok(())
 }
 
 /// Writes a text as a paragraph of what is left out.

@@ -3,7 +3,8 @@
 ghost use Rattle.std.specs.Prelude.{IfOk};
 ghost use Rattle.page_text.specs.Pages.{IsPage};
 
-use crate::head::{begin_main, end_page, write_digest, write_heading};
+use crate::basis::{write_digest, write_heading};
+use crate::head::{begin_main, end_page};
 use crate::style::STYLE;
 use drawn_logs::markup::{begin, begin_section, end};
 use page_text::{Page, Tag};

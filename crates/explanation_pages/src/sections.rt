@@ -126,10 +126,11 @@ fn write_name(page: &mut Page, node: NodeId) -> Result<(), AllocError> {
 fn write_heading(
     page: &mut Page,
     node: NodeId,
-    indication: Option<Indication>,
+    told: Option<&NodeExplanation>,
 ) -> Result<(), AllocError> {
     write_name(page, node)?;
-    if let Some(indication) = indication {
+    if let Some(told) = told {
+        let indication = told.indication;
         page.write(&[
             Text(b" "),
             Open(Tag::Span),
@@ -140,7 +141,11 @@ fn write_heading(
             Inside,
         ])?;
         write_sign(page, indication)?;
-        page.write(&[Text(word(indication).as_bytes()), Close(Tag::Span)])?;
+        page.write(&[
+            Text(word(indication).as_bytes()),
+            Text(told.mark().as_bytes()),
+            Close(Tag::Span),
+        ])?;
     }
     end(page, Tag::H2)
 }
@@ -163,7 +168,7 @@ fn write_node<V: Voice>(
     view: &View<'_, V>,
     told: &NodeExplanation,
 ) -> Result<(), AllocError> {
-    write_heading(page, told.node, Some(told.indication))?;
+    write_heading(page, told.node, Some(told))?;
     write_sentences(page, view.choice, told)?;
     write_row(page, view, told.node)
 }
@@ -215,8 +220,8 @@ fn write_all_of<V: Voice>(
     end(page, Tag::Details)
 }
 
-/// The nodes that are told of.
-fn told_nodes(alloc: Global, nodes: &[NodeExplanation]) -> Result<BTreeSet<u32>, AllocError> {
+/// The numbers of the nodes that are told of.
+fn numbers_of(alloc: Global, nodes: &[NodeExplanation]) -> Result<BTreeSet<u32>, AllocError> {
     let mut numbers = BTreeSet::new(alloc);
     for told in nodes {
         numbers.insert(told.node.0)?;
@@ -248,6 +253,6 @@ pub(crate) fn write_nodes<V: Voice>(
     write_all_of(page, view, nodes, Indication::Exposed)?;
     write_all_of(page, view, nodes, Indication::Suspected)?;
     write_all_of(page, view, nodes, Indication::Trusted)?;
-    let told = told_nodes(view.alloc, nodes)?;
+    let told = numbers_of(view.alloc, nodes)?;
     write_others(page, view, &told)
 }

@@ -1,3 +1,3 @@
+mod Leading
 mod Listings
 mod Rows
-pub mod Explained

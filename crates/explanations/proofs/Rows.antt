@@ -1,17 +1,29 @@
 -- Rows, one for each node.
-use Rattle.std.proofs.Common.{◌≡◌, ◌∙◌, ◌<◌, ◌+◌, ℕ, zero, suc, List, [], ◌∷◌, ◌++◌, length, get_or, refl, sym, ap, take, arith}
-use Rattle.std.specs.Prelude.{◌↔◌, map, IsTrue}
+use Rattle.std.proofs.Common.{◌≡◌, ◌∙◌, ◌<◌, ◌+◌, ℕ, zero, suc, List, [], ◌∷◌, ◌++◌, length, cond, get_or, refl, string_bytes, subst, sym, ap, take, arith}
+use Rattle.std.specs.Prelude.{◌↔◌, count_by, map, IsTrue}
 use Rattle.std.specs.List.{All, AllByRecursion, Contains}
 use Rattle.std.specs.List.Sorted.{IsStrictlyIncreasing}
 use Rattle.std.proofs.lemmas.List.{take_more}
+use Rattle.std.proofs.lemmas.List.Elements.{All-cons, All-nil}
+use Rattle.std.proofs.lemmas.List.Sums.{sum_by-cons}
 use Rattle.authenticators.specs.Directory.{Listing, is_listed}
+use Rattle.sentences.specs.declared.explanation.Explanation.{Explanation}
 use Rattle.sentences.specs.declared.explanation.NodeExplanation.{NodeExplanation}
 use Rattle.evidence_set.specs.declared.indication.Indication.{Indication}
+use Rattle.evidence_set.specs.declared.indication.Indication.TheVariants.{Exposed, Suspected, Trusted}
 use Rattle.evidence_set.specs.Indications.{IsIndication}
+use Rattle.evidence_set.specs.ItemSets.{Items, count}
 use Rattle.evidence.specs.Contents.{Contents}
 use Rattle.replay_verifier.specs.Meaning.{Meaning}
 use Rattle.explanations.specs.declared.why.NodeWhy.{NodeWhy}
-use Rattle.explanations.specs.Whys.{AreIndications, AreWhys, IsWhy, row_of, told_of}
+use Rattle.explanations.specs.declared.why.Why.{Why}
+use Rattle.explanations.specs.declared.why.Why.TheVariants as why
+use Rattle.proofs.specs.declared.proof.Parts.{Parts}
+use Rattle.proofs.specs.Convicting.{Convicts}
+use Rattle.explanations.specs.Whys.{AreIndications, AreWhys, IsGrounded, IsWhy, Speaks, indication_of, row_of, told_of}
+use Rattle.explanations.specs.Leads.{TellsParts}
+use Rattle.explanations.specs.Headings.{IsHeading, heading_words, is_same, is_told}
+use Rattle.explanations.specs.within.Telling.{AreTold, IsTold, TellsWhy, is_row}
 
 -- what rows show, with one row more
 map_more : {X B : Type 0} (f : X → B) (xs : List X) (x : X) → map f (xs ++ x ∷ []) ≡ map f xs ++ f x ∷ []
@@ -66,9 +78,32 @@ rows_are program s given rows nodes e rising complete kept right = record {
   right = right;
 }
 
+-- ---- what is told of rows
+
+-- one row more
+snoc : (rows : List NodeWhy) (told : List NodeExplanation) (row : NodeWhy) (n : NodeExplanation) → AreTold rows told → IsTold row n → AreTold (rows ++ row ∷ []) (told ++ n ∷ [])
+snoc [] [] row n h is = (is, tt)
+snoc [] (m ∷ told) row n h is = absurd h
+snoc (r ∷ rows) [] row n h is = absurd h
+snoc (r ∷ rows) (m ∷ told) row n h is = (h.0, snoc rows told row n h.1 is)
+
+pub one_told : (rows : List NodeWhy) (i : ℕ) (row : NodeWhy) (before now : List NodeExplanation) (n : NodeExplanation) → now ≡ before ++ n ∷ [] → AreTold (take i rows) before → i < length rows → IsTold row n → row ≡ get_or rows i row → AreTold (take (i + 1) rows) now
+one_told rows i row before now n e so_far below is at =
+    let told : IsTold (get_or rows i row) n = subst (λ (r : NodeWhy). IsTold r n) at is in
+    let both : AreTold (take i rows ++ get_or rows i row ∷ []) (before ++ n ∷ []) = snoc (take i rows) before (get_or rows i row) n so_far told in
+    let all : AreTold (take (i + 1) rows) (before ++ n ∷ []) = subst (λ (rs : List NodeWhy). AreTold rs (before ++ n ∷ [])) (sym (take_more rows i row below)) both in
+    subst (λ (ns : List NodeExplanation). AreTold (take (i + 1) rows) ns) (sym e) all
+
+same : (rows : List NodeWhy) (told : List NodeExplanation) → AreTold rows told → map told_of told ≡ map row_of rows
+same [] [] h = refl
+same [] (n ∷ told) h = absurd h
+same (r ∷ rows) [] h = absurd h
+same (r ∷ rows) (n ∷ told) h = ap (λ (p : ℕ × Indication). p ∷ map told_of told) h.0.same ∙ ap (λ (ps : List (ℕ × Indication)). row_of r ∷ ps) (same rows told h.1)
+
 -- what is told of the rows is what they say
-pub told_are : {S : Type 0} (program : Meaning S) (s : Contents) (rows : List NodeWhy) (told : List NodeExplanation) → AreWhys program s rows → map told_of told ≡ map row_of rows → AreIndications program s told
-told_are program s rows told w e =
+pub told_are : {S : Type 0} (program : Meaning S) (s : Contents) (rows : List NodeWhy) (told : List NodeExplanation) → AreWhys program s rows → AreTold rows told → AreIndications program s told
+told_are program s rows told w h =
+    let e : map told_of told ≡ map row_of rows = same rows told h in
     let nodes : map (λ n. n.node) told ≡ map (λ row. row.node) rows =
     sym (map_map told_of (λ (p : ℕ × Indication). p.0) told) ∙ ap (map (λ (p : ℕ × Indication). p.0)) e ∙ map_map row_of (λ (p : ℕ × Indication). p.0) rows in
     record {
@@ -76,3 +111,63 @@ told_are program s rows told w e =
       complete = λ n. rw nodes (w.complete n);
       right = carried told_of row_of (λ p. IsIndication s.directory program s.items p.0 p.1) told rows e (λ k d lt. (w.right k d lt).indication);
     }
+
+-- as many are told with an indication as there are of it
+pub same_length : (rows : List NodeWhy) (told : List NodeExplanation) → AreTold rows told → length rows ≡ length told
+same_length [] [] h = refl
+same_length [] (n ∷ told) h = absurd h
+same_length (r ∷ rows) [] h = absurd h
+same_length (r ∷ rows) (n ∷ told) h = ap suc (same_length rows told h.1)
+
+pub same_count : (i : Indication) (rows : List NodeWhy) (told : List NodeExplanation) → AreTold rows told → count_by (is_row i) rows ≡ count_by (is_told i) told
+same_count i [] [] h = refl
+same_count i [] (n ∷ told) h = absurd h
+same_count i (r ∷ rows) [] h = absurd h
+same_count i (r ∷ rows) (n ∷ told) h =
+    sum_by-cons (λ (row : NodeWhy). cond (is_row i row) 1 0) r rows
+    ∙ ap (λ (j : Indication). cond (is_same i j) 1 0 + count_by (is_row i) rows) (sym (ap (λ (p : ℕ × Indication). p.1) h.0.same))
+    ∙ ap (λ (k : ℕ). cond (is_told i n) 1 0 + k) (same_count i rows told h.1)
+    ∙ sym (sum_by-cons (λ (m : NodeExplanation). cond (is_told i m) 1 0) n told)
+
+-- the heading of the rows is that of what is told
+pub headed : (E : Items) (rows : List NodeWhy) (e : Explanation) → AreTold rows e.nodes.items
+    → ((behind : List ℕ) × (string_bytes e.heading ≡ heading_words (length rows) (count_by (is_row Trusted) rows) (count_by (is_row Suspected) rows) (count_by (is_row Exposed) rows) (count E) ++ behind))
+    → IsHeading E e
+headed E rows e h is = (
+  is.0,
+  is.1
+      ∙ ap (λ (n : ℕ). heading_words n (count_by (is_row Trusted) rows) (count_by (is_row Suspected) rows) (count_by (is_row Exposed) rows) (count E) ++ is.0) (same_length rows e.nodes.items h)
+      ∙ ap (λ (n : ℕ). heading_words (length e.nodes.items) n (count_by (is_row Suspected) rows) (count_by (is_row Exposed) rows) (count E) ++ is.0) (same_count Trusted rows e.nodes.items h)
+      ∙ ap (λ (n : ℕ). heading_words (length e.nodes.items) (count_by (is_told Trusted) e.nodes.items) n (count_by (is_row Exposed) rows) (count E) ++ is.0) (same_count Suspected rows e.nodes.items h)
+      ∙ ap (λ (n : ℕ). heading_words (length e.nodes.items) (count_by (is_told Trusted) e.nodes.items) (count_by (is_told Suspected) e.nodes.items) n (count E) ++ is.0) (same_count Exposed rows e.nodes.items h),
+)
+
+-- an exposed node is told by the proof of its row
+suspected : (i : Indication) → i ≡ Suspected → i ≡ Exposed → ⊥
+suspected i s e = let both : Suspected ≡ Exposed = sym s ∙ e in absurd cc
+
+trusted : (i : Indication) → i ≡ Trusted → i ≡ Exposed → ⊥
+trusted i t e = let both : Trusted ≡ Exposed = sym t ∙ e in absurd cc
+
+grounds : {S : Type 0} (ds : Listing) (program : Meaning S) (E : Items) (node : ℕ) (w : Why) (n : NodeExplanation)
+    → Speaks ds program E node w → told_of n ≡ (node, indication_of w) → TellsWhy w n.sentences.items → IsGrounded ds program n
+grounds ds program E node (why.Exposed q xs) n speaks is says = λ _. (q.parts, subst (λ (m : ℕ). Convicts ds program m q.parts) (sym (ap (λ (p : ℕ × Indication). p.0) is)) speaks.0, says)
+grounds ds program E node (why.Suspected xs) n speaks is says = λ e. absurd (suspected n.indication (ap (λ (p : ℕ × Indication). p.1) is) e)
+grounds ds program E node why.Trusted n speaks is says = λ e. absurd (trusted n.indication (ap (λ (p : ℕ × Indication). p.1) is) e)
+
+grounded : {S : Type 0} (ds : Listing) (program : Meaning S) (E : Items) (rows : List NodeWhy) (told : List NodeExplanation)
+    → AllByRecursion (λ row. IsWhy ds program E row.node row.why) rows → AreTold rows told → AllByRecursion (IsGrounded ds program) told
+grounded ds program E [] [] right h = tt
+grounded ds program E [] (n ∷ told) right h = absurd h
+grounded ds program E (r ∷ rows) [] right h = absurd h
+grounded ds program E (r ∷ rows) (n ∷ told) right h = (grounds ds program E r.node r.why n right.0.speaks h.0.same h.0.says, grounded ds program E rows told right.1 h.1)
+
+pub all_grounded : {S : Type 0} (program : Meaning S) (s : Contents) (rows : List NodeWhy) (told : List NodeExplanation) → AreWhys program s rows → AreTold rows told → All (IsGrounded s.directory program) told
+all_grounded program s rows told w h =
+    by_place (IsGrounded s.directory program) told
+    (grounded s.directory program s.items rows told (by_recursion (λ row. IsWhy s.directory program s.items row.node row.why) rows w.right) h)
+
+-- what is told of one node
+pub one_node : (x : Parts) (n : NodeExplanation) (now : List NodeExplanation) → now ≡ n ∷ [] → TellsParts x n.sentences.items → All (λ m. TellsParts x m.sentences.items) now
+one_node x n now e h =
+    subst (λ (ns : List NodeExplanation). All (λ m. TellsParts x m.sentences.items) ns) (sym e) (All-cons (λ m. TellsParts x m.sentences.items) n [] h (All-nil (λ m. TellsParts x m.sentences.items)))

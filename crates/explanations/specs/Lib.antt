@@ -1,1 +1,4 @@
+pub mod Headings
+pub mod Leads
 pub mod Whys
+pub mod within

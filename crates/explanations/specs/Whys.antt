@@ -1,6 +1,6 @@
 -- Why the items of a set say of a node what they say.
-use Rattle.std.specs.Prelude.{◌≡◌, ◌↔◌, ◌++◌, ℕ, List, map, IsTrue, Result, Ok, Err}
-use Rattle.std.specs.List.{All, Contains, flat_map}
+use Rattle.std.specs.Prelude.{◌≡◌, ◌↔◌, ◌++◌, ℕ, List, [], ◌∷◌, map, string_bytes, IsTrue, Result, Ok, Err}
+use Rattle.std.specs.List.{All, Contains}
 use Rattle.std.specs.List.Sorted.{IsStrictlyIncreasing, IsStrictlySortedBy}
 use Rattle.authenticators.specs.Directory.{Listing, is_listed}
 use Rattle.item_forms.specs.Pieces.{Piece, by_bytes}
@@ -12,8 +12,14 @@ use Rattle.evidence_set.specs.Indications.{IsIndication, IsUnanswered}
 use Rattle.evidence_set.specs.ItemSets.{Has, Items}
 use Rattle.evidence.specs.Contents.{Contents}
 use Rattle.proofs.specs.declared.fault.ProofFault.{ProofFault}
+use Rattle.proofs.specs.declared.proof.Parts.{Parts}
+use Rattle.sentences.specs.declared.basis.Basis.{Basis}
+use Rattle.sentences.specs.declared.explanation.Explanation.{Explanation}
 use Rattle.sentences.specs.declared.explanation.NodeExplanation.{NodeExplanation}
-use Rattle.sentences.specs.Texts.{margin, row_line}
+use Rattle.sentences.specs.Bases.{basis_text}
+use Rattle.sentences.specs.Texts.{margin, nodes_text, report_of, text_of}
+use Rattle.explanations.specs.Headings.{IsHeading, proof_words}
+use Rattle.explanations.specs.Leads.{TellsParts}
 use Rattle.explanations.specs.declared.convicting.Conviction.{Conviction}
 use Rattle.explanations.specs.declared.why.Why.{Why}
 use Rattle.explanations.specs.declared.why.Why.TheVariants as why
@@ -21,7 +27,7 @@ use Rattle.explanations.specs.declared.why.NodeWhy.{NodeWhy}
 
 -- What a node is for this reason.
 abbrev pub indication_of : Why → Indication
-indication_of (why.Exposed q) = Exposed
+indication_of (why.Exposed q xs) = Exposed
 indication_of (why.Suspected xs) = Suspected
 indication_of why.Trusted = Trusted
 
@@ -30,9 +36,9 @@ pub record AreOpen (ds : Listing) (E : Items) (node : ℕ) (xs : List Piece) : T
   pub members : (x : Piece) → Contains xs x ↔ (Has E x × IsUnanswered ds E node x.fields)
   pub ascending : IsStrictlySortedBy by_bytes xs
 
--- What is named against the node: a proof convicts it, and the challenges are the open ones.
+-- What is named against the node: a proof convicts it where it is exposed, and the challenges are the open ones.
 abbrev pub Speaks : {S : Type 0} → Listing → Meaning S → Items → ℕ → Why → Type 0
-Speaks ds program E node (why.Exposed q) = Convicts ds program node q.parts
+Speaks ds program E node (why.Exposed q xs) = Convicts ds program node q.parts × AreOpen ds E node (map (λ i. i.now) xs.items)
 Speaks ds program E node (why.Suspected xs) = AreOpen ds E node (map (λ i. i.now) xs.items)
 Speaks ds program E node why.Trusted = Unit {0}
 
@@ -60,15 +66,30 @@ pub record AreIndications {S : Type 0} (program : Meaning S) (s : Contents) (nod
   pub complete : (node : ℕ) → Contains (map (λ n. n.node) nodes) node ↔ IsTrue (is_listed s.directory node)
   pub right : All (λ n. IsIndication s.directory program s.items n.node n.indication) nodes
 
--- The text tells the set: behind a beginning, the lines that do not begin with a blank are those that a report has of the listed nodes,
--- and no other.
-pub record IsExplained {S : Type 0} (program : Meaning S) (s : Contents) (text : List ℕ) : Type 0 where
-  pub front : List ℕ
-  pub body : List ℕ
-  pub nodes : List NodeExplanation
-  pub told : AreIndications program s nodes
-  pub spelled : text ≡ front ++ body
-  pub report : margin body ≡ flat_map row_line nodes
+-- An exposed node is told by a proof that convicts it.
+abbrev pub IsGrounded : {S : Type 0} → Listing → Meaning S → NodeExplanation → Type 0
+IsGrounded ds program n = n.indication ≡ Exposed → (q : Parts) × Convicts ds program n.node q × TellsParts q n.sentences.items
+
+-- What is told of a set: how many nodes and items there are; the nodes with their indications; and of each exposed one a proof that convicts
+-- it.
+pub record ExplainsSet {S : Type 0} (program : Meaning S) (s : Contents) (e : Explanation) : Type 0 where
+  pub headed : IsHeading s.items e
+  pub indicated : AreIndications program s e.nodes.items
+  pub grounded : All (IsGrounded s.directory program) e.nodes.items
+
+-- The text tells the set under a basis: behind the lines of the basis, and one line about the whole, those lines that do not begin with a
+-- blank are the nodes' own, and no other.
+pub record IsExplained {S : Type 0} (program : Meaning S) (basis : Basis) (s : Contents) (text : List ℕ) : Type 0 where
+  pub explanation : Explanation
+  pub told : ExplainsSet program s explanation
+  pub is : text ≡ basis_text basis ++ text_of explanation
+  pub lines : margin (nodes_text explanation) ≡ report_of explanation
+
+-- What is told of a proof that convicts a node: the line about it; and that node alone, which is exposed, by the proof's parts.
+pub record ExplainsParts (node : ℕ) (x : Parts) (e : Explanation) : Type 0 where
+  pub headed : string_bytes e.heading ≡ proof_words node x
+  pub told : map told_of e.nodes.items ≡ (node, Exposed) ∷ []
+  pub grounded : All (λ n. TellsParts x n.sentences.items) e.nodes.items
 
 -- Whom a proof convicts, or why it is refused.
 abbrev pub convicted_of : Result Conviction ProofFault → Result ℕ ProofFault

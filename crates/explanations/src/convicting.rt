@@ -1,22 +1,22 @@
 //! What is told of a proof.
 
-ghost use Rattle.std.specs.Prelude.{◌≡◌, ◌∷◌, [], Err, IfOk, Ok, Some, map, ℕ};
+ghost use Rattle.std.specs.Prelude.{◌≡◌, ◌∷◌, [], Err, IfOk, Ok, Some, ℕ, string_bytes};
 ghost use Rattle.outcome.specs.Outcome.{Gives};
 ghost use Rattle.proofs.specs.declared.fault.ProofFault.{ProofFault as TheFault};
 ghost use Rattle.proofs.specs.declared.fault.ProofFault.TheVariants as fault;
 ghost use Rattle.proofs.specs.Convicting.{Convicts, Tells, early_fault_of};
-ghost use Rattle.evidence_set.specs.declared.indication.Indication.TheVariants.{Exposed};
-ghost use Rattle.explanations.specs.Whys.{convicted_of, told_of};
+ghost use Rattle.explanations.specs.Headings.{parts_words, proof_words};
+ghost use Rattle.explanations.specs.Whys.{ExplainsParts, convicted_of};
 
 use crate::grounds::{Found, Grounds};
-use crate::telling::say_proof;
+use crate::telling::proof_sentences;
 use crate::under::Under;
 use authenticators::{Directory, NodeId};
 use evidence_set::Indication;
 use outcome::Memory;
 use proofs::{Parts, Proof, ProofFault, check_proof};
 use replay_verifier::{Program, replay};
-use sentences::{Explanation, Lines, NodeExplanation, Role, Site, Voice};
+use sentences::{Explanation, NodeExplanation, Role, Site, Voice};
 use std::alloc::{AllocError, Global};
 
 /// Whom a proof convicts, and what is told of it.
@@ -70,14 +70,34 @@ fn grounds_of<P: Program>(
     Ok(grounds)
 }
 
-/// The line about a proof: whom it convicts, and its parts.
-fn heading_of(alloc: Global, node: NodeId, proof: &Proof) -> Result<String, AllocError> {
-    let parts = match proof.parts() {
+/// The parts of a proof, in words.
+fn words_of(parts: &Parts) -> &'static str
+    ensures { result.now ≡ parts_words parts.now }
+{
+    match parts {
         Parts::TwoAuths(..) => "two statements",
         Parts::AuthSegment(..) => "a statement and a segment",
         Parts::Nonconforming(_) => "one segment",
-    };
-    format!(in alloc; "The proof exposes node {node} by {parts}.")
+    }
+}
+
+/// The line about a proof of these parts: whom it convicts, and the parts.
+fn heading_of(alloc: Global, node: NodeId, parts: &Parts) -> Result<String, AllocError>
+    ensures { IfOk result (λ text. string_bytes text ≡ proof_words node parts.now) }
+{
+    let mut text = format!(in alloc; "The proof exposes node {node} by ")?;
+    text.push_str(words_of(parts))?;
+    text.push_str(".")?;
+    Ok(text)
+}
+
+/// One node.
+fn one(alloc: Global, told: NodeExplanation) -> Result<Vec<NodeExplanation>, Memory>
+    ensures { IfOk result (λ nodes. nodes.items ≡ told ∷ []) }
+{
+    let mut nodes = Vec::new(alloc);
+    nodes.push(told)?;
+    Ok(nodes)
 }
 
 /// What is told of a proof that convicts the node.
@@ -89,23 +109,23 @@ fn explanation_of<P: Program, V: Voice>(
     proof: &Proof,
     node: NodeId,
 ) -> Result<Explanation, Memory>
-    ensures { IfOk result (λ explanation. map told_of explanation.nodes.items ≡ (node, Exposed) ∷ []) }
+    ensures { IfOk result (λ explanation. ExplainsParts node proof.now.parts explanation) }
 {
-    let heading = heading_of(alloc, node, proof)?;
+    let heading = heading_of(alloc, node, proof.parts())?;
     let grounds = grounds_of(alloc, program, directory, proof)?;
-    let mut lines = Lines::new(alloc);
     let under = Under {
         program,
         voice,
         directory,
     };
-    say_proof(&mut lines, &under, proof, &grounds)?;
-    let mut nodes = Vec::with_capacity(alloc, 1)?;
-    nodes.push(NodeExplanation {
+    let sentences = proof_sentences(alloc, &under, proof, &grounds)?;
+    let told = NodeExplanation {
         node,
         indication: Indication::Exposed,
-        sentences: lines.into_sentences(),
-    })?;
+        has_no_item: false,
+        sentences,
+    };
+    let nodes = one(alloc, told)?;
     Ok(Explanation { heading, nodes })
 }
 
@@ -124,8 +144,8 @@ pub fn explain_proof<P: Program, V: Voice>(
     ensures only { (node : ℕ) → Convicts directory.now P.means node proof.now.parts → Gives fault.Memory (λ c. c.node) result (Ok node) }
     // What is told of the parts before a segment's signature is told, whether there is memory or not.
     ensures early { (e : TheFault) → early_fault_of directory.now proof.now.parts ≡ Some e → result ≡ Err e }
-    // The explanation is of that node, which is exposed.
-    ensures explanation { IfOk result (λ c. map told_of c.explanation.nodes.items ≡ (c.node, Exposed) ∷ []) }
+    // The explanation is of that node, which is exposed, and of the proof's parts.
+    ensures explanation { IfOk result (λ c. ExplainsParts c.node proof.now.parts c.explanation) }
 {
     let node = check_proof(alloc, program, directory, proof)?;
     let explanation = explanation_of(alloc, program, voice, directory, proof, node)?;

@@ -1,18 +1,21 @@
 //! A segment that deviates from its node's program, in sentences.
 
-ghost use Rattle.std.specs.Prelude.{IfOk};
+ghost use Rattle.std.specs.Prelude.{◌≡◌, IfOk, string_bytes};
+ghost use Rattle.item_forms.specs.Segments.{first_seq, last_seq};
 ghost use Rattle.replay_verifier.specs.Conforming.{setting_of};
 ghost use Rattle.replay_verifier.specs.Stands.{IsStanding};
+ghost use Rattle.explanations.specs.Leads.{Begins, IsDeviation, deviates_words, segment_words};
 
 use crate::grounds::FoundSegment;
+use crate::joining::{joined, two};
 use crate::under::Under;
-use authenticators::Directory;
+use authenticators::{Directory, NodeId};
 use item_forms::{Entry, Hash, Segment};
 use log_chain::chain_end;
 use outcome::Memory;
 use replay_verifier::{Program, Reason, Receipt, Stand, Verdict, stand_behind};
-use sentences::{Kind, Lines, Logged, Sending, Shown, Sites, Voice};
-use std::alloc::Global;
+use sentences::{Kind, Lines, Logged, Sending, Sentence, Shown, Sites, Voice};
+use std::alloc::{AllocError, Global};
 
 /// A reason in words.
 fn words_of(reason: Reason) -> &'static str {
@@ -39,52 +42,127 @@ pub(crate) fn hash_behind(segment: &Segment, at: usize) -> Option<Hash> {
     Some(chain_end(segment.prev, front))
 }
 
-/// Says a sentence of the entry behind so many others of the segment.
-fn say_of_entry(
-    lines: &mut Lines,
+/// A sentence of the entry behind so many others of the segment.
+fn entry_sentence(
+    alloc: Global,
     segment: &Segment,
     at: usize,
     seq: u64,
     text: String,
-) -> Result<(), Memory> {
-    match hash_behind(segment, at) {
-        Some(hash) => lines.say_entry(segment.node, seq, hash, text),
-        None => lines.say(text),
-    }
+) -> Result<Sentence, Memory>
+    ensures { IfOk result (λ s. s.text ≡ text) }
+{
+    let Some(hash) = hash_behind(segment, at) else {
+        return Ok(Sentence::plain(alloc, text));
+    };
+    let sentence = Sentence::of_entry(alloc, segment.node, seq, hash, text)?;
+    Ok(sentence)
 }
 
-/// Says where the segment deviates, and why.
-fn say_place(
-    lines: &mut Lines,
-    segment: &Segment,
-    at: usize,
-    entry: &Entry,
-    reason: Reason,
-) -> Result<(), Memory> {
-    let node = segment.node;
+/// Where the segment deviates, and why, in the words behind the node's.
+fn place_words(alloc: Global, entry: &Entry, reason: Reason) -> Result<String, AllocError> {
     let seq = entry.seq;
     let kind = Kind(entry.kind);
     let words = words_of(reason);
     let name = reason.name();
-    let text = format!(in lines.alloc();
-        "Node {node} deviates from its program at entry {seq} of its log, {kind}: {words} ({name})."
-    )?;
-    say_of_entry(lines, segment, at, seq, text)
+    format!(in alloc; " at entry {seq} of its log, {kind}: {words} ({name}).")
 }
 
-/// Says where the segment stands.
-pub(crate) fn say_segment(
-    lines: &mut Lines,
+/// A place of a segment: behind how many entries, at which one, and why it deviates there.
+type Place<'a> = (usize, &'a Entry, Reason);
+
+/// The words behind those that a node deviates.
+fn rest_of_words(alloc: Global, deviation: Option<Place<'_>>) -> Result<String, AllocError> {
+    match deviation {
+        Some((_, entry, reason)) => place_words(alloc, entry, reason),
+        None => format!(in alloc; "."),
+    }
+}
+
+/// That a node deviates from its program, in words.
+fn deviates_front(alloc: Global, node: NodeId) -> Result<String, AllocError>
+    ensures { IfOk result (λ text. string_bytes text ≡ deviates_words node) }
+{
+    format!(in alloc; "Node {node} deviates from its program")
+}
+
+/// A sentence of the place at which a segment deviates.
+fn sentence_at(
+    alloc: Global,
+    segment: &Segment,
+    deviation: Option<Place<'_>>,
+    text: String,
+) -> Result<Sentence, Memory>
+    ensures { IfOk result (λ s. s.text ≡ text) }
+{
+    let Some((at, entry, _)) = deviation else {
+        return Ok(Sentence::plain(alloc, text));
+    };
+    let sentence = entry_sentence(alloc, segment, at, entry.seq, text)?;
+    Ok(sentence)
+}
+
+/// The sentence where the segment deviates, and why.
+fn place_sentence(
+    alloc: Global,
+    segment: &Segment,
+    deviation: Option<Place<'_>>,
+) -> Result<Sentence, Memory>
+    ensures { IfOk result (λ s. Begins s (deviates_words segment.now.node)) }
+{
+    let rest = rest_of_words(alloc, deviation)?;
+    let front = deviates_front(alloc, segment.node)?;
+    let text = joined(front, &rest)?;
+    let sentence = sentence_at(alloc, segment, deviation, text)?;
+    Ok(sentence)
+}
+
+/// The first number of entries; 0 where there is none.
+fn first_of(entries: &[Entry]) -> u64
+    ensures { result ≡ first_seq entries.now }
+{
+    match entries {
+        [] => 0,
+        [first, ..] => first.seq,
+    }
+}
+
+/// The last number of a segment; 0 where it has no entry.
+fn last_of(segment: &Segment) -> u64
+    ensures { result ≡ last_seq segment.now.entries }
+{
+    match segment.last_seq() {
+        Some(last) => last,
+        None => 0,
+    }
+}
+
+/// From where to where a segment goes, in words.
+fn segment_front(alloc: Global, segment: &Segment) -> Result<String, AllocError>
+    ensures { IfOk result (λ text. string_bytes text ≡ segment_words segment.now) }
+{
+    let first = first_of(segment.entries.as_slice());
+    let last = last_of(segment);
+    let front = format!(in alloc; "Its log from entry {first}")?;
+    let rest = format!(in alloc; " to entry {last}:")?;
+    let text = joined(front, &rest)?;
+    Ok(text)
+}
+
+/// The sentence where the segment stands.
+pub(crate) fn segment_sentence(
+    alloc: Global,
     segment: &Segment,
     found: &FoundSegment,
-) -> Result<(), Memory> {
-    let ([first, ..], Some(last)) = (segment.entries.as_slice(), segment.last_seq()) else {
-        return Ok(());
-    };
-    let first = first.seq;
+) -> Result<Sentence, Memory>
+    ensures { IfOk result (λ s. Begins s (segment_words segment.now)) }
+{
     let sites = Sites(&found.sites);
-    let text = format!(in lines.alloc(); "Its log from entry {first} to entry {last}: {sites}.")?;
-    lines.say(text)
+    let rest = format!(in alloc; " {sites}.")?;
+    let front = segment_front(alloc, segment)?;
+    let text = joined(front, &rest)?;
+    let sentence = Sentence::plain(alloc, text);
+    Ok(sentence)
 }
 
 /// Says which message the program sends there, where it sends one.
@@ -170,7 +248,8 @@ fn say_rival<V: Voice>(
     let seq = entry.seq;
     let logged = Logged { voice, entry };
     let text = format!(in lines.alloc(); "Before it stands entry {seq}, {logged}.")?;
-    say_of_entry(lines, segment, at, seq, text)
+    let sentence = entry_sentence(lines.alloc(), segment, at, seq, text)?;
+    lines.add(sentence)
 }
 
 /// Says what is logged.
@@ -211,22 +290,41 @@ fn say_before<P: Program, V: Voice>(
     say_state(lines, under.program, &stand, reason)
 }
 
-/// Says of a segment that deviates where and why, what the program awaits there, and what is logged.
+/// Where the segment deviates, by its verdict: behind how many entries, at which one, and why.
+fn deviation_of<'a>(segment: &'a Segment, found: &FoundSegment) -> Option<Place<'a>> {
+    let Some(Verdict::Deviates { at, reason }) = found.verdict else {
+        return None;
+    };
+    let entry = segment.entries.as_slice().get(at)?;
+    Some((at, entry, reason))
+}
+
+/// Where a segment deviates and why, and where it stands.
+pub(crate) fn deviation_lead(
+    alloc: Global,
+    segment: &Segment,
+    found: &FoundSegment,
+) -> Result<Vec<Sentence>, Memory>
+    ensures { IfOk result (λ lead. IsDeviation segment.now lead.items) }
+{
+    let deviation = deviation_of(segment, found);
+    let first = place_sentence(alloc, segment, deviation)?;
+    let second = segment_sentence(alloc, segment, found)?;
+    let lead = two(alloc, first, second)?;
+    Ok(lead)
+}
+
+/// Says of a segment that deviates what the program awaits there, and what is logged.
 pub(crate) fn say_deviation<P: Program, V: Voice>(
     lines: &mut Lines,
     under: &Under<'_, P, V>,
     segment: &Segment,
     found: &FoundSegment,
 ) -> Result<(), Memory> {
-    let Some(Verdict::Deviates { at, reason }) = found.verdict else {
+    let Some((at, entry, reason)) = deviation_of(segment, found) else {
         return Ok(());
     };
-    let entries = segment.entries.as_slice();
-    let (Some(earlier), Some(entry)) = (entries.get(..at), entries.get(at)) else {
-        return Ok(());
-    };
-    say_place(lines, segment, at, entry, reason)?;
-    say_segment(lines, segment, found)?;
+    let earlier = segment.entries.as_slice().get(..at).unwrap_or(&[]);
     say_rival(lines, under.voice, segment, earlier, entry, reason)?;
     say_before(lines, under, segment, earlier, reason)?;
     say_logged(lines, under.voice, entry)

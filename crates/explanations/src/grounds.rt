@@ -17,14 +17,6 @@ pub(crate) struct Found {
 }
 
 impl Found {
-    /// The first place where it stands: 0 where none is known.
-    pub(crate) fn first_place(&self) -> u64 {
-        match self.sites.as_slice() {
-            [first, ..] => first.place,
-            [] => 0,
-        }
-    }
-
     /// Notes that a statement stands in the item, where it is this one.
     fn note(&mut self, seq: u64, hash: Hash, item: u64, role: &Role) -> Result<(), Memory> {
         if self.seq != seq || self.hash != hash {
@@ -32,6 +24,22 @@ impl Found {
         }
         self.sites.push(Site::item(item, *role))?;
         Ok(())
+    }
+}
+
+/// Where a convicting statement stands; nowhere where none is sought.
+pub(crate) fn sites_of(found: &Option<Found>) -> &[Site] {
+    match found {
+        Some(found) => found.sites.as_slice(),
+        None => &[],
+    }
+}
+
+/// The first of these places: 0 where none is known.
+pub(crate) fn first_place_of(sites: &[Site]) -> u64 {
+    match sites {
+        [first, ..] => first.place,
+        [] => 0,
     }
 }
 

@@ -1,6 +1,6 @@
 //! What a store of evidence, or a proof, says of nodes and why (PeerReview, SOSP 2007: failure indications), as an [`Explanation`].
 //!
-//! - [`why_of`] tells of a node why the store says of it what it says: the proof that convicts it, or the challenges that are open;
+//! - [`why_of`] tells of a node why the store says of it what it says: the proof that convicts it, and the challenges that are open;
 //!   [`whys_of`] the same of each node. `specs/Whys.antt` says what that is.
 //! - [`explain_store`] tells of each node what the store says of it, with where the items stand that say so. One pass over the items
 //!   finds that; the entries before a deviation are replayed, for what the program awaits there.
@@ -17,8 +17,8 @@ pub use outcome::Memory;
 pub use proofs::{Proof, ProofFault};
 pub use replay_verifier::Program;
 pub use sentences::{
-    Basis, Explanation, Grouped, Input, Mark, NamedHash, NodeExplanation, PlainVoice, Sentence,
-    Voice, text_of, verdict_text,
+    Basis, Explanation, Input, Mark, NamedHash, NodeExplanation, PlainVoice, Sentence, Voice,
+    text_of, verdict_text,
 };
 pub use telling::{explain_store, explained_text};
 pub use why::{NodeWhy, Why, why_of, whys_of};
@@ -27,8 +27,11 @@ mod challenging;
 mod contradicting;
 mod convicting;
 mod deviating;
+mod exposing;
+mod further;
 mod grounds;
 mod heading;
+mod joining;
 mod nodes;
 mod noting;
 mod places;

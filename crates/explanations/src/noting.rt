@@ -4,7 +4,7 @@ use crate::places::{NodePlaces, Places, count_form};
 use crate::why::NodeWhy;
 use authenticators::NodeId;
 use evidence::Evidence;
-use evidence_item::{Checked, Verdict};
+use evidence_item::{Checked, Findings, Verdict};
 use item_forms::{Form, Item, Segment};
 use known_logs::{Detail, Place, Walker, walk};
 use outcome::Memory;
@@ -90,6 +90,17 @@ impl Places {
         }
     }
 
+    /// Notes the entries of a segment, which have the hashes that were found.
+    fn note_entries(&mut self, segment: &Segment, found: Option<&Findings>) -> Result<(), Memory> {
+        let place = self.item;
+        match (self.row_of(segment.node), found) {
+            (Some(row), Some(Findings::Segment(found))) => {
+                row.note_entries(place, segment, found.hashes.as_slice())
+            }
+            _ => Ok(()),
+        }
+    }
+
     /// Notes an item of which everything was found.
     fn note_item<P>(&mut self, whys: &[NodeWhy<'_>], checked: &Checked<P>) -> Result<(), Memory> {
         let item = checked.item();
@@ -98,7 +109,8 @@ impl Places {
             Form::Audit(challenge) => self.note_challenge(whys, challenge.node, item)?,
             Form::Send(message) => self.note_challenge(whys, message.to, item)?,
             Form::Segment(segment) => {
-                self.note_segment(whys, segment, checked.verdict().copied())?
+                self.note_segment(whys, segment, checked.verdict().copied())?;
+                self.note_entries(segment, checked.findings())?
             }
             Form::Auth(_) | Form::Ack(_) => {}
         }

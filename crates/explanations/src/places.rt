@@ -1,5 +1,6 @@
 //! What is found of a store's items, node by node.
 
+use crate::further::{Held, Stated};
 use crate::grounds::Grounds;
 use crate::why::{NodeWhy, Why};
 use authenticators::NodeId;
@@ -33,6 +34,8 @@ pub(crate) struct NodePlaces {
     pub(crate) grounds: Grounds,
     /// The items of the open challenges against it, in order.
     pub(crate) unanswered: Vec<u64>,
+    /// What the items have of it, where it is exposed.
+    pub(crate) held: Option<Held>,
 }
 
 /// What is found of a store's items. The nodes stand in the order of the reasons.
@@ -59,9 +62,9 @@ pub(crate) fn count_form(counts: &mut FormCounts, form: Form<'_>) {
 impl NodePlaces {
     /// Nothing is found yet.
     pub(crate) fn new(alloc: Global, row: &NodeWhy<'_>) -> NodePlaces {
-        let grounds = match &row.why {
-            Why::Exposed(proof) => Grounds::of_proof(alloc, proof),
-            _ => Grounds::none(alloc),
+        let (grounds, held) = match &row.why {
+            Why::Exposed(proof, _) => (Grounds::of_proof(alloc, proof), Some(Held::new(alloc))),
+            _ => (Grounds::none(alloc), None),
         };
         NodePlaces {
             node: row.node,
@@ -70,7 +73,13 @@ impl NodePlaces {
             segments: Vec::new(alloc),
             grounds,
             unanswered: Vec::new(alloc),
+            held,
         }
+    }
+
+    /// Whether no item is of the node.
+    pub(crate) fn has_no_item(&self) -> bool {
+        self.segments.is_empty() && self.statements == 0 && self.challenges == 0
     }
 
     /// Notes a statement of the node.
@@ -84,6 +93,9 @@ impl NodePlaces {
         if *role != Role::End {
             self.statements = self.statements.saturating_add(1);
         }
+        if let Some(held) = &mut self.held {
+            held.note(Stated { seq, hash, item })?;
+        }
         self.grounds.note(seq, hash, item, role)
     }
 
@@ -95,7 +107,7 @@ impl NodePlaces {
         item: &Item,
     ) -> Result<(), Memory> {
         self.challenges = self.challenges.saturating_add(1);
-        if let Why::Suspected(challenges) = why
+        if let Why::Suspected(challenges) | Why::Exposed(_, challenges) = why
             && let Some(next) = challenges.get(self.unanswered.len())
             && **next == *item
         {
@@ -112,6 +124,9 @@ impl NodePlaces {
         segment: &Segment,
         verdict: Option<Verdict>,
     ) -> Result<(), Memory> {
+        if let (Some(held), Some(Verdict::Deviates { .. })) = (&mut self.held, verdict) {
+            held.note_deviating(place)?;
+        }
         if let ([first, ..], Some(last)) = (segment.entries.as_slice(), segment.last_seq()) {
             self.segments.push(Span {
                 item: place,
@@ -130,10 +145,25 @@ impl NodePlaces {
     }
 }
 
+impl NodePlaces {
+    /// Notes the entries of a segment of the node, which have these hashes.
+    pub(crate) fn note_entries(
+        &mut self,
+        place: u64,
+        segment: &Segment,
+        hashes: &[Hash],
+    ) -> Result<(), Memory> {
+        match &mut self.held {
+            Some(held) => held.note_segment(place, segment, hashes),
+            None => Ok(()),
+        }
+    }
+}
+
 /// The segment of the proof that convicts the node, where it has one.
 fn convicting_segment<'a>(why: &'a Why<'_>) -> Option<&'a Segment> {
     match why {
-        Why::Exposed(proof) => match proof.parts() {
+        Why::Exposed(proof, _) => match proof.parts() {
             Parts::TwoAuths(..) => None,
             Parts::AuthSegment(_, segment) | Parts::Nonconforming(segment) => Some(segment),
         },

@@ -1,13 +1,17 @@
 //! What is told of a store.
 
-ghost use Rattle.std.specs.Prelude.{◌≡◌, IfOk, map};
-ghost use Rattle.explanations.specs.Whys.{AreIndications, IsExplained, row_of, told_of};
+ghost use Rattle.std.specs.Prelude.{IfOk};
+ghost use Rattle.explanations.specs.Leads.{TellsParts};
+ghost use Rattle.explanations.specs.Whys.{ExplainsSet, IsExplained};
+ghost use Rattle.explanations.specs.within.Telling.{AreTold, IsTold, TellsWhy};
 
 use crate::challenging::say_challenges;
-use crate::contradicting::{say_contradiction, say_two_hashes};
-use crate::deviating::say_deviation;
+use crate::contradicting::{denial_lead, say_other_side, two_hashes_lead};
+use crate::deviating::{deviation_lead, say_deviation};
+use crate::exposing::say_further;
 use crate::grounds::Grounds;
 use crate::heading::heading_of;
+use crate::joining::followed_by;
 use crate::noting::places_of;
 use crate::places::NodePlaces;
 use crate::trusting::say_trust;
@@ -15,51 +19,147 @@ use crate::under::Under;
 use crate::why::{NodeWhy, Why, whys_of};
 use authenticators::NodeId;
 use evidence::Evidence;
+use evidence_set::Indication;
+use item_forms::Item;
 use outcome::Memory;
 use proofs::{Parts, Proof};
 use replay_verifier::Program;
 use sentences::{Basis, Explanation, Lines, NodeExplanation, Sentence, Voice, verdict_text};
 use std::alloc::Global;
 
-/// Says what a proof shows of the node.
-pub(crate) fn say_proof<P: Program, V: Voice>(
+/// The first sentences of what the parts of a proof show.
+fn parts_lead(alloc: Global, parts: &Parts, grounds: &Grounds) -> Result<Vec<Sentence>, Memory>
+    ensures { IfOk result (λ lead. TellsParts parts.now lead.items) }
+{
+    match parts {
+        Parts::TwoAuths(first, second) => {
+            let lead = two_hashes_lead(alloc, first, second, grounds)?;
+            Ok(lead)
+        }
+        Parts::AuthSegment(auth, segment) => {
+            let lead = denial_lead(alloc, auth, segment, grounds)?;
+            Ok(lead)
+        }
+        Parts::Nonconforming(segment) => {
+            let lead = deviation_lead(alloc, segment, &grounds.segment)?;
+            Ok(lead)
+        }
+    }
+}
+
+/// Says what else there is to a proof: what the segment has where the statement says otherwise, or what the program does.
+fn say_more_of_proof<P: Program, V: Voice>(
     lines: &mut Lines,
     under: &Under<'_, P, V>,
     proof: &Proof,
     grounds: &Grounds,
 ) -> Result<(), Memory> {
     match proof.parts() {
-        Parts::TwoAuths(first, _) => say_two_hashes(lines, first.node, grounds),
-        Parts::AuthSegment(auth, segment) => say_contradiction(
-            lines,
-            under.voice,
-            auth,
-            segment,
-            grounds,
-        ),
-        Parts::Nonconforming(segment) => { say_deviation(lines, under, segment, &grounds.segment) }
+        Parts::TwoAuths(..) => Ok(()),
+        Parts::AuthSegment(auth, segment) => say_other_side(lines, under.voice, segment, auth.seq),
+        Parts::Nonconforming(segment) => say_deviation(lines, under, segment, &grounds.segment),
     }
 }
 
-/// The sentences about a node: none where nothing was looked for.
+/// The sentences of what a proof shows.
+pub(crate) fn proof_sentences<P: Program, V: Voice>(
+    alloc: Global,
+    under: &Under<'_, P, V>,
+    proof: &Proof,
+    grounds: &Grounds,
+) -> Result<Vec<Sentence>, Memory>
+    ensures { IfOk result (λ all. TellsParts proof.now.parts all.items) }
+{
+    let lead = parts_lead(alloc, proof.parts(), grounds)?;
+    let mut lines = Lines::new(alloc);
+    say_more_of_proof(&mut lines, under, proof, grounds)?;
+    let all = followed_by(lead, lines)?;
+    Ok(all)
+}
+
+/// The sentences about an exposed node: its proof, and what else speaks against it.
+fn exposed_sentences<P: Program, V: Voice>(
+    alloc: Global,
+    under: &Under<'_, P, V>,
+    proof: &Proof,
+    open: &[&Item],
+    found: &NodePlaces,
+) -> Result<Vec<Sentence>, Memory>
+    ensures { IfOk result (λ all. TellsParts proof.now.parts all.items) }
+{
+    let lead = proof_sentences(alloc, under, proof, &found.grounds)?;
+    let mut lines = Lines::new(alloc);
+    say_further(&mut lines, found)?;
+    say_challenges(&mut lines, under.voice, open, &found.unanswered)?;
+    let all = followed_by(lead, lines)?;
+    Ok(all)
+}
+
+/// The sentences about a suspected node.
+fn suspected_sentences<V: Voice>(
+    alloc: Global,
+    voice: &V,
+    open: &[&Item],
+    found: &NodePlaces,
+) -> Result<Vec<Sentence>, Memory> {
+    let mut lines = Lines::new(alloc);
+    say_challenges(&mut lines, voice, open, &found.unanswered)?;
+    Ok(lines.into_sentences())
+}
+
+/// The sentences about a node that is trusted.
+fn trusted_sentences(
+    alloc: Global,
+    node: NodeId,
+    found: &NodePlaces,
+) -> Result<Vec<Sentence>, Memory> {
+    let mut lines = Lines::new(alloc);
+    say_trust(&mut lines, node, found)?;
+    Ok(lines.into_sentences())
+}
+
+/// The sentences about a node.
 fn sentences_of<P: Program, V: Voice>(
     alloc: Global,
     under: &Under<'_, P, V>,
     row: &NodeWhy<'_>,
-    found: Option<&NodePlaces>,
-) -> Result<Vec<Sentence>, Memory> {
-    let mut lines = Lines::new(alloc);
-    match (&row.why, found) {
-        (Why::Exposed(proof), Some(found)) => {
-            say_proof(&mut lines, under, proof, &found.grounds)?
+    found: &NodePlaces,
+) -> Result<Vec<Sentence>, Memory>
+    ensures { IfOk result (λ all. TellsWhy row.now.why all.items) }
+{
+    match &row.why {
+        Why::Exposed(proof, open) => {
+            let all = exposed_sentences(alloc, under, proof, open, found)?;
+            Ok(all)
         }
-        (Why::Suspected(challenges), Some(found)) => {
-            say_challenges(&mut lines, under.voice, challenges, &found.unanswered)?
+        Why::Suspected(open) => {
+            let all = suspected_sentences(alloc, under.voice, open, found)?;
+            Ok(all)
         }
-        (Why::Trusted, Some(found)) => say_trust(&mut lines, row.node, found)?,
-        (_, None) => {}
+        Why::Trusted => {
+            let all = trusted_sentences(alloc, row.node, found)?;
+            Ok(all)
+        }
     }
-    Ok(lines.into_sentences())
+}
+
+/// What is told of a node.
+fn explanation_of<P: Program, V: Voice>(
+    alloc: Global,
+    under: &Under<'_, P, V>,
+    row: &NodeWhy<'_>,
+    found: &NodePlaces,
+) -> Result<NodeExplanation, Memory>
+    ensures { IfOk result (λ n. IsTold row.now n) }
+{
+    let sentences = sentences_of(alloc, under, row, found)?;
+    let indication = row.why.indication();
+    Ok(NodeExplanation {
+        node: row.node,
+        indication,
+        has_no_item: indication == Indication::Trusted && found.has_no_item(),
+        sentences,
+    })
 }
 
 /// What is told of all nodes, in their order.
@@ -69,17 +169,14 @@ fn explanations_of<P: Program, V: Voice>(
     whys: &[NodeWhy<'_>],
     found: &[NodePlaces],
 ) -> Result<Vec<NodeExplanation>, Memory>
-    ensures { IfOk result (λ told. map told_of told.items ≡ map row_of whys.now) }
+    ensures { IfOk result (λ told. AreTold whys.now told.items) }
 {
     let mut nodes = Vec::with_capacity(alloc, whys.len())?;
     for row in whys {
-        let found = found.get(nodes.len());
-        let sentences = sentences_of(alloc, under, row, found)?;
-        nodes.push(NodeExplanation {
-            node: row.node,
-            indication: row.why.indication(),
-            sentences,
-        })?;
+        let nothing = NodePlaces::new(alloc, row);
+        let found = found.get(nodes.len()).unwrap_or(&nothing);
+        let told = explanation_of(alloc, under, row, found)?;
+        nodes.push(told)?;
     }
     Ok(nodes)
 }
@@ -93,7 +190,7 @@ pub fn explain_store<P: Program, S: Evidence<P>, V: Voice>(
     voice: &V,
     store: &S,
 ) -> Result<Explanation, Memory>
-    ensures { IfOk result (λ explanation. AreIndications P.means (S.contents store.now) explanation.nodes.items) }
+    ensures { IfOk result (λ explanation. ExplainsSet P.means (S.contents store.now) explanation) }
 {
     let whys = whys_of::<P, S>(alloc, store)?;
     let places = places_of::<P, S>(alloc, store, &whys)?;
@@ -107,7 +204,7 @@ pub fn explain_store<P: Program, S: Evidence<P>, V: Voice>(
     Ok(Explanation { heading, nodes })
 }
 
-/// The text of what a store says under a basis: of its lines behind the heading those that do not begin with a blank are the report.
+/// The text of what a store says under a basis: the basis' lines, one about the whole, and for each node its line and its sentences.
 pub fn explained_text<P: Program, S: Evidence<P>, V: Voice>(
     alloc: Global,
     program: &P,
@@ -115,7 +212,7 @@ pub fn explained_text<P: Program, S: Evidence<P>, V: Voice>(
     store: &S,
     basis: &Basis,
 ) -> Result<Vec<u8>, Memory>
-    ensures { IfOk result (λ text. IsExplained P.means (S.contents store.now) text.items) }
+    ensures { IfOk result (λ text. IsExplained P.means basis.now (S.contents store.now) text.items) }
 {
     let explanation = explain_store::<P, S, V>(alloc, program, voice, store)?;
     let text = verdict_text(alloc, basis, &explanation)?;

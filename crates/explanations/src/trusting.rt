@@ -84,7 +84,7 @@ fn say_answered(lines: &mut Lines, found: &NodePlaces) -> Result<(), Memory> {
 
 /// Says what there is of the node, or that there is nothing.
 pub(crate) fn say_trust(lines: &mut Lines, node: NodeId, found: &NodePlaces) -> Result<(), Memory> {
-    if found.segments.is_empty() && found.statements == 0 && found.challenges == 0 {
+    if found.has_no_item() {
         let text = format!(in lines.alloc(); "No item is of node {node}.")?;
         return lines.say(text);
     }

@@ -18,8 +18,8 @@ use std::alloc::Global;
 /// Why a node is what it is.
 #[derive(Debug, Drop)]
 pub enum Why<'a> {
-    /// It is exposed: this proof convicts it.
-    Exposed(Proof),
+    /// It is exposed: this proof convicts it, and these challenges against it are not answered. They are as those of a suspected node.
+    Exposed(Proof, Vec<&'a Item>),
     /// It is suspected: these challenges against it are not answered. They are lent from the store, and ascend by their spellings.
     Suspected(Vec<&'a Item>),
     /// It is trusted: nothing speaks against it.
@@ -41,7 +41,7 @@ impl<'a> Why<'a> {
         ensures { result ≡ indication_of self.now }
     {
         match self {
-            Why::Exposed(_) => Indication::Exposed,
+            Why::Exposed(..) => Indication::Exposed,
             Why::Suspected(_) => Indication::Suspected,
             Why::Trusted => Indication::Trusted,
         }
@@ -64,7 +64,8 @@ pub fn why_of<'a, P: Program, S: Evidence<P>>(
             let Some(proof) = store.proof(node)? else {
                 unreachable!()
             };
-            Ok(Why::Exposed(proof))
+            let open = store.open_challenges(node)?;
+            Ok(Why::Exposed(proof, open))
         }
         Indication::Suspected => {
             let open = store.open_challenges(node)?;

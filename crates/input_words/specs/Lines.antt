@@ -18,15 +18,15 @@ HasOther text = (k : ℕ) × (position is_other text ≡ Some k)
 
 -- What is told of a line is so: of a character, that it is the first that is no digit; of an odd number, that each character is one and
 -- there are so many; of all else, that there is a byte that is no digit.
-abbrev pub Stands : List ℕ → LineFault → Type 0
-Stands text (line.Character place byte) = (k : ℕ) × (k + 1 ≡ place) × (position is_other text ≡ Some k) × (get_or text k 0 ≡ byte)
-Stands text (line.Odd digits) = (position is_other text ≡ None) × (length text ≡ digits) × (length text % 2 ≡ 1)
-Stands text line.ByteOrderMark = HasOther text
-Stands text line.Wide = HasOther text
-Stands text line.Prefix = HasOther text
-Stands text line.BlankFirst = HasOther text
-Stands text line.BlankLast = HasOther text
-Stands text line.CarriageReturn = HasOther text
+abbrev pub Describes : List ℕ → LineFault → Type 0
+Describes text (line.Character place byte) = (k : ℕ) × (k + 1 ≡ place) × (position is_other text ≡ Some k) × (get_or text k 0 ≡ byte)
+Describes text (line.Odd digits) = (position is_other text ≡ None) × (length text ≡ digits) × (length text % 2 ≡ 1)
+Describes text line.ByteOrderMark = HasOther text
+Describes text line.Wide = HasOther text
+Describes text line.Prefix = HasOther text
+Describes text line.BlankFirst = HasOther text
+Describes text line.BlankLast = HasOther text
+Describes text line.CarriageReturn = HasOther text
 
 -- What is told is the form of the whole, and neither a character nor a count.
 abbrev pub IsForm : LineFault → Type 0

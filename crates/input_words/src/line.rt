@@ -1,7 +1,7 @@
 //! What is wrong with a line of hexadecimal digits.
 
 ghost use Rattle.std.specs.Prelude.{◌≡◌, ◌<◌, length, position, IfSome, MatchOption, Some};
-ghost use Rattle.input_words.specs.Lines.{IsForm, IsHex, Stands, is_other};
+ghost use Rattle.input_words.specs.Lines.{Describes, IsForm, IsHex, is_other};
 ghost use Rattle.hex.specs.Hex.{is_hex_digit};
 
 use std::fmt;
@@ -74,7 +74,7 @@ fn start_fault(line: &[u8], place: usize) -> Option<LineFault>
 fn other_fault(line: &[u8], place: usize) -> LineFault
     requires within { place < length line.now }
     requires first { position is_other line.now ≡ Some place }
-    ensures { Stands line.now result }
+    ensures { Describes line.now result }
 {
     let byte = line[place];
     if let Some(fault) = start_fault(line, place) {
@@ -91,7 +91,7 @@ fn other_fault(line: &[u8], place: usize) -> LineFault
 
 /// What is wrong with a line; none where it is an even number of hexadecimal digits, in either case.
 pub fn line_fault(line: &[u8]) -> Option<LineFault>
-    ensures { MatchOption result (IsHex line.now) (λ f. Stands line.now f) }
+    ensures { MatchOption result (IsHex line.now) (λ f. Describes line.now f) }
 {
     if let Some(place) = first_other(line) {
         return Some(other_fault(line, place));

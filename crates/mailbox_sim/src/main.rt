@@ -7,6 +7,7 @@
 
 mod wishes;
 
+ghost use Rattle.std.specs.Prelude.{codes};
 ghost use Rattle.commands.specs.Answers.{IsAnswer};
 ghost use Rattle.commands.specs.Engines.{HasRoom, Ran};
 ghost use Rattle.explaining.specs.Explained.{Explain, without_place};
@@ -66,9 +67,9 @@ fn explained(rt: &HostRuntime) -> ExitCode {
     let mut writer = CountedWriter::new(io::writer(rt));
     match explaining::read_words(rt, 1, "mailbox_sim explain") {
         explaining::Asked::Run(request) => {
-            explaining::told(rt, explain(rt.alloc(), request, &mut reader, &mut writer))
+            explaining::exit_of(rt, explain(rt.alloc(), request, &mut reader, &mut writer))
         }
-        explaining::Asked::Refused(fault) => explaining::told(rt, Err(Refusal::from(fault))),
+        explaining::Asked::Refused(fault) => explaining::exit_of(rt, Err(Refusal::from(fault))),
         explaining::Asked::Other => ExitCode::from(2),
     }
 }
@@ -81,7 +82,7 @@ fn explain<R: Source, W: Sink>(
     writer: &mut W,
 ) -> Result<(), Refusal>
     requires { HasRoom (R.seen reader.old) (W.seen writer.old) }
-    ensures { Ran (Explain mailbox request) (without_place result) (R.seen reader.old) (R.seen reader.new) W.seen writer.old writer.new }
+    ensures { Ran (Explain (codes "Mailbox") mailbox request) (without_place result) (R.seen reader.old) (R.seen reader.new) W.seen writer.old writer.new }
 {
     let mails = Followed {
         program: &Mailbox,

@@ -22,6 +22,7 @@ use Rattle.operating.specs.declared.asking.Ending.{Ending}
 use Rattle.operating.specs.declared.asking.Ending.TheVariants as ending
 use Rattle.operating.specs.declared.scope.Scope.{Scope}
 use Rattle.operating.specs.declared.scope.Scope.TheVariants as scope
+use Rattle.operating.specs.GatheredFiles.{under}
 use Rattle.operating.specs.Questions.{AreStandings, ExposesSomebody, ExtractsAreTold, IsEnding, Status, asked, is_asked}
 
 abbrev Row : Type 0
@@ -91,18 +92,18 @@ module _ {S : Type 0} (one : IndicationsAreOne S) (extracts : ExtractsIndicate S
   same_ending ending.Done ending.NoProof whole own = absurd own
   same_ending ending.NoProof b whole own = absurd whole
 
-  same_answer : (style : Style) (a b : List ℕ × Ending) → Status style among program (record { directory = ds; items = E }) (Ok a) → Status style among program (record { directory = ds; items = X }) (Ok b) → a ≡ b
-  same_answer style a b (xs, whole, text, last) (ys, own, own_text, own_last) =
-      let told : a.0 ≡ b.0 = text ∙ ap (standings_text style) (same_rows xs ys whole own) ∙ sym own_text in
+  same_answer : (style : Style) (name directory : List ℕ) (a b : List ℕ × Ending) → Status style name among program (under directory (record { directory = ds; items = E })) (Ok a) → Status style name among program (under directory (record { directory = ds; items = X })) (Ok b) → a ≡ b
+  same_answer style name directory a b (xs, whole, text, last) (ys, own, own_text, own_last) =
+      let told : a.0 ≡ b.0 = text ∙ ap (standings_text style name directory) (same_rows xs ys whole own) ∙ sym own_text in
       let ends : a.1 ≡ b.1 = same_ending a.1 b.1 last own_last in
       ap (λ (t : List ℕ). let r : List ℕ × Ending = (t, a.1) in r) told ∙ ap (λ (e : Ending). let r : List ℕ × Ending = (b.0, e) in r) ends
 
 pub are_told : {S : Type 0} → IndicationsAreOne S → ExtractsIndicate S → QuotesAsExpected → ExtractsAreTold S
 are_told one extracts quotes = record {
-  answer = λ style program shards k s t a b same each whole own.
-      same_answer one extracts program s.directory s.items t.items (scope.Shard shards k) (λ j in_scope. each j (eqb-true (in_turn shards j) k in_scope)) style a b whole
-      (subst (λ (ds : Listing). Status style (scope.Shard shards k) program (record { directory = ds; items = t.items }) (Ok b)) (sym same) own);
-  shard = λ style program shards k s X a b adds whole own.
+  answer = λ style name directory program shards k s t a b same each whole own.
+      same_answer one extracts program s.directory s.items t.items (scope.Shard shards k) (λ j in_scope. each j (eqb-true (in_turn shards j) k in_scope)) style name directory a b whole
+      (subst (λ (ds : Listing). Status style name (scope.Shard shards k) program (under directory (record { directory = ds; items = t.items })) (Ok b)) (sym same) own);
+  shard = λ style name directory program shards k s X a b adds whole own.
       same_answer one extracts program s.directory s.items (own_shard (in_turn shards) k X) (scope.Shard shards k)
-      (λ j in_scope. subst (λ (n : ℕ). IsExtract s.directory j s.items (own_shard (in_turn shards) n X)) (eqb-true (in_turn shards j) k in_scope) (quotes.extract s.directory (in_turn shards) s.items X j adds)) style a b whole own;
+      (λ j in_scope. subst (λ (n : ℕ). IsExtract s.directory j s.items (own_shard (in_turn shards) n X)) (eqb-true (in_turn shards j) k in_scope) (quotes.extract s.directory (in_turn shards) s.items X j adds)) style name directory a b whole own;
 }

@@ -17,7 +17,7 @@ use Rattle.evidence_set.specs.Names.{name_of}
 use Rattle.evidence.specs.Contents.{Contents}
 use Rattle.answers.specs.declared.style.Style.TheVariants as style
 use Rattle.answers.specs.Lines.{standing_line}
-use Rattle.commands.specs.Output.{IsReport, line_of}
+use Rattle.status_lines.specs.Reports.{IsReport, line_of}
 use Rattle.operating.specs.declared.asking.Ending.{Ending}
 use Rattle.operating.specs.declared.scope.Scope.TheVariants as scope
 use Rattle.operating.specs.Questions.{AreStandings, IsEnding, StandingsAreReports, Status, asked}
@@ -60,7 +60,7 @@ all_kept (row ∷ rows) = ap (λ (more : List (ℕ × Indication)). row ∷ more
 
 -- the report has the same rows, in the same lines
 pub reports : {S : Type 0} → StandingsAreReports S
-reports program s told = (
+reports program name c told = (
   λ h.
       let written : told.0 ≡ flat_map standing_line (asked scope.All h.0) = h.2 in
       (record { rows = h.0; ascending = h.1.ascending; complete = h.1.complete; right = h.1.right; spelled = written ∙ ap (flat_map standing_line) (all_kept h.0) ∙ same_lines h.0 }, h.3),

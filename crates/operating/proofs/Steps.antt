@@ -1,6 +1,6 @@
 -- What the steps of reading files say of the whole.
 use Rattle.std.proofs.Common.{◌≡◌, ◌∙◌, ℕ, false, List, Option, Some, None, Result, Ok, Err, inl, inr, refl, sym, ap}
-use Rattle.std.specs.Prelude.{◌↔◌, IsSome, OnOk, is_some}
+use Rattle.std.specs.Prelude.{◌↔◌, IsSome, is_some}
 use Rattle.outcome.specs.Outcome.{told_as, Fails}
 use Rattle.authenticators.specs.Directory.{Listing, is_listed, keys_at}
 use Rattle.authenticators.specs.declared.fault.DirectoryFault.{DirectoryFault}
@@ -17,19 +17,10 @@ use Rattle.commands.specs.Refusals.{of_cause, of_directory, of_import}
 use Rattle.operating.specs.declared.refusal.Refusal.{Refusal}
 use Rattle.operating.specs.GatheredFiles.{RefusesText}
 
--- what is read did not fail
-pub quiet_read : {V : Type 0} (r : Result V Fault) (a b : ℕ) → ((r ≡ Err fault.ReadFailed → ⊥) → b ≡ a) → OnOk r (b ≡ a)
-quiet_read (Ok v) a b h = h (λ e. absurd cc)
-quiet_read (Err f) a b h = tt
-
-pub on_more : {A E : Type 0} (r : Result A E) (P Q : Type 0) → (P → Q) → OnOk r P → OnOk r Q
-on_more (Ok x) P Q f h = f h
-on_more (Err e) P Q f h = tt
-
 -- a text that is refused
-pub text_refused : (s : Contents) (text : List ℕ) (f : ImportFault) (r : Refusal) → r.fault ≡ of_import f → r.item ≡ Some f.item → Refuses f (import_set s.directory text) → RefusesText s text r
-text_refused s text f r told item (inl memory) = (f, told, item, inl (told ∙ ap of_cause memory))
-text_refused s text f r told item (inr e) = (f, told, item, inr e)
+pub text_refused : (ds : Listing) (text : List ℕ) (f : ImportFault) (r : Refusal) → r.fault ≡ of_import f → r.item ≡ Some f.item → Refuses f (import_set ds text) → RefusesText ds text r
+text_refused ds text f r told item (inl memory) = (f, told, item, inl (told ∙ ap of_cause memory))
+text_refused ds text f r told item (inr e) = (f, told, item, inr e)
 
 -- a text that is no directory
 pub no_directory : (d : Result Listing DirectoryFault) (e : DirectoryFault) (f : Fault) → f ≡ of_directory e → Fails listing.Memory e d → Fails fault.Memory f (told_as of_directory d)

@@ -1,5 +1,5 @@
 -- A directory and a proof in files, and the first fault in them.
-use Rattle.std.specs.Prelude.{ℕ, ◌≡◌, ◌⊎◌, false, true, List, Option, Ok, Err}
+use Rattle.std.specs.Prelude.{ℕ, ◌≡◌, ◌⊎◌, List, Option, None, Ok, Err}
 use Rattle.outcome.specs.Outcome.{told_as, Fails}
 use Rattle.authenticators.specs.Directory.{Listing}
 use Rattle.authenticators.specs.DirectoryText.{directory_of}
@@ -28,16 +28,16 @@ RefusesProofText program ds text f =
 -- File 0 says a directory, and file 1 a proof that convicts the node under it.
 abbrev pub AreConvicting : {S : Type 0} → Meaning S → ℕ → (ℕ → Option (List ℕ)) → ℕ → Type 0
 AreConvicting program limit files node =
-    (ds : Listing) × (text : List ℕ) × SaysDirectory limit (files 0) ds × Says limit false (files 1) text × TextConvicts program ds text node
+    (ds : Listing) × (text : List ℕ) × SaysDirectory limit (files 0) ds × Says limit None (files 1) text × TextConvicts program ds text node
 
 -- The same with the directory's text beside the node.
 abbrev pub AreConvictingUnder : {S : Type 0} → Meaning S → ℕ → (ℕ → Option (List ℕ)) → ℕ × List ℕ → Type 0
 AreConvictingUnder program limit files found =
-    (ds : Listing) × (text : List ℕ) × Says limit true (files 0) found.1 × (directory_of found.1 ≡ Ok ds) × Says limit false (files 1) text × TextConvicts program ds text found.0
+    (ds : Listing) × (text : List ℕ) × Says limit None (files 0) found.1 × (directory_of found.1 ≡ Ok ds) × Says limit None (files 1) text × TextConvicts program ds text found.0
 
 -- Why a proof is refused under a directory: its file says nothing, or what convicts nobody.
 abbrev pub RefusesProof : {S : Type 0} → Meaning S → ℕ → Listing → Option (List ℕ) → Fault → Type 0
-RefusesProof program limit ds file f = IsUnsaid limit false file f ⊎ ((text : List ℕ) × Says limit false file text × RefusesProofText program ds text f)
+RefusesProof program limit ds file f = IsUnsaid limit None file f ⊎ ((text : List ℕ) × Says limit None file text × RefusesProofText program ds text f)
 
 -- The refusal of a directory and a proof: the directory's, or else the proof's.
 abbrev pub RefusesConviction : {S : Type 0} → Meaning S → ℕ → (ℕ → Option (List ℕ)) → Refusal → Type 0

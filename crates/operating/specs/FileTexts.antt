@@ -1,54 +1,124 @@
 -- Files by their numbers, and what they say.
-use Rattle.std.specs.Prelude.{ℕ, suc, ◌≡◌, ◌⊎◌, ◌≤◌, Bool, true, false, ltb, if◌then◌else◌, List, [], ◌∷◌, take, length, Option, Result, Ok, Err}
+--
+-- | A file of | says |
+-- |---|---|
+-- | fewer than eight bytes, or with another one than digits among the first eight | one text: its bytes |
+-- | one line | one text: the bytes that its digits spell |
+-- | two lines, of which the second has a character | a directory in the first, and under it a text in the second |
+-- | two lines, of which the second has none; more lines | nothing: 104 |
+--
+-- A line with another character than digits, or with an odd number of them, is 103. Where one text is read two are 104, and where a text is
+-- read under a directory one that stands under another is 104.
+use Rattle.std.specs.Prelude.{ℕ, suc, ◌≡◌, ◌⊎◌, ◌<◌, ◌≤◌, Bool, true, false, ltb, if◌then◌else◌, List, [], ◌∷◌, take, length, option_map, option_to_list, unwrap_or, Option, Some, None, Result, Ok, Err}
 use Rattle.std.specs.List.{list_all}
+use Rattle.std.specs.Str.{bytes_eq}
 use Rattle.hex.specs.Hex.{is_hex_digit}
 use Rattle.outcome.specs.Outcome.{◌>>=◌, Fails}
 use Rattle.authenticators.specs.Directory.{Listing}
 use Rattle.authenticators.specs.DirectoryText.{directory_of}
 use Rattle.commands.specs.declared.fault.Fault.{Fault}
 use Rattle.commands.specs.declared.fault.Fault.TheVariants as fault
-use Rattle.commands.specs.Devices.{IsAllOf, IsReadFault}
+use Rattle.commands.specs.Devices.{IsAllOf, IsReadFault, Reader}
 use Rattle.commands.specs.HexLines.{bytes_of, lines_of}
+use Rattle.operating.specs.declared.files.TheConstants.{MOST_READS}
 
--- What each file has, where it tells its bytes, and how many files failed, to be opened or to be read.
+-- What each file has, where it tells its bytes, and how many files failed: to be opened, to be read, or to end within the most reads.
 pub record Opened : Type 0 where
   pub files : ℕ → Option (List ℕ)
   pub failures : ℕ
 
--- ---- bytes and digits
+-- A reader failed, or met no end within the most reads.
+abbrev pub IsFailed : Reader → Type 0
+IsFailed r = (0 < r.failures) ⊎ ((r.ends ≡ 0) × (MOST_READS ≤ r.reads))
+
+-- A fault of reading files: 100 only where a file failed, and never 102.
+pub record IsOfReading (old new : Opened) (f : Fault) : Type 0 where
+  pub read_failed : f ≡ fault.ReadFailed → old.failures < new.failures
+  pub not_written : f ≡ fault.WriteFailed → ⊥
+
+-- ---- what a file says
 
 -- The file is lines of digits: it has eight bytes, and the first eight are digits.
 abbrev pub is_spelled : List ℕ → Bool
 is_spelled bytes = if ltb (length bytes) 8 then false else list_all is_hex_digit (take 8 bytes)
 
--- The first of one line or two, or the last: of two lines the first is a directory, and the second what stands under it.
-abbrev pub line_in : Bool → List (List ℕ) → Result (List ℕ) Fault
-line_in first (one ∷ []) = Ok one
-line_in first (one ∷ other ∷ []) = Ok (if first then one else other)
-line_in first _ = Err fault.LineCount
+-- A text, and the directory's that stands above it in the file, where there is one.
+pub record Texts : Type 0 where
+  pub above : Option (List ℕ)
+  pub text : List ℕ
 
--- What a file says in its first line, or in its last: the bytes that its digits spell, or its own.
-unfoldable pub said : Bool → List ℕ → Result (List ℕ) Fault
-said first bytes = if is_spelled bytes then (line_in first (lines_of bytes) >>= bytes_of) else Ok bytes
+abbrev pub alone : List ℕ → Texts
+alone text = record { above = None; text = text }
+
+abbrev pub beneath : List ℕ → List ℕ → Texts
+beneath directory text = record { above = Some directory; text = text }
+
+-- What one line spells, and what two do.
+unfoldable pub one_in : List ℕ → Result Texts Fault
+one_in line = do
+  text ← bytes_of line
+  Ok (alone text)
+
+unfoldable pub two_in : List ℕ → List ℕ → Result Texts Fault
+two_in line [] = Err fault.LineCount
+two_in line (digit ∷ digits) = do
+  directory ← bytes_of line
+  text ← bytes_of (digit ∷ digits)
+  Ok (beneath directory text)
+
+-- What lines spell.
+abbrev pub spelled_in : List (List ℕ) → Result Texts Fault
+spelled_in (line ∷ []) = one_in line
+spelled_in (line ∷ other ∷ []) = two_in line other
+spelled_in _ = Err fault.LineCount
+
+-- What a file says.
+unfoldable pub texts_of : List ℕ → Result Texts Fault
+texts_of bytes = if is_spelled bytes then spelled_in (lines_of bytes) else Ok (alone bytes)
+
+-- ---- what is read of it
+
+-- A text alone where no directory is given; else a text that stands alone, or under the directory of this text.
+abbrev pub read_under : Option (List ℕ) → Option (List ℕ) → List ℕ → Result (List ℕ) Fault
+read_under given None text = Ok text
+read_under None (Some above) text = Err fault.LineCount
+read_under (Some given) (Some above) text = if bytes_eq above given then Ok text else Err fault.LineCount
+
+unfoldable pub said : Option (List ℕ) → List ℕ → Result (List ℕ) Fault
+said given bytes = texts_of bytes >>= λ t. read_under given t.above t.text
+
+-- A directory, and the text that stands under it, where there is one.
+abbrev pub directory_in : Texts → List ℕ
+directory_in t = unwrap_or t.above t.text
+
+abbrev pub evidence_in : Texts → List (List ℕ)
+evidence_in t = option_to_list (option_map (λ (directory : List ℕ). t.text) t.above)
 
 -- ---- reading
 
--- A file was read to its end, is within the limit, and says the text.
-pub record Says (limit : ℕ) (first : Bool) (file : Option (List ℕ)) (text : List ℕ) : Type 0 where
+-- A file was read to its end, is within the limit, and is read so.
+pub record SaysBy {X : Type 0} (limit : ℕ) (reading : List ℕ → Result X Fault) (file : Option (List ℕ)) (x : X) : Type 0 where
   pub bytes : List ℕ
   pub all : IsAllOf file bytes
   pub within : length bytes ≤ limit
-  pub is : said first bytes ≡ Ok text
+  pub is : reading bytes ≡ Ok x
 
--- A file says a directory.
+-- A file says the text, alone or under a directory.
+abbrev pub Says : ℕ → Option (List ℕ) → Option (List ℕ) → List ℕ → Type 0
+Says limit given file text = SaysBy limit (said given) file text
+
+-- A file says a directory, and nothing else.
 abbrev pub SaysDirectory : ℕ → Option (List ℕ) → Listing → Type 0
-SaysDirectory limit file ds = (text : List ℕ) × Says limit true file text × (directory_of text ≡ Ok ds)
+SaysDirectory limit file ds = (text : List ℕ) × Says limit None file text × (directory_of text ≡ Ok ds)
 
--- The files from a number on say the texts, each its own, in their last lines.
-abbrev pub Say : ℕ → (ℕ → Option (List ℕ)) → ℕ → List (List ℕ) → Type 0
-Say limit files n [] = Unit {0}
-Say limit files n (text ∷ texts) = Says limit false (files n) text × Say limit files (suc n) texts
+-- The files from a number on say the texts under a directory, each its own.
+abbrev pub Say : ℕ → List ℕ → (ℕ → Option (List ℕ)) → ℕ → List (List ℕ) → Type 0
+Say limit directory files n [] = Unit {0}
+Say limit directory files n (text ∷ texts) = Says limit (Some directory) (files n) text × Say limit directory files (suc n) texts
 
--- Why a file says nothing: it was not read, or its lines spell nothing.
-abbrev pub IsUnsaid : ℕ → Bool → Option (List ℕ) → Fault → Type 0
-IsUnsaid limit first file f = IsReadFault f limit file ⊎ ((bytes : List ℕ) × IsAllOf file bytes × (length bytes ≤ limit) × Fails fault.Memory f (said first bytes))
+-- Why a file says nothing: it was not read, or it is not read so.
+abbrev pub IsUnsaidBy : {X : Type 0} → ℕ → (List ℕ → Result X Fault) → Option (List ℕ) → Fault → Type 0
+IsUnsaidBy limit reading file f = IsReadFault f limit file ⊎ ((bytes : List ℕ) × IsAllOf file bytes × (length bytes ≤ limit) × Fails fault.Memory f (reading bytes))
+
+abbrev pub IsUnsaid : ℕ → Option (List ℕ) → Option (List ℕ) → Fault → Type 0
+IsUnsaid limit given file f = IsUnsaidBy limit (said given) file f

@@ -1,5 +1,6 @@
 pub mod Combining
 pub mod ConvictingFiles
+pub mod Dealt
 pub mod FileTexts
 pub mod GatheredFiles
 pub mod Operating

@@ -1,15 +1,14 @@
 -- What an engine did with files and a writer.
-use Rattle.std.specs.Prelude.{ℕ, false, ◌≡◌, ◌⊎◌, ◌+◌, ◌^◌, ◌<◌, List, None, Result, Ok, Err, IfErr, IfOk, OnOk}
+use Rattle.std.specs.Prelude.{ℕ, ◌≡◌, ◌⊎◌, ◌+◌, ◌^◌, ◌<◌, List, None, Result, Ok, Err, IfErr, IfOk, OnOk}
 use Rattle.std.specs.Io.KnownBytes.{Appends}
 use Rattle.commands.specs.declared.fault.Fault.{Fault}
 use Rattle.commands.specs.declared.fault.Fault.TheVariants as fault
 use Rattle.commands.specs.Devices.{Writer}
-use Rattle.evidence.specs.Contents.{Contents}
 use Rattle.operating.specs.declared.asking.Ending.{Ending}
 use Rattle.operating.specs.declared.refusal.Refusal.{Refusal}
 use Rattle.operating.specs.ConvictingFiles.{AreConvictingUnder, RefusesConviction}
 use Rattle.operating.specs.FileTexts.{IsUnsaid, Opened, Says}
-use Rattle.operating.specs.GatheredFiles.{AreGathered, IsOfFile, RefusesFiles}
+use Rattle.operating.specs.GatheredFiles.{AreGathered, Collected, IsOfFile, RefusesFiles}
 use Rattle.operating.specs.Questions.{Check, Show}
 use Rattle.answers.specs.declared.style.Style.{Style}
 use Rattle.replay_verifier.specs.Meaning.{Meaning}
@@ -32,12 +31,15 @@ pub record Ran {S W : Type 0} (reads : S → Type 0) (refuses : Refusal → Type
   pub refused : IfErr result (λ r. refuses r ⊎ ((s : S) × reads s × (r.file ≡ None) × LacksAnswer (question s) r.fault))
   -- A refused engine has written nothing; or the write itself failed, and its count rose.
   pub nothing_written : IfErr result (λ r. (after ≡ before) ⊎ ((r.fault ≡ fault.WriteFailed) × ((seen before).failures < (seen after).failures)))
+  -- A device's fault is told only where its count of failures rose.
+  pub read_failed : IfErr result (λ r. r.fault ≡ fault.ReadFailed → old.failures < new.failures)
+  pub write_failed : IfErr result (λ r. r.fault ≡ fault.WriteFailed → (seen before).failures < (seen after).failures)
   -- Where it was done, no file and no write failed.
   pub reads_well : OnOk result (new.failures ≡ old.failures)
   pub writes_well : OnOk result ((seen after).failures ≡ (seen before).failures)
 
 -- An engine asked the evidence of a directory and so many stores.
-abbrev pub RanOnStores : {W : Type 0} → (Contents → Result (List ℕ × Ending) Fault → Type 0) → ℕ → ℕ → Result Ending Refusal → Opened → Opened → (W → Writer) → W → W → Type 0
+abbrev pub RanOnStores : {W : Type 0} → (Collected → Result (List ℕ × Ending) Fault → Type 0) → ℕ → ℕ → Result Ending Refusal → Opened → Opened → (W → Writer) → W → W → Type 0
 RanOnStores question limit count result old new seen before after = Ran (AreGathered limit old.files count) (RefusesFiles limit old.files count) question result old new seen before after
 
 -- An engine asked whom a proof convicts under a directory and the program, which has this name.
@@ -46,4 +48,4 @@ RanOnProof style name program limit result old new seen before after = Ran (AreC
 
 -- An engine asked what one file is.
 abbrev pub RanOnFile : {W : Type 0} → Style → ℕ → Result Ending Refusal → Opened → Opened → (W → Writer) → W → W → Type 0
-RanOnFile style limit result old new seen before after = Ran (Says limit false (old.files 0)) (λ r. IsOfFile 0 r × IsUnsaid limit false (old.files 0) r.fault) (Show style) result old new seen before after
+RanOnFile style limit result old new seen before after = Ran (Says limit None (old.files 0)) (λ r. IsOfFile 0 r × IsUnsaid limit None (old.files 0) r.fault) (Show style) result old new seen before after

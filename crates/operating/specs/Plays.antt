@@ -1,5 +1,5 @@
 -- What a scenario leaves in files, and when none is left.
-use Rattle.std.specs.Prelude.{ℕ, ◌≡◌, ◌⊎◌, false, List, map, None, Option, Ok}
+use Rattle.std.specs.Prelude.{ℕ, ◌≡◌, ◌⊎◌, List, map, None, Option, Ok}
 use Rattle.authenticators.specs.DirectoryText.{directory_text}
 use Rattle.evidence.specs.Contents.{Contents}
 use Rattle.evidence_set.specs.Exports.{export_of}
@@ -23,6 +23,6 @@ pub record AreLeft (s : Script) (workers : ℕ) (p : Played) : Type 0 where
 -- Why nothing is left: the file says nothing; or memory ran out; or it says no scenario, or one that is not run to its end.
 abbrev pub RefusesPlay : ℕ → ℕ → Option (List ℕ) → Refusal → Type 0
 RefusesPlay limit workers file r =
-    (IsOfFile 0 r × IsUnsaid limit false file r.fault)
-    ⊎ ((text : List ℕ) × Says limit false file text × (r.item ≡ None)
+    (IsOfFile 0 r × IsUnsaid limit None file r.fault)
+    ⊎ ((text : List ℕ) × Says limit None file text × (r.item ≡ None)
     × ((r.fault ≡ fault.Memory) ⊎ IsNone text r.fault ⊎ ((s : Script) × (scenario_of text ≡ Ok s) × IsOfRun workers r.fault)))

@@ -21,11 +21,13 @@ use Rattle.localities.specs.Shards.{in_turn}
 use Rattle.shards.specs.Extracts.{AddsQuotes, own_shard}
 use Rattle.commands.specs.declared.fault.Fault.{Fault}
 use Rattle.commands.specs.declared.fault.Fault.TheVariants as fault
-use Rattle.commands.specs.Output.{IsFound, IsReport}
+use Rattle.commands.specs.Output.{IsFound}
+use Rattle.status_lines.specs.Reports.{IsReport}
 use Rattle.operating.specs.declared.asking.Ending.{Ending}
 use Rattle.operating.specs.declared.asking.Ending.TheVariants as ending
 use Rattle.operating.specs.declared.scope.Scope.{Scope}
 use Rattle.operating.specs.declared.scope.Scope.TheVariants as scope
+use Rattle.operating.specs.GatheredFiles.{Collected, under}
 
 -- The node is one of those that are asked of: any, or one of shard k.
 abbrev pub is_asked : Scope → ℕ → Bool
@@ -52,15 +54,16 @@ pub record AreStandings {S : Type 0} (program : Meaning S) (s : Contents) (rows 
 abbrev pub asked : Scope → List (ℕ × Indication) → List (ℕ × Indication)
 asked scope rows = filter (λ row. is_asked scope row.0) rows
 
--- `status`: of the standings those of the nodes that are asked of, as they are written in this style. It is never refused.
-abbrev pub Status : {S : Type 0} → Style → Scope → Meaning S → Contents → Result (List ℕ × Ending) Fault → Type 0
-Status style scope program s (Ok told) = (rows : List (ℕ × Indication)) × AreStandings program s rows × (told.0 ≡ standings_text style (asked scope rows)) × IsEnding scope program s told.1
-Status style scope program s (Err f) = ⊥
+-- `status`: of the standings those of the nodes that are asked of, under the program of this name, as they are written in this style. It is
+-- never refused.
+abbrev pub Status : {S : Type 0} → Style → List ℕ → Scope → Meaning S → Collected → Result (List ℕ × Ending) Fault → Type 0
+Status style name scope program c (Ok told) = (rows : List (ℕ × Indication)) × AreStandings program c.contents rows × (told.0 ≡ standings_text style name c.directory (asked scope rows)) × IsEnding scope program c.contents told.1
+Status style name scope program c (Err f) = ⊥
 
 -- `merge`: the text of the set of all items. It is never refused.
-abbrev pub Merge : Contents → Result (List ℕ × Ending) Fault → Type 0
-Merge s (Ok told) = told ≡ (export_of s.items, ending.Done)
-Merge s (Err f) = ⊥
+abbrev pub Merge : Collected → Result (List ℕ × Ending) Fault → Type 0
+Merge c (Ok told) = told ≡ (export_of c.contents.items, ending.Done)
+Merge c (Err f) = ⊥
 
 -- A proof's text; nothing where there is none.
 abbrev pub told_of : Option Case → List ℕ × Ending
@@ -68,9 +71,9 @@ told_of None = ([], ending.NoProof)
 told_of (Some c) = (proof_text c.parts, ending.Done)
 
 -- `prove`: what is found against the node. It is refused where the node is not listed.
-abbrev pub Prove : {S : Type 0} → Meaning S → ℕ → Contents → Result (List ℕ × Ending) Fault → Type 0
-Prove program node s (Ok told) = (found : Option Case) × IsFound program s node found × (told ≡ told_of found)
-Prove program node s (Err f) = (keys_at s.directory node ≡ None) × (f ≡ fault.UnknownNode)
+abbrev pub Prove : {S : Type 0} → Meaning S → ℕ → Collected → Result (List ℕ × Ending) Fault → Type 0
+Prove program node c (Ok told) = (found : Option Case) × IsFound program c.contents node found × (told ≡ told_of found)
+Prove program node c (Err f) = (keys_at c.contents.directory node ≡ None) × (f ≡ fault.UnknownNode)
 
 -- `check`: which node is convicted, under the program of this name and the directory of which text, as it is written in this style. It is
 -- never refused.
@@ -87,12 +90,12 @@ Show style text (Err f) = ⊥
 
 -- In lines `status` of all nodes writes the report that the commands on lines of digits write.
 abbrev pub StandingsAreReports : Type 0 → Type 0
-StandingsAreReports S = (program : Meaning S) (s : Contents) (told : List ℕ × Ending) → Status style.Lines scope.All program s (Ok told) ↔ (IsReport program s told.0 × IsEnding scope.All program s told.1)
+StandingsAreReports S = (program : Meaning S) (name : List ℕ) (c : Collected) (told : List ℕ × Ending) → Status style.Lines name scope.All program c (Ok told) ↔ (IsReport program c.contents told.0 × IsEnding scope.All program c.contents told.1)
 
 -- Of the nodes of shard k `status` answers the same of all evidence and of what is an extract of it for each of them; as is shard k of a
 -- set that has what is quoted in the evidence beside it.
 pub record ExtractsAreTold (S : Type 0) : Type 0 where
-  pub answer : (style : Style) (program : Meaning S) (shards k : ℕ) (s t : Contents) (a b : List ℕ × Ending) → s.directory ≡ t.directory → ((j : ℕ) → in_turn shards j ≡ k → IsExtract s.directory j s.items t.items)
-      → Status style (scope.Shard shards k) program s (Ok a) → Status style (scope.Shard shards k) program t (Ok b) → a ≡ b
-  pub shard : (style : Style) (program : Meaning S) (shards k : ℕ) (s : Contents) (X : Items) (a b : List ℕ × Ending) → AddsQuotes s.directory (in_turn shards) s.items X
-      → Status style (scope.Shard shards k) program s (Ok a) → Status style (scope.Shard shards k) program (with_items s (own_shard (in_turn shards) k X)) (Ok b) → a ≡ b
+  pub answer : (style : Style) (name directory : List ℕ) (program : Meaning S) (shards k : ℕ) (s t : Contents) (a b : List ℕ × Ending) → s.directory ≡ t.directory → ((j : ℕ) → in_turn shards j ≡ k → IsExtract s.directory j s.items t.items)
+      → Status style name (scope.Shard shards k) program (under directory s) (Ok a) → Status style name (scope.Shard shards k) program (under directory t) (Ok b) → a ≡ b
+  pub shard : (style : Style) (name directory : List ℕ) (program : Meaning S) (shards k : ℕ) (s : Contents) (X : Items) (a b : List ℕ × Ending) → AddsQuotes s.directory (in_turn shards) s.items X
+      → Status style name (scope.Shard shards k) program (under directory s) (Ok a) → Status style name (scope.Shard shards k) program (under directory (with_items s (own_shard (in_turn shards) k X))) (Ok b) → a ≡ b

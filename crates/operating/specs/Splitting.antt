@@ -1,5 +1,5 @@
 -- The items of stores that are read and not checked.
-use Rattle.std.specs.Prelude.{ℕ, zero, suc, ◌≡◌, ◌⊎◌, ◌+◌, ◌<◌, false, List, [], ◌++◌, Option, Some, None}
+use Rattle.std.specs.Prelude.{ℕ, zero, suc, ◌≡◌, ◌⊎◌, ◌+◌, ◌<◌, List, [], ◌++◌, Option, Some, None}
 use Rattle.item_forms.specs.Pieces.{Piece}
 use Rattle.containers.specs.declared.fault.Cause.TheVariants as cause
 use Rattle.containers.specs.declared.fault.ImportFault.{ImportFault}
@@ -21,7 +21,7 @@ use Rattle.operating.specs.GatheredFiles.{IsOfFile, RefusesDirectory}
 -- So many stores, which are the files from a first on, have these items, in the order of the files.
 abbrev pub Have : ℕ → (ℕ → Option (List ℕ)) → ℕ → ℕ → List Piece → Type 0
 Have limit files first zero items = items ≡ []
-Have limit files first (suc n) items = (before own : List Piece) × (text : List ℕ) × Have limit files first n before × Says limit false (files (first + n)) text × Decodes text own × (items ≡ before ++ own)
+Have limit files first (suc n) items = (before own : List Piece) × (text : List ℕ) × Have limit files first n before × Says limit None (files (first + n)) text × Decodes text own × (items ≡ before ++ own)
 
 -- Why a store's text has no items, and at which item; or memory ran out.
 abbrev pub RefusesDecoding : List ℕ → Refusal → Type 0
@@ -30,8 +30,8 @@ RefusesDecoding text r = (f : ImportFault) × (r.fault ≡ of_import f) × (r.it
 -- Why a file is refused: it says nothing, or no items.
 abbrev pub RefusesItems : ℕ → Option (List ℕ) → Refusal → Type 0
 RefusesItems limit file r =
-    ((r.item ≡ None) × IsUnsaid limit false file r.fault)
-    ⊎ ((text : List ℕ) × Says limit false file text × RefusesDecoding text r)
+    ((r.item ≡ None) × IsUnsaid limit None file r.fault)
+    ⊎ ((text : List ℕ) × Says limit None file text × RefusesDecoding text r)
 
 -- The refusal of so many stores: the first in the order of the files. Those before it have items.
 abbrev pub RefusesStores : ℕ → (ℕ → Option (List ℕ)) → ℕ → ℕ → Refusal → Type 0

@@ -2,9 +2,10 @@
 
 ghost use Rattle.std.specs.Prelude.{◌≡◌, ◌⊎◌, ◌<◌, ◌≤◌, ◌^◌, List, ℕ, IfErr, MatchResult, None, OnOk, Result, Ok, Err};
 ghost use Rattle.std.specs.Io.KnownBytes.{Appends};
-ghost use Rattle.evidence.specs.Contents.{Contents};
 ghost use Rattle.commands.specs.declared.fault.Fault.{Fault};
 ghost use Rattle.commands.specs.declared.fault.Fault.TheVariants as fault;
+ghost use Rattle.commands.specs.within.OwnFaults.{IsOwn};
+ghost use Rattle.operating.specs.GatheredFiles.{Collected, under};
 ghost use Rattle.operating.specs.Operating.{HasRoom, RanOnStores};
 ghost use Rattle.operating.specs.declared.asking.Ending.{Ending};
 ghost use Rattle.parallel_checking.specs.declared.limits.TheConstants.{MOST_WORKERS};
@@ -43,12 +44,14 @@ pub struct Answer {
 
 /// A question to stores of evidence of nodes that follow a program.
 pub trait Question<P: Program, S: Evidence<P>> {
-    /// Which text answers it of which evidence, and how the engine ends; or why there is none.
-    ghost means: { Self → Contents → Result (List ℕ × Ending) Fault → Type 0 };
+    /// Which text answers it of which evidence, under the directory of which text, and how the engine ends; or why there is none.
+    ghost means: { Self → Collected → Result (List ℕ × Ending) Fault → Type 0 };
 
     /// The answer of the evidence that was read.
     fn answer(&self, alloc: Global, read: &Gathered<S>) -> Result<Answer, Fault>
-        ensures told { MatchResult result (λ answer. means self.now (S.contents read.now.store) (Ok (answer.text.items, answer.ending))) (λ f. (f ≡ fault.Memory) ⊎ means self.now (S.contents read.now.store) (Err f)) };
+        ensures told { MatchResult result (λ answer. means self.now (under read.now.directory.items (S.contents read.now.store)) (Ok (answer.text.items, answer.ending))) (λ f. (f ≡ fault.Memory) ⊎ means self.now (under read.now.directory.items (S.contents read.now.store)) (Err f)) }
+        // Where there is none, that is the fault of no device.
+        ensures own { IfErr result IsOwn };
 }
 
 /// Reads the directory and so many stores behind it, and writes the answer and nothing else, in one write, once everything has been

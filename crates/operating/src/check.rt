@@ -2,6 +2,8 @@
 
 ghost use Rattle.std.specs.Prelude.{◌≡◌, ◌+◌, ◌<◌, ◌^◌, IfErr, IfOk, MatchResult, OnOk};
 ghost use Rattle.operating.specs.ConvictingFiles.{AreConvictingUnder, RefusesConviction, RefusesProofText, TextConvicts};
+ghost use Rattle.commands.specs.within.OwnFaults.{IsOwn};
+ghost use Rattle.operating.specs.FileTexts.{IsOfReading};
 ghost use Rattle.operating.specs.Operating.{HasRoom, RanOnProof};
 
 use crate::asking::{Ending, write};
@@ -23,7 +25,8 @@ fn convicted_by<P: Program>(
     directory: &Directory,
     text: &[u8],
 ) -> Result<NodeId, Fault>
-    ensures { MatchResult result (λ node. TextConvicts P.means directory.now text.now node) (λ f. RefusesProofText P.means directory.now text.now f) }
+    ensures told { MatchResult result (λ node. TextConvicts P.means directory.now text.now node) (λ f. RefusesProofText P.means directory.now text.now f) }
+    ensures own { IfErr result IsOwn }
 {
     let proof = Proof::decode(alloc, text)?;
     let node = check_proof(alloc, program, directory, &proof)?;
@@ -47,10 +50,11 @@ fn convicted<P: Program, O: Opener>(
     requires room { (O.seen opener.old).failures + 1 < 2 ^ 63 }
     ensures convicted { IfOk result (λ found. AreConvictingUnder P.means limits.most_bytes (O.seen opener.old).files (found.node, found.directory.items)) }
     ensures refused { IfErr result (λ r. RefusesConviction P.means limits.most_bytes (O.seen opener.old).files r) }
+    ensures blamed { IfErr result (λ r. IsOfReading (O.seen opener.old) (O.seen opener.new) r.fault) }
     ensures quiet { OnOk result ((O.seen opener.new).failures ≡ (O.seen opener.old).failures) }
 {
     let read = read_directory_file(alloc, opener, limits)?;
-    let text = read_said(alloc, opener, 1, false, limits)?;
+    let text = read_said(alloc, opener, 1, None, limits)?;
     let ReadDirectory {
         text: directory_text,
         directory,

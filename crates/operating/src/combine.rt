@@ -5,7 +5,7 @@ ghost use Rattle.evidence_set.specs.declared.indication.Indication.{Indication};
 ghost use Rattle.status_lines.specs.Combining.{worst_told};
 ghost use Rattle.status_lines.specs.Lines.{AreNodes, worst_each};
 ghost use Rattle.operating.specs.Combining.{AreParts, Combine, IsEndOf, Parts, RefusesPart, RefusesParts, SaysEach};
-ghost use Rattle.operating.specs.FileTexts.{SaysDirectory};
+ghost use Rattle.operating.specs.FileTexts.{IsOfReading, SaysDirectory};
 ghost use Rattle.operating.specs.GatheredFiles.{IsOfFile, RefusesDirectory};
 ghost use Rattle.operating.specs.Operating.{HasRoom, Ran};
 
@@ -30,6 +30,7 @@ fn read_part<O: Opener>(
     requires room { (O.seen opener.old).failures < 2 ^ 63 }
     ensures said { IfOk result (λ own. SaysEach limits.most_bytes nodes.now ((O.seen opener.old).files file) own.items) }
     ensures refused { IfErr result (λ r. IsOfFile file r × RefusesPart limits.most_bytes nodes.now ((O.seen opener.old).files file) r.fault) }
+    ensures blamed { IfErr result (λ r. IsOfReading (O.seen opener.old) (O.seen opener.new) r.fault) }
     ensures files { (O.seen opener.new).files ≡ (O.seen opener.old).files }
     ensures quiet { OnOk result ((O.seen opener.new).failures ≡ (O.seen opener.old).failures) }
 {
@@ -57,6 +58,7 @@ fn add_part<O: Opener>(
     requires number { length told.now ≡ length nodes.now }
     ensures worse { IfOk result (λ v. (own : List Indication) × SaysEach limits.most_bytes nodes.now ((O.seen opener.old).files file) own × (v.items ≡ worst_each told.now own)) }
     ensures refused { IfErr result (λ r. IsOfFile file r × RefusesPart limits.most_bytes nodes.now ((O.seen opener.old).files file) r.fault) }
+    ensures blamed { IfErr result (λ r. IsOfReading (O.seen opener.old) (O.seen opener.new) r.fault) }
     ensures files { (O.seen opener.new).files ≡ (O.seen opener.old).files }
     ensures quiet { OnOk result ((O.seen opener.new).failures ≡ (O.seen opener.old).failures) }
 {
@@ -72,6 +74,7 @@ fn read_nodes<O: Opener>(alloc: Global, opener: &mut O, limits: Limits) -> Resul
     requires room { (O.seen opener.old).failures < 2 ^ 63 }
     ensures nodes { IfOk result (λ v. (p : Parts) × AreParts limits.most_bytes (O.seen opener.old).files 0 p × (p.nodes ≡ v.items)) }
     ensures refused { IfErr result (λ r. IsOfFile 0 r × RefusesDirectory limits.most_bytes ((O.seen opener.old).files 0) r.fault) }
+    ensures blamed { IfErr result (λ r. IsOfReading (O.seen opener.old) (O.seen opener.new) r.fault) }
     ensures files { (O.seen opener.new).files ≡ (O.seen opener.old).files }
     ensures quiet { OnOk result ((O.seen opener.new).failures ≡ (O.seen opener.old).failures) }
 {
@@ -96,6 +99,7 @@ fn combined<O: Opener>(
     ensures told { IfOk result (λ v. (p : Parts) × AreParts limits.most_bytes (O.seen opener.old).files parts p × (p.nodes ≡ nodes.now) × (v.items ≡ worst_told nodes.now p.told parts)) }
     ensures number { IfOk result (λ v. length v.items ≡ length nodes.now) }
     ensures refused { IfErr result (λ r. RefusesParts limits.most_bytes (O.seen opener.old).files parts r) }
+    ensures blamed { IfErr result (λ r. IsOfReading (O.seen opener.old) (O.seen opener.new) r.fault) }
     ensures quiet { OnOk result ((O.seen opener.new).failures ≡ (O.seen opener.old).failures) }
 {
     let mut told = match none_worse(alloc, nodes) {

@@ -1,7 +1,7 @@
 //! Files, of which one is read after the other, and how much is read of them.
 
 ghost use Rattle.std.specs.Prelude.{◌≡◌, ◌+◌, ◌<◌, ◌≤◌, ◌^◌, ℕ, List, Option, IfOk, OnErr, OnOk};
-ghost use Rattle.operating.specs.FileTexts.{Opened};
+ghost use Rattle.operating.specs.FileTexts.{IsFailed, Opened};
 
 use commands::device::Source;
 
@@ -9,7 +9,7 @@ use commands::device::Source;
 #[derive(Clone, Copy, Debug, PartialEq, Eq)]
 pub struct OpenFailed;
 
-/// Files by their numbers. It counts how many failed, to be opened or to be read.
+/// Files by their numbers. It counts how many failed: to be opened, to be read, or to end within [`MOST_READS`] reads.
 pub trait Opener {
     /// What reads an open file.
     type Reader: Source + Drop;
@@ -22,7 +22,7 @@ pub trait Opener {
         requires room { (seen self.old).failures < 2 ^ 63 }
         ensures files { (seen self.new).files ≡ (seen self.old).files }
         ensures whole { IfOk result (λ r. (Self.Reader.seen r).left ≡ (seen self.old).files file) }
-        ensures fresh { IfOk result (λ r. ((Self.Reader.seen r).reads ≡ 0) × ((Self.Reader.seen r).failures ≡ 0)) }
+        ensures fresh { IfOk result (λ r. ((Self.Reader.seen r).reads ≡ 0) × ((Self.Reader.seen r).ends ≡ 0) × ((Self.Reader.seen r).failures ≡ 0)) }
         ensures quiet { OnOk result ((seen self.new).failures ≡ (seen self.old).failures) }
         ensures failed { OnErr result ((seen self.new).failures ≡ (seen self.old).failures + 1) };
 
@@ -30,8 +30,8 @@ pub trait Opener {
     fn close(&mut self, reader: Self::Reader)
         requires room { (seen self.old).failures < 2 ^ 63 }
         ensures files { (seen self.new).files ≡ (seen self.old).files }
-        ensures quiet { (Self.Reader.seen reader).failures ≡ 0 → (seen self.new).failures ≡ (seen self.old).failures }
-        ensures failed { 0 < (Self.Reader.seen reader).failures → (seen self.new).failures ≡ (seen self.old).failures + 1 }
+        ensures quiet { (IsFailed (Self.Reader.seen reader) → ⊥) → (seen self.new).failures ≡ (seen self.old).failures }
+        ensures failed { IsFailed (Self.Reader.seen reader) → (seen self.new).failures ≡ (seen self.old).failures + 1 }
         ensures one { (seen self.new).failures ≤ (seen self.old).failures + 1 };
 }
 

@@ -1,15 +1,17 @@
 //! The evidence of files: a directory, and the items of stores under it.
 
-ghost use Rattle.std.specs.Prelude.{◌≡◌, ◌+◌, ◌<◌, ◌≤◌, ◌^◌, IfErr, IfOk, List, OnOk, Some, false, suc, ℕ};
+ghost use Rattle.std.specs.Prelude.{◌≡◌, ◌+◌, ◌<◌, ◌≤◌, ◌^◌, IfErr, IfOk, IfSome, IsSome, List, None, Ok, OnOk, Some, option_map, option_to_list, suc, ℕ};
+ghost use Rattle.authenticators.specs.DirectoryText.{directory_of};
 ghost use Rattle.evidence_set.specs.Exports.{AreValid};
-ghost use Rattle.evidence_set.specs.ItemSets.{count};
+ghost use Rattle.evidence_set.specs.ItemSets.{count, none};
 ghost use Rattle.commands.specs.Adding.{AddsStore};
-ghost use Rattle.operating.specs.GatheredFiles.{AreGathered, IsOfFile, RefusesDirectory, RefusesFiles, RefusesStore, RefusesText};
-ghost use Rattle.operating.specs.FileTexts.{Says};
+ghost use Rattle.commands.specs.within.OwnFaults.{IsOwn};
+ghost use Rattle.operating.specs.GatheredFiles.{AreGathered, RefusesFiles, RefusesFront, RefusesStore, RefusesText, under};
+ghost use Rattle.operating.specs.FileTexts.{IsOfReading, Says, SaysBy, Texts, directory_in, evidence_in, texts_of};
 ghost use Rattle.parallel_checking.specs.declared.limits.TheConstants.{MOST_WORKERS};
 
 use crate::files::{Limits, Opener};
-use crate::reading::{ReadDirectory, read_directory_file, read_said};
+use crate::reading::{Front, read_front, read_said};
 use crate::refusal::Refusal;
 use crate::watching::StoreWatcher;
 use commands::fault::Fault;
@@ -39,7 +41,7 @@ pub struct Reading<'a, R, P> {
 pub struct Gathered<S> {
     /// The directory's text.
     pub directory: Vec<u8>,
-    /// How many stores there were.
+    /// How many stores there were, with the one that may stand under the directory.
     pub stores: usize,
     /// The bytes by which the text of the last of them is known; zeros where there was none.
     pub front: [u8; 8],
@@ -76,7 +78,8 @@ where
     P::State: Send,
     requires workers { (0 < reading.now.limits.workers) × (reading.now.limits.workers ≤ MOST_WORKERS) }
     ensures added { OnOk result (AddsStore (S.contents store.old) (S.contents store.new) text.now) }
-    ensures refused { IfErr result (λ r. (r.file ≡ Some file) × RefusesText (S.contents store.old) text.now r) }
+    ensures refused { IfErr result (λ r. (r.file ≡ Some file) × RefusesText (S.contents store.old).directory text.now r) }
+    ensures own { IfErr result (λ r. IsOwn r.fault) }
 {
     texts_are_added();
     let workers = Workers {
@@ -93,7 +96,7 @@ where
     }
 }
 
-/// Adds the items of the store that a file says, and gives the bytes by which its text is known.
+/// Adds the items of the store that a file says under the directory of this text, and gives the bytes by which the store's text is known.
 fn add_file<
     R: Threads + Sync,
     P: Program + Send + Sync,
@@ -102,6 +105,7 @@ fn add_file<
     F: StoreWatcher,
 >(
     reading: &Reading<'_, R, P>,
+    directory: &[u8],
     store: &mut S,
     opener: &mut O,
     file: usize,
@@ -111,41 +115,117 @@ where
     P::State: Send,
     requires workers { (0 < reading.now.limits.workers) × (reading.now.limits.workers ≤ MOST_WORKERS) }
     requires room { (O.seen opener.old).failures < 2 ^ 63 }
-    ensures added { OnOk result ((text : List ℕ) × Says reading.now.limits.most_bytes false ((O.seen opener.old).files file) text × AddsStore (S.contents store.old) (S.contents store.new) text) }
-    ensures refused { IfErr result (λ r. (r.file ≡ Some file) × RefusesStore reading.now.limits.most_bytes (S.contents store.old) ((O.seen opener.old).files file) r) }
+    ensures added { OnOk result ((text : List ℕ) × Says reading.now.limits.most_bytes (Some directory.now) ((O.seen opener.old).files file) text × AddsStore (S.contents store.old) (S.contents store.new) text) }
+    ensures refused { IfErr result (λ r. (r.file ≡ Some file) × RefusesStore reading.now.limits.most_bytes (under directory.now (S.contents store.old)) ((O.seen opener.old).files file) r) }
+    ensures blamed { IfErr result (λ r. IsOfReading (O.seen opener.old) (O.seen opener.new) r.fault) }
     ensures files { (O.seen opener.new).files ≡ (O.seen opener.old).files }
     ensures quiet { OnOk result ((O.seen opener.new).failures ≡ (O.seen opener.old).failures) }
 {
-    let text = read_said(reading.alloc, opener, file, false, reading.limits)?;
+    let text = read_said(reading.alloc, opener, file, Some(directory), reading.limits)?;
     watcher.begin(file, text.len() as u64);
     add_text::<R, P, S, F>(reading, store, &text, file, watcher)?;
     Ok(front_of(&text))
 }
 
-/// The evidence of the directory alone, which is file 0.
+/// A store without items, under the directory that file 0 says, and what stands under the directory there.
+#[derive(Drop)]
+struct Begun<S> {
+    directory: Vec<u8>,
+    under: Option<Vec<u8>>,
+    store: S,
+}
+
 fn begin<P: Program, S: Evidence<P>, O: Opener>(
     alloc: Global,
     opener: &mut O,
     limits: Limits,
-) -> Result<Gathered<S>, Refusal>
+) -> Result<Begun<S>, Refusal>
     requires room { (O.seen opener.old).failures < 2 ^ 63 }
-    ensures gathered { IfOk result (λ read. AreGathered limits.most_bytes (O.seen opener.old).files 0 (S.contents read.store)) }
-    ensures refused { IfErr result (λ r. IsOfFile 0 r × RefusesDirectory limits.most_bytes ((O.seen opener.old).files 0) r.fault) }
+    ensures said { IfOk result (λ begun. (t : Texts) × SaysBy limits.most_bytes texts_of ((O.seen opener.old).files 0) t × (begun.directory.items ≡ directory_in t) × (option_to_list (option_map (λ v. v.items) begun.under) ≡ evidence_in t)) }
+    ensures empty { IfOk result (λ begun. (directory_of begun.directory.items ≡ Ok (S.contents begun.store).directory) × ((S.contents begun.store).items ≡ none)) }
+    ensures refused { IfErr result (λ r. (r.file ≡ Some 0) × RefusesFront limits.most_bytes ((O.seen opener.old).files 0) r) }
+    ensures blamed { IfErr result (λ r. IsOfReading (O.seen opener.old) (O.seen opener.new) r.fault) }
     ensures files { (O.seen opener.new).files ≡ (O.seen opener.old).files }
     ensures quiet { OnOk result ((O.seen opener.new).failures ≡ (O.seen opener.old).failures) }
 {
-    sets_are_as_expected();
-    let read = read_directory_file(alloc, opener, limits)?;
-    let ReadDirectory { text, directory } = read;
+    let front = read_front(alloc, opener, limits)?;
+    let Front {
+        text,
+        directory,
+        under,
+    } = front;
     match S::new(alloc, directory) {
-        Ok(store) => Ok(Gathered {
+        Ok(store) => Ok(Begun {
             directory: text,
-            stores: 0,
-            front: [0u8; 8],
+            under,
             store,
         }),
         Err(_) => Err(Refusal::of_file(0, Fault::Memory)),
     }
+}
+
+/// Adds what stands under the directory in file 0, where something does, to a store without items.
+fn add_under<R: Threads + Sync, P: Program + Send + Sync, S: Evidence<P>, F: StoreWatcher>(
+    reading: &Reading<'_, R, P>,
+    begun: Begun<S>,
+    watcher: &mut F,
+) -> Result<Gathered<S>, Refusal>
+where
+    P::State: Send,
+    requires workers { (0 < reading.now.limits.workers) × (reading.now.limits.workers ≤ MOST_WORKERS) }
+    ensures directory { IfOk result (λ read. read.directory.items ≡ begun.directory.items) }
+    ensures alone { begun.under ≡ None → IfOk result (λ read. S.contents read.store ≡ S.contents begun.store) }
+    ensures more { IfSome begun.under (λ text. IfOk result (λ read. AddsStore (S.contents begun.store) (S.contents read.store) text.items)) }
+    ensures one { IfOk result (λ read. read.stores ≤ 1) }
+    ensures refused { IfErr result (λ r. (r.file ≡ Some 0) × IsSome begun.under × IfSome begun.under (λ text. RefusesText (S.contents begun.store).directory text.items r)) }
+    ensures own { IfErr result (λ r. IsOwn r.fault) }
+{
+    let Begun {
+        directory,
+        under,
+        mut store,
+    } = begun;
+    let Some(text) = under else {
+        return Ok(Gathered {
+            directory,
+            stores: 0,
+            front: [0u8; 8],
+            store,
+        });
+    };
+    watcher.begin(0, text.len() as u64);
+    add_text::<R, P, S, F>(reading, &mut store, &text, 0, watcher)?;
+    Ok(Gathered {
+        directory,
+        stores: 1,
+        front: front_of(&text),
+        store,
+    })
+}
+
+/// The evidence of file 0: a directory, and what stands under it there.
+fn gather_first<
+    R: Threads + Sync,
+    P: Program + Send + Sync,
+    S: Evidence<P>,
+    O: Opener,
+    F: StoreWatcher,
+>(reading: &Reading<'_, R, P>, opener: &mut O, watcher: &mut F) -> Result<Gathered<S>, Refusal>
+where
+    P::State: Send,
+    requires workers { (0 < reading.now.limits.workers) × (reading.now.limits.workers ≤ MOST_WORKERS) }
+    requires room { (O.seen opener.old).failures < 2 ^ 63 }
+    ensures gathered { IfOk result (λ read. AreGathered reading.now.limits.most_bytes (O.seen opener.old).files 0 (under read.directory.items (S.contents read.store))) }
+    ensures one { IfOk result (λ read. read.stores ≤ 1) }
+    ensures refused { IfErr result (λ r. (r.file ≡ Some 0) × RefusesFront reading.now.limits.most_bytes ((O.seen opener.old).files 0) r) }
+    ensures blamed { IfErr result (λ r. IsOfReading (O.seen opener.old) (O.seen opener.new) r.fault) }
+    ensures files { (O.seen opener.new).files ≡ (O.seen opener.old).files }
+    ensures quiet { OnOk result ((O.seen opener.new).failures ≡ (O.seen opener.old).failures) }
+{
+    sets_are_as_expected();
+    let begun: Begun<S> = begin::<P, S, O>(reading.alloc, opener, reading.limits)?;
+    let read = add_under::<R, P, S, F>(reading, begun, watcher)?;
+    Ok(read)
 }
 
 /// The evidence of the directory, which is file 0, and of so many stores, which are the files from 1 on.
@@ -166,23 +246,31 @@ where
     requires workers { (0 < reading.now.limits.workers) × (reading.now.limits.workers ≤ MOST_WORKERS) }
     requires stores { stores < 2 ^ 63 }
     requires room { (O.seen opener.old).failures < 2 ^ 63 }
-    ensures gathered { IfOk result (λ read. AreGathered reading.now.limits.most_bytes (O.seen opener.old).files stores (S.contents read.store)) }
+    ensures gathered { IfOk result (λ read. AreGathered reading.now.limits.most_bytes (O.seen opener.old).files stores (under read.directory.items (S.contents read.store))) }
     ensures refused { IfErr result (λ r. RefusesFiles reading.now.limits.most_bytes (O.seen opener.old).files stores r) }
+    ensures blamed { IfErr result (λ r. IsOfReading (O.seen opener.old) (O.seen opener.new) r.fault) }
     ensures quiet { OnOk result ((O.seen opener.new).failures ≡ (O.seen opener.old).failures) }
 {
-    let read: Gathered<S> = begin::<P, S, O>(reading.alloc, opener, reading.limits)?;
+    let read: Gathered<S> = gather_first::<R, P, S, O, F>(reading, opener, watcher)?;
     let Gathered {
         directory,
-        stores: _,
+        stores: own,
         mut front,
         mut store,
     } = read;
     for number in 0..stores {
-        front = add_file::<R, P, S, O, F>(reading, &mut store, opener, number + 1, watcher)?;
+        front = add_file::<R, P, S, O, F>(
+            reading,
+            &directory,
+            &mut store,
+            opener,
+            number + 1,
+            watcher,
+        )?;
     }
     Ok(Gathered {
         directory,
-        stores,
+        stores: own + stores,
         front,
         store,
     })
@@ -206,8 +294,9 @@ where
     requires workers { (0 < reading.now.limits.workers) × (reading.now.limits.workers ≤ MOST_WORKERS) }
     requires stores { stores < 2 ^ 63 }
     requires room { (O.seen opener.old).failures < 2 ^ 63 }
-    ensures gathered { IfOk result (λ read. AreGathered reading.now.limits.most_bytes (O.seen opener.old).files stores (S.contents read.store)) }
+    ensures gathered { IfOk result (λ read. AreGathered reading.now.limits.most_bytes (O.seen opener.old).files stores (under read.directory.items (S.contents read.store))) }
     ensures refused { IfErr result (λ r. RefusesFiles reading.now.limits.most_bytes (O.seen opener.old).files stores r) }
+    ensures blamed { IfErr result (λ r. IsOfReading (O.seen opener.old) (O.seen opener.new) r.fault) }
     ensures quiet { OnOk result ((O.seen opener.new).failures ≡ (O.seen opener.old).failures) }
 {
     let read = gather_each::<R, P, S, O, F>(reading, opener, stores, watcher);

@@ -1,12 +1,13 @@
 //! The engine of `play`: what a scenario leaves, as files that the other engines read.
 
-ghost use Rattle.std.specs.Prelude.{◌≡◌, ◌⊎◌, ◌<◌, ◌^◌, false, IfErr, IfOk, List, MatchResult, Ok, OnOk, map, ℕ};
+ghost use Rattle.std.specs.Prelude.{◌≡◌, ◌⊎◌, ◌<◌, ◌^◌, IfErr, IfOk, List, MatchResult, None, Ok, OnOk, map, ℕ};
 ghost use Rattle.authenticators.specs.DirectoryText.{directory_text};
 ghost use Rattle.evidence_set.specs.Exports.{export_of};
 ghost use Rattle.scenarios.specs.Scenarios.{Script, scenario_of};
 ghost use Rattle.commands.specs.declared.fault.Fault.TheVariants as fault;
 ghost use Rattle.commands.specs.Scenarios.{IsNone, IsOfRun};
-ghost use Rattle.operating.specs.FileTexts.{Says};
+ghost use Rattle.commands.specs.within.OwnFaults.{IsOwn};
+ghost use Rattle.operating.specs.FileTexts.{IsOfReading, Says};
 ghost use Rattle.operating.specs.Plays.{AreLeft, RefusesPlay};
 
 use crate::files::{Limits, Opener};
@@ -33,7 +34,8 @@ pub struct Played {
 
 /// The scenario that a text is.
 fn scenario_in(alloc: Global, text: &[u8]) -> Result<Scenario, Fault>
-    ensures { MatchResult result (λ s. scenario_of text.now ≡ Ok s) (λ f. (f ≡ fault.Memory) ⊎ IsNone text.now f) }
+    ensures told { MatchResult result (λ s. scenario_of text.now ≡ Ok s) (λ f. (f ≡ fault.Memory) ⊎ IsNone text.now f) }
+    ensures own { IfErr result IsOwn }
 {
     match Scenario::read(alloc, text) {
         Ok(scenario) => Ok(scenario),
@@ -78,7 +80,8 @@ fn play_out<
 >(rt: &H, alloc: Global, program: &P, scenario: &Scenario, workers: usize) -> Result<Played, Fault>
 where
     P::State: Send,
-    ensures { MatchResult result (AreLeft scenario.now workers) (λ f. (f ≡ fault.Memory) ⊎ IsOfRun workers f) }
+    ensures told { MatchResult result (AreLeft scenario.now workers) (λ f. (f ≡ fault.Memory) ⊎ IsOfRun workers f) }
+    ensures own { IfErr result IsOwn }
 {
     let outcome: Outcome<S> = match scenario_run::run(rt, alloc, *program, scenario, workers) {
         Ok(outcome) => outcome,
@@ -100,11 +103,12 @@ pub fn run<H: Threads + Wait + Sync, P: Program + Copy + Send + Sync + Drop, O: 
 where
     P::State: Send,
     requires room { (O.seen opener.old).failures < 2 ^ 63 }
-    ensures left { IfOk result (λ p. (text : List ℕ) × (s : Script) × Says limits.most_bytes false ((O.seen opener.old).files 0) text × (scenario_of text ≡ Ok s) × AreLeft s limits.workers p) }
+    ensures left { IfOk result (λ p. (text : List ℕ) × (s : Script) × Says limits.most_bytes None ((O.seen opener.old).files 0) text × (scenario_of text ≡ Ok s) × AreLeft s limits.workers p) }
     ensures refused { IfErr result (RefusesPlay limits.most_bytes limits.workers ((O.seen opener.old).files 0)) }
+    ensures blamed { IfErr result (λ r. IsOfReading (O.seen opener.old) (O.seen opener.new) r.fault) }
     ensures quiet { OnOk result ((O.seen opener.new).failures ≡ (O.seen opener.old).failures) }
 {
-    let text = read_said(alloc, opener, 0, false, limits)?;
+    let text = read_said(alloc, opener, 0, None, limits)?;
     let scenario = match scenario_in(alloc, &text) {
         Ok(scenario) => scenario,
         Err(fault) => return Err(Refusal::of_text(0, &text, fault)),

@@ -20,10 +20,11 @@ use replay_verifier::Program;
 use std::alloc::Global;
 use std::thread::Threads;
 
-/// The question of `prove`, of this node.
+/// What is asked: of which node a proof is wanted.
 #[derive(Clone, Copy)]
-struct Proving {
-    node: NodeId,
+pub struct Proving {
+    /// The node.
+    pub node: NodeId,
 }
 
 /// The text of a proof, or that there is none.

@@ -1,16 +1,22 @@
 //! What a file says: its bytes, or those that its digits spell.
 
-ghost use Rattle.std.specs.Prelude.{◌≡◌, Ok, Err, MatchResult};
-ghost use Rattle.std.specs.List.{list_all};
+ghost use Rattle.std.specs.Prelude.{◌≡◌, option_copied, option_map, IfErr, Ok, Err, MatchResult};
 ghost use Rattle.outcome.specs.Outcome.{Gives};
-ghost use Rattle.hex.specs.Hex.{is_hex_digit};
 ghost use Rattle.commands.specs.declared.fault.Fault.TheVariants.{Memory};
 ghost use Rattle.commands.specs.HexLines.{lines_of};
-ghost use Rattle.operating.specs.FileTexts.{is_spelled, line_in, said};
+ghost use Rattle.commands.specs.within.OwnFaults.{IsOwn};
+ghost use Rattle.operating.specs.FileTexts.{is_spelled, one_in, read_under, spelled_in, texts_of, two_in};
 
 use commands::fault::Fault;
 use commands::lines::{bytes_of, first_line, has_digits};
 use std::alloc::Global;
+
+/// A text, and the directory's that stands above it in the file.
+#[derive(Debug, Drop)]
+pub(crate) struct FileTexts {
+    pub above: Option<Vec<u8>>,
+    pub text: Vec<u8>,
+}
 
 /// Whether the file is lines of digits: it has eight bytes, and the first eight are digits.
 fn is_spelled(bytes: &[u8]) -> bool
@@ -22,31 +28,73 @@ fn is_spelled(bytes: &[u8]) -> bool
     has_digits(&bytes[..8])
 }
 
-/// The first of one line or two, or the last.
-fn line_in(bytes: &[u8], first: bool) -> Result<&[u8], Fault>
-    ensures { MatchResult result (λ line. line_in first (lines_of bytes.now) ≡ Ok line.now) (λ f. line_in first (lines_of bytes.now) ≡ Err f) }
+/// What one line spells.
+#[tactic(auto, unfolding(crate::specs::FileTexts::one_in))]
+fn one_in(alloc: Global, line: &[u8]) -> Result<FileTexts, Fault>
+    ensures { Gives Memory (λ t. record { above = option_map (λ v. v.items) t.above; text = t.text.items }) result (one_in line.now) }
 {
-    let Some((one, rest)) = first_line(bytes) else {
+    let text = bytes_of(alloc, line)?;
+    Ok(FileTexts { above: None, text })
+}
+
+/// What two lines spell.
+#[tactic(auto, unfolding(crate::specs::FileTexts::two_in))]
+fn two_in(alloc: Global, line: &[u8], other: &[u8]) -> Result<FileTexts, Fault>
+    ensures { Gives Memory (λ t. record { above = option_map (λ v. v.items) t.above; text = t.text.items }) result (two_in line.now other.now) }
+{
+    if other.is_empty() {
+        return Err(Fault::LineCount);
+    }
+    let directory = bytes_of(alloc, line)?;
+    let text = bytes_of(alloc, other)?;
+    let above = Some(directory);
+    Ok(FileTexts { above, text })
+}
+
+/// What the lines of a file spell.
+fn spelled_in(alloc: Global, bytes: &[u8]) -> Result<FileTexts, Fault>
+    ensures { Gives Memory (λ t. record { above = option_map (λ v. v.items) t.above; text = t.text.items }) result (spelled_in (lines_of bytes.now)) }
+{
+    let Some((line, rest)) = first_line(bytes) else {
         return Err(Fault::LineCount);
     };
     let Some((other, rest)) = first_line(rest) else {
-        return Ok(one);
+        return one_in(alloc, line);
     };
     match first_line(rest) {
-        None if first => Ok(one),
-        None => Ok(other),
+        None => two_in(alloc, line, other),
         Some(_) => Err(Fault::LineCount),
     }
 }
 
-/// What a file says in its first line, or in its last, where it is lines of digits; else its bytes.
-#[tactic(auto, unfolding(crate::specs::FileTexts::said))]
-pub(crate) fn said(alloc: Global, bytes: Vec<u8>, first: bool) -> Result<Vec<u8>, Fault>
-    ensures { Gives Memory (λ text. text.items) result (said first bytes.items) }
+/// What a file says.
+#[tactic(auto, unfolding(crate::specs::FileTexts::texts_of))]
+pub(crate) fn texts_of(alloc: Global, bytes: Vec<u8>) -> Result<FileTexts, Fault>
+    ensures { Gives Memory (λ t. record { above = option_map (λ v. v.items) t.above; text = t.text.items }) result (texts_of bytes.items) }
 {
-    if !is_spelled(&bytes) {
-        return Ok(bytes);
+    if is_spelled(&bytes) {
+        return spelled_in(alloc, &bytes);
     }
-    let line = line_in(&bytes, first)?;
-    bytes_of(alloc, line)
+    Ok(FileTexts {
+        above: None,
+        text: bytes,
+    })
+}
+
+/// A text alone where no directory is given; else one that stands alone, or under the directory of this text.
+pub(crate) fn read_under(given: Option<&[u8]>, texts: FileTexts) -> Result<Vec<u8>, Fault>
+    ensures told { MatchResult result (λ text. read_under (option_copied given.entry) (option_map (λ v. v.items) texts.above) texts.text.items ≡ Ok text.items) (λ f. read_under (option_copied given.entry) (option_map (λ v. v.items) texts.above) texts.text.items ≡ Err f) }
+    ensures own { IfErr result IsOwn }
+{
+    let FileTexts { above, text } = texts;
+    let Some(above) = above else {
+        return Ok(text);
+    };
+    let Some(given) = given else {
+        return Err(Fault::LineCount);
+    };
+    if above.as_slice() == given {
+        return Ok(text);
+    }
+    Err(Fault::LineCount)
 }

@@ -15,12 +15,12 @@ use commands::fault::Fault;
 use std::alloc::{AllocError, Global};
 
 /// What a text is and what is in it, as it is written in this style.
-fn told(alloc: Global, style: Style, text: &[u8]) -> Result<Vec<u8>, AllocError>
-    ensures { IfOk result (λ told. Show style text.now (Ok (told.items, ending.Done))) }
+fn shown_text(alloc: Global, style: Style, text: &[u8]) -> Result<Vec<u8>, AllocError>
+    ensures { IfOk result (λ shown. Show style text.now (Ok (shown.items, ending.Done))) }
 {
     let shown = shown_of(alloc, text)?;
-    let told = shown.write(alloc, style)?;
-    Ok(told)
+    let written = shown.write(alloc, style)?;
+    Ok(written)
 }
 
 /// Reads file 0, and writes in this style what it is and what is in it: nothing else, and in one write, once everything has been decided.
@@ -35,8 +35,8 @@ pub fn run<O: Opener, W: Sink>(
     requires room { HasRoom 0 (O.seen opener.old) (W.seen writer.old) }
     ensures { RanOnFile style limits.most_bytes result (O.seen opener.old) (O.seen opener.new) W.seen writer.old writer.new }
 {
-    let text = read_said(alloc, opener, 0, false, limits)?;
-    let shown = match told(alloc, style, &text) {
+    let text = read_said(alloc, opener, 0, None, limits)?;
+    let shown = match shown_text(alloc, style, &text) {
         Ok(shown) => shown,
         Err(_) => return Err(Refusal::of_none(Fault::Memory)),
     };

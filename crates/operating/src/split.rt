@@ -1,26 +1,29 @@
 //! The engine of `split`: the items of stores, dealt to parts by the nodes that they name, or by ranges of numbers. None of them is checked;
 //! for extracts what is quoted of other shards' nodes is verified.
 
-ghost use Rattle.std.specs.Prelude.{◌≡◌, ◌⊎◌, ◌++◌, ◌<◌, ◌≤◌, ◌^◌, IfErr, IfOk, List, None, OnErr, OnOk, Some, false, ℕ};
+ghost use Rattle.std.specs.Prelude.{◌≡◌, ◌≢◌, ◌⊎◌, ◌++◌, ◌<◌, ◌≤◌, ◌^◌, IfErr, IfOk, List, None, OnErr, OnOk, Some, decimal, string_bytes, ℕ};
 ghost use Rattle.std.specs.Io.KnownBytes.{Appends};
 ghost use Rattle.std.specs.List.Sorted.{IsStrictlySortedBy};
 ghost use Rattle.item_forms.specs.Pieces.{Piece, by_bytes};
 ghost use Rattle.evidence_set.specs.Exports.{export_of};
-ghost use Rattle.evidence_set.specs.ItemSets.{count, insert_all, none};
-ghost use Rattle.shards.specs.Parts.{Decodes, part};
+ghost use Rattle.evidence_set.specs.ItemSets.{Items, count, insert_all, none};
+ghost use Rattle.shards.specs.Parts.{Decodes, part, parts_of};
 ghost use Rattle.commands.specs.declared.fault.Fault.TheVariants as fault;
-ghost use Rattle.operating.specs.FileTexts.{Says};
+ghost use Rattle.operating.specs.Dealt.{AreFiled, Filed, IsDealt, IsOfWriting, RefusesDealt, part_line, part_lines};
+ghost use Rattle.operating.specs.FileTexts.{IsOfReading, Says};
 ghost use Rattle.operating.specs.Splitting.{AreExtracted, Have, RefusesExtracted, RefusesItems, RefusesStores};
 
-use crate::asking::write;
+use crate::asking::{Ending, write};
 use crate::files::{Limits, Opener};
 use crate::reading::{read_directory, read_said};
 use crate::refusal::Refusal;
-use commands::device::Sink;
+use commands::device::{Sink, WriteFailed};
 use commands::fault::Fault;
 use item_forms::Item;
-use shards::{Parting, Shards, add_items, extracted, gathered};
-use std::alloc::Global;
+use shards::{Dealing, Parting, Shards, add_items, extracted, gathered};
+use std::alloc::{AllocError, Global};
+
+// ---- the set
 
 /// Adds the items of the store that the file with this number says.
 fn add_file<O: Opener>(
@@ -31,12 +34,13 @@ fn add_file<O: Opener>(
     items: &mut Vec<Item>,
 ) -> Result<(), Refusal>
     requires room { (O.seen opener.old).failures < 2 ^ 63 }
-    ensures added { OnOk result ((own : List Piece) × (text : List ℕ) × Says limits.most_bytes false ((O.seen opener.old).files file) text × Decodes text own × (items.new.items ≡ items.old.items ++ own)) }
+    ensures added { OnOk result ((own : List Piece) × (text : List ℕ) × Says limits.most_bytes None ((O.seen opener.old).files file) text × Decodes text own × (items.new.items ≡ items.old.items ++ own)) }
     ensures refused { IfErr result (λ r. (r.file ≡ Some file) × RefusesItems limits.most_bytes ((O.seen opener.old).files file) r) }
+    ensures blamed { IfErr result (λ r. IsOfReading (O.seen opener.old) (O.seen opener.new) r.fault) }
     ensures files { (O.seen opener.new).files ≡ (O.seen opener.old).files }
     ensures quiet { OnOk result ((O.seen opener.new).failures ≡ (O.seen opener.old).failures) }
 {
-    let text = read_said(alloc, opener, file, false, limits)?;
+    let text = read_said(alloc, opener, file, None, limits)?;
     match add_items(alloc, items, &text) {
         Ok(()) => Ok(()),
         Err(fault) => Err(Refusal::of_import(file, &text, fault)),
@@ -44,7 +48,7 @@ fn add_file<O: Opener>(
 }
 
 /// The items of so many stores, which are the files from 0 or from 1 on, in their order, each once.
-pub fn read_items<O: Opener>(
+fn read_items<O: Opener>(
     alloc: Global,
     opener: &mut O,
     first: usize,
@@ -56,6 +60,7 @@ pub fn read_items<O: Opener>(
     ensures ascending { IfOk result (λ v. IsStrictlySortedBy by_bytes v.items) }
     ensures items { IfOk result (λ v. (all : List Piece) × Have limits.most_bytes (O.seen opener.old).files first stores all × (insert_all none v.items ≡ insert_all none all)) }
     ensures refused { IfErr result (λ r. RefusesStores limits.most_bytes (O.seen opener.old).files first stores r) }
+    ensures blamed { IfErr result (λ r. IsOfReading (O.seen opener.old) (O.seen opener.new) r.fault) }
     ensures quiet { OnOk result ((O.seen opener.new).failures ≡ (O.seen opener.old).failures) }
 {
     let mut items = Vec::new(alloc);
@@ -69,7 +74,7 @@ pub fn read_items<O: Opener>(
 /// says: dealt as [`Dealing::Extracts`](shards::Dealing) each part is an extract for its nodes, of which `status` says what it says of all
 /// stores ([`extracts_are_told`](crate::laws::extracts_are_told)). In their order, each once. Of signatures those of such quotes are
 /// verified, and no others.
-pub fn read_extracted<O: Opener>(
+fn read_extracted<O: Opener>(
     alloc: Global,
     opener: &mut O,
     shards: Shards,
@@ -80,6 +85,7 @@ pub fn read_extracted<O: Opener>(
     ensures ascending { IfOk result (λ v. IsStrictlySortedBy by_bytes v.items) }
     ensures items { IfOk result (λ v. AreExtracted limits.most_bytes (O.seen opener.old).files shards stores (insert_all none v.items)) }
     ensures refused { IfErr result (λ r. RefusesExtracted limits.most_bytes (O.seen opener.old).files stores r) }
+    ensures blamed { IfErr result (λ r. IsOfReading (O.seen opener.old) (O.seen opener.new) r.fault) }
     ensures quiet { OnOk result ((O.seen opener.new).failures ≡ (O.seen opener.old).failures) }
 {
     let directory = read_directory(alloc, opener, limits)?;
@@ -90,24 +96,172 @@ pub fn read_extracted<O: Opener>(
     }
 }
 
-/// Writes part `k` of a set of items, nothing else, and in one write; it answers how many items that part has.
-pub fn write_part<W: Sink>(
+/// The set that is dealt, in the order of its items, each once.
+fn read_dealt<O: Opener>(
+    alloc: Global,
+    splitting: &Splitting,
+    opener: &mut O,
+    limits: Limits,
+) -> Result<Vec<Item>, Refusal>
+    requires room { (O.seen opener.old).failures < 2 ^ 63 }
+    ensures ascending { IfOk result (λ v. IsStrictlySortedBy by_bytes v.items) }
+    ensures items { IfOk result (λ v. IsDealt limits.most_bytes (O.seen opener.old).files splitting.now.stores splitting.now.dealing (insert_all none v.items)) }
+    ensures refused { IfErr result (λ r. RefusesDealt limits.most_bytes (O.seen opener.old).files splitting.now.stores splitting.now.dealing r) }
+    ensures blamed { IfErr result (λ r. IsOfReading (O.seen opener.old) (O.seen opener.new) r.fault) }
+    ensures quiet { OnOk result ((O.seen opener.new).failures ≡ (O.seen opener.old).failures) }
+{
+    let stores = splitting.stores;
+    match splitting.dealing {
+        Dealing::ByNode(_) | Dealing::ByRange(_) => read_items(alloc, opener, 0, stores, limits),
+        Dealing::Extracts(shards) => read_extracted(alloc, opener, shards, stores, limits),
+    }
+}
+
+// ---- the parts
+
+/// New files by the numbers of parts. It counts how many writes failed.
+pub trait PartFiles {
+    /// What each part's file has, and how many writes failed.
+    ghost seen: { Self → Filed };
+
+    /// Writes the file of part `k`: all of the bytes, unless a write fails. The count of failures must have room for one more.
+    fn write(&mut self, k: u32, text: &[u8]) -> Result<(), WriteFailed>
+        requires room { (seen self.old).failures < 2 ^ 63 }
+        ensures written { OnOk result (Appends ((seen self.old).files k) ((seen self.new).files k) text.now) }
+        ensures others { (n : ℕ) → n ≢ k → (seen self.new).files n ≡ (seen self.old).files n }
+        ensures quiet { OnOk result ((seen self.new).failures ≡ (seen self.old).failures) }
+        ensures failed { OnErr result ((seen self.old).failures < (seen self.new).failures) };
+}
+
+/// Writes part `k` of a set of items to its file, nothing else, and in one write; it answers how many items that part has.
+fn write_part<F: PartFiles>(
     alloc: Global,
     parting: &Parting,
     k: u32,
-    writer: &mut W,
+    parts: &mut F,
 ) -> Result<u64, Refusal>
-    requires room { (W.seen writer.old).failures < 2 ^ 63 }
-    ensures written { OnOk result (Appends (W.seen writer.old).written (W.seen writer.new).written (export_of (part parting.now k))) }
+    requires room { (F.seen parts.old).failures < 2 ^ 63 }
+    ensures written { OnOk result (Appends ((F.seen parts.old).files k) ((F.seen parts.new).files k) (export_of (part parting.now k))) }
     ensures counted { IfOk result (λ n. n ≡ count (part parting.now k)) }
-    ensures quiet { OnOk result ((W.seen writer.new).failures ≡ (W.seen writer.old).failures) }
-    ensures refused { IfErr result (λ r. (r.file ≡ None) × ((r.fault ≡ fault.Memory) ⊎ (r.fault ≡ fault.WriteFailed))) }
-    ensures nothing_written { IfErr result (λ r. (writer.new ≡ writer.old) ⊎ ((r.fault ≡ fault.WriteFailed) × ((W.seen writer.old).failures < (W.seen writer.new).failures))) }
+    ensures others { (n : ℕ) → n ≢ k → (F.seen parts.new).files n ≡ (F.seen parts.old).files n }
+    ensures quiet { OnOk result ((F.seen parts.new).failures ≡ (F.seen parts.old).failures) }
+    ensures refused { IfErr result (λ r. (r.file ≡ None) × IsOfWriting (F.seen parts.old) (F.seen parts.new) r.fault) }
 {
     let part = match parting.part(alloc, k) {
         Ok(part) => part,
         Err(_) => return Err(Refusal::of_none(Fault::Memory)),
     };
-    write(writer, &part.text)?;
-    Ok(part.items)
+    match parts.write(k, &part.text) {
+        Ok(()) => Ok(part.items),
+        Err(_) => Err(Refusal::of_writing()),
+    }
+}
+
+/// A number in decimal digits.
+fn decimal_of(alloc: Global, number: u64) -> Result<String, AllocError>
+    ensures { IfOk result (λ word. string_bytes word ≡ decimal number) }
+{
+    format!(in alloc; "{number}")
+}
+
+/// Writes the line of part `k`, of so many parts, behind the others.
+fn put_line(
+    alloc: Global,
+    lines: &mut Vec<u8>,
+    parts: u32,
+    k: u32,
+    items: u64,
+) -> Result<(), AllocError>
+    ensures { OnOk result (lines.new.items ≡ lines.old.items ++ part_line parts k items) }
+{
+    let number = decimal_of(alloc, u64::from(k))?;
+    let parts = decimal_of(alloc, u64::from(parts))?;
+    let items = decimal_of(alloc, items)?;
+    lines.extend_from_slice(number.as_bytes())?;
+    lines.extend_from_slice(b"/")?;
+    lines.extend_from_slice(parts.as_bytes())?;
+    lines.extend_from_slice(b" ")?;
+    lines.extend_from_slice(items.as_bytes())?;
+    lines.extend_from_slice(b"\n")
+}
+
+/// Writes part `k` to its file, and its line behind the others.
+fn file_part<F: PartFiles>(
+    alloc: Global,
+    parting: &Parting,
+    k: u32,
+    parts: &mut F,
+    lines: &mut Vec<u8>,
+) -> Result<(), Refusal>
+    requires room { (F.seen parts.old).failures < 2 ^ 63 }
+    ensures written { OnOk result (Appends ((F.seen parts.old).files k) ((F.seen parts.new).files k) (export_of (part parting.now k))) }
+    ensures lines { OnOk result (lines.new.items ≡ lines.old.items ++ part_line (parts_of parting.now.dealing) k (count (part parting.now k))) }
+    ensures others { (n : ℕ) → n ≢ k → (F.seen parts.new).files n ≡ (F.seen parts.old).files n }
+    ensures quiet { OnOk result ((F.seen parts.new).failures ≡ (F.seen parts.old).failures) }
+    ensures refused { IfErr result (λ r. (r.file ≡ None) × IsOfWriting (F.seen parts.old) (F.seen parts.new) r.fault) }
+{
+    let count = parting.dealing().parts();
+    let items = write_part(alloc, parting, k, parts)?;
+    match put_line(alloc, lines, count, k, items) {
+        Ok(()) => Ok(()),
+        Err(_) => Err(Refusal::of_none(Fault::Memory)),
+    }
+}
+
+/// Writes each part to its file, and gives a line for each.
+fn write_parts<F: PartFiles>(
+    alloc: Global,
+    parting: &Parting,
+    parts: &mut F,
+) -> Result<Vec<u8>, Refusal>
+    requires room { (F.seen parts.old).failures < 2 ^ 63 }
+    ensures written { OnOk result (AreFiled parting.now.dealing (insert_all none parting.now.items) (parts_of parting.now.dealing) (F.seen parts.old) (F.seen parts.new)) }
+    ensures lines { IfOk result (λ lines. lines.items ≡ part_lines parting.now.dealing (insert_all none parting.now.items) (parts_of parting.now.dealing)) }
+    ensures others { (k : ℕ) → parts_of parting.now.dealing ≤ k → (F.seen parts.new).files k ≡ (F.seen parts.old).files k }
+    ensures quiet { OnOk result ((F.seen parts.new).failures ≡ (F.seen parts.old).failures) }
+    ensures refused { IfErr result (λ r. (r.file ≡ None) × IsOfWriting (F.seen parts.old) (F.seen parts.new) r.fault) }
+{
+    let count = parting.dealing().parts();
+    let mut lines = Vec::new(alloc);
+    for number in 0..count {
+        file_part(alloc, parting, number, parts, &mut lines)?;
+    }
+    Ok(lines)
+}
+
+/// What is dealt, and how.
+#[derive(Clone, Copy)]
+pub struct Splitting {
+    /// How items are dealt to parts.
+    pub dealing: Dealing,
+    /// How many stores there are: files from 0 on, or, for extracts, behind a directory, which is file 0.
+    pub stores: usize,
+}
+
+/// Writes each part of the items of all stores to its file, and, once all parts are there, a line for each to the writer. Where a store is
+/// refused nothing was written; where memory ran out or a write failed, parts may have been.
+pub fn run<O: Opener, F: PartFiles, W: Sink>(
+    alloc: Global,
+    splitting: &Splitting,
+    opener: &mut O,
+    limits: Limits,
+    parts: &mut F,
+    writer: &mut W,
+) -> Result<Ending, Refusal>
+    requires room { ((O.seen opener.old).failures < 2 ^ 63) × ((F.seen parts.old).failures < 2 ^ 63) × ((W.seen writer.old).failures < 2 ^ 63) }
+    ensures done { IfOk result (λ ending. (X : Items) × IsDealt limits.most_bytes (O.seen opener.old).files splitting.now.stores splitting.now.dealing X × AreFiled splitting.now.dealing X (parts_of splitting.now.dealing) (F.seen parts.old) (F.seen parts.new) × Appends (W.seen writer.old).written (W.seen writer.new).written (part_lines splitting.now.dealing X (parts_of splitting.now.dealing)) × (ending ≡ Ending.Done)) }
+    ensures others { (k : ℕ) → parts_of splitting.now.dealing ≤ k → (F.seen parts.new).files k ≡ (F.seen parts.old).files k }
+    ensures refused { IfErr result (λ r. (RefusesDealt limits.most_bytes (O.seen opener.old).files splitting.now.stores splitting.now.dealing r × (parts.new ≡ parts.old) × (writer.new ≡ writer.old)) ⊎ ((r.file ≡ None) × ((r.fault ≡ fault.Memory) ⊎ (r.fault ≡ fault.WriteFailed)))) }
+    ensures read_failed { IfErr result (λ r. r.fault ≡ fault.ReadFailed → (O.seen opener.old).failures < (O.seen opener.new).failures) }
+    ensures write_failed { IfErr result (λ r. r.fault ≡ fault.WriteFailed → ((F.seen parts.old).failures < (F.seen parts.new).failures) ⊎ ((W.seen writer.old).failures < (W.seen writer.new).failures)) }
+    ensures quiet { OnOk result (((O.seen opener.new).failures ≡ (O.seen opener.old).failures) × ((F.seen parts.new).failures ≡ (F.seen parts.old).failures) × ((W.seen writer.new).failures ≡ (W.seen writer.old).failures)) }
+{
+    let items = read_dealt(alloc, splitting, opener, limits)?;
+    let parting = match Parting::new(alloc, splitting.dealing, &items) {
+        Ok(parting) => parting,
+        Err(_) => return Err(Refusal::of_none(Fault::Memory)),
+    };
+    let lines = write_parts(alloc, &parting, parts)?;
+    write(writer, &lines)?;
+    Ok(Ending::Done)
 }

@@ -24,13 +24,15 @@ use replay_verifier::Program;
 use std::alloc::Global;
 use std::thread::Threads;
 
-/// What is asked: of which nodes, and in which style it is answered.
+/// What is asked: of which nodes, in which style it is answered, and by which name the program is told.
 #[derive(Clone, Copy)]
-pub struct Reporting {
+pub struct Reporting<'a> {
     /// The style.
     pub style: Style,
     /// The nodes.
     pub scope: Scope,
+    /// The name, with no character that JSON escapes.
+    pub name: &'a [u8],
 }
 
 /// Whether the evidence exposes a listed node.
@@ -82,23 +84,23 @@ pub fn ending_of<P: Program, S: Evidence<P>>(store: &S, scope: &Scope) -> Ending
     }
 }
 
-impl<P: Program, S: Evidence<P>> Question<P, S> for Reporting {
-    ghost means = { λ q. Status q.style q.scope P.means };
+impl<'a, P: Program, S: Evidence<P>> Question<P, S> for Reporting<'a> {
+    ghost means = { λ q. Status q.style q.name.now q.scope P.means };
 
     fn answer(&self, alloc: Global, read: &Gathered<S>) -> Result<Answer, Fault> {
         let mut standings = standings_of::<P, S>(alloc, &read.store)?;
         self.scope.keep(&mut standings);
-        let text = standings_text(alloc, self.style, &standings)?;
+        let text = standings_text(alloc, self.style, self.name, &read.directory, &standings)?;
         let ending = ending_of::<P, S>(&read.store, &self.scope);
         Ok(Answer { text, ending })
     }
 }
 
 /// Reads a directory and so many stores, and writes in this style what the items of all stores say of each node of the directory that is
-/// asked of: nothing else, and in one write, once everything has been decided.
+/// asked of, under the program of this name: nothing else, and in one write, once everything has been decided.
 pub fn run<R: Threads + Sync, P: Program + Send + Sync, O: Opener, F: StoreWatcher, W: Sink>(
     reading: &Reading<'_, R, P>,
-    reporting: &Reporting,
+    reporting: &Reporting<'_>,
     opener: &mut O,
     stores: usize,
     watcher: &mut F,
@@ -108,9 +110,9 @@ where
     P::State: Send,
     requires workers { (0 < reading.now.limits.workers) × (reading.now.limits.workers ≤ MOST_WORKERS) }
     requires room { HasRoom stores (O.seen opener.old) (W.seen writer.old) }
-    ensures { RanOnStores (Status reporting.now.style reporting.now.scope P.means) reading.now.limits.most_bytes stores result (O.seen opener.old) (O.seen opener.new) W.seen writer.old writer.new }
+    ensures { RanOnStores (Status reporting.now.style reporting.now.name.now reporting.now.scope P.means) reading.now.limits.most_bytes stores result (O.seen opener.old) (O.seen opener.new) W.seen writer.old writer.new }
 {
-    ask::<R, P, IndexedStore<P>, Reporting, O, F, W>(
+    ask::<R, P, IndexedStore<P>, Reporting<'_>, O, F, W>(
         reading, reporting, opener, stores, watcher, writer,
     )
 }

@@ -1,3 +1,4 @@
 pub mod Escaping
 pub mod Names
 pub mod Pages
+pub mod within

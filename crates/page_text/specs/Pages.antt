@@ -1,9 +1,12 @@
--- What a page is put together of: the elements and the attributes of a closed set, and text that is escaped. Nothing else can stand in it.
-use Rattle.std.specs.Prelude.{ℕ, ◌≡◌, ◌==◌, List, ◌++◌, map, codes, decimal, if◌then◌else◌}
+-- What a page is put together of: the elements and the attributes of a closed set, and text that is escaped. Nothing else can stand in it,
+-- and no text in a tag.
+use Rattle.std.specs.Prelude.{ℕ, ◌≡◌, ◌==◌, Bool, false, true, List, [], ◌++◌, Option, None, Some, fold, map, option_and_then, codes, decimal, if◌then◌else◌}
 use Rattle.std.specs.List.{flat_map}
 use Rattle.hex.specs.Hex.{encode_lower}
 use Rattle.page_text.specs.declared.page.Piece.{Piece}
 use Rattle.page_text.specs.declared.page.Piece.TheVariants as piece
+use Rattle.page_text.specs.declared.places.Place.{Place}
+use Rattle.page_text.specs.declared.places.Place.TheVariants.{InTag, InValue, Outside}
 use Rattle.page_text.specs.Escaping.{escaped}
 use Rattle.page_text.specs.Names.{attribute_name, sign_number, tag_name}
 
@@ -45,9 +48,49 @@ in_style b = if b == 60 then 32 else b
 abbrev pub head_of : List ℕ → List ℕ → List ℕ
 head_of title style = front ++ escaped title ++ before_style ++ map in_style style ++ behind_style
 
--- The bytes are a page: a head, and pieces.
+-- ---- where pieces stand
+
+-- Where the next piece stands behind a piece that stands outside of tags, in a tag, or in the value of an attribute: none where the piece
+-- may not stand there.
+unfoldable pub outside : Piece → Option Place
+outside (piece.Open tag) = Some InTag
+outside (piece.Close tag) = Some Outside
+outside piece.Line = Some Outside
+outside (piece.Sign sign) = Some Outside
+outside (piece.Text text) = Some Outside
+outside (piece.Number n) = Some Outside
+outside (piece.Digits bytes) = Some Outside
+outside _ = None
+
+unfoldable pub in_tag : Piece → Option Place
+in_tag (piece.Set attribute) = Some InValue
+in_tag piece.Link = Some InValue
+in_tag piece.Inside = Some Outside
+in_tag piece.Alone = Some Outside
+in_tag _ = None
+
+unfoldable pub in_value : Piece → Option Place
+in_value (piece.Text text) = Some InValue
+in_value (piece.Number n) = Some InValue
+in_value (piece.Digits bytes) = Some InValue
+in_value piece.End = Some InTag
+in_value _ = None
+
+abbrev pub behind : Place → Piece → Option Place
+behind Outside = outside
+behind InTag = in_tag
+behind InValue = in_value
+
+-- The same behind pieces.
+abbrev pub behind_all : Option Place → List Piece → Option Place
+behind_all place pieces = fold (λ here piece. option_and_then (λ (p : Place). behind p piece) here) place pieces
+
+-- ---- pages
+
+-- The bytes are a page: a head, and behind it pieces, each where it may stand, of which the last ends outside of tags.
 pub record IsPage (bytes : List ℕ) : Type 0 where
   pub title : List ℕ
   pub style : List ℕ
   pub pieces : List Piece
   pub is : bytes ≡ head_of title style ++ all_written pieces
+  pub places : behind_all (Some Outside) pieces ≡ Some Outside

@@ -1,12 +1,15 @@
 //! The page as it grows.
 
-ghost use Rattle.std.specs.Prelude.{◌≡◌, ◌++◌, codes, decimal, map, IfOk, OnOk};
+ghost use Rattle.std.specs.Prelude.{◌≡◌, ◌++◌, [], Some, codes, decimal, false, map, true, IfOk, OnOk};
 ghost use Rattle.hex.specs.Hex.{encode_lower};
+ghost use Rattle.page_text.specs.declared.places.Place.{Place as ThePlace};
+ghost use Rattle.page_text.specs.declared.places.Place.TheVariants.{Outside};
 ghost use Rattle.page_text.specs.Names.{sign_number};
 ghost use Rattle.page_text.specs.Pages.{IsPage, all_written, before_style, behind_style, front, head_of, in_style, written};
 
 use crate::escaping::escape;
 use crate::names::{Attribute, Sign, Tag};
+use crate::places::{Place, behind_all};
 use std::alloc::{AllocError, Global};
 use std::marker::Model;
 
@@ -39,23 +42,26 @@ pub enum Piece<'a> {
     Digits(&'a [u8]),
 }
 
-/// A page, up to where it is written. A contract sees its bytes.
+/// A page, or a part of one, up to where it is written. A contract sees its bytes.
 #[derive(Debug, Drop)]
 pub struct Page {
     bytes: Vec<u8>,
-    /// Whether each call has written all of its pieces.
-    is_whole: bool,
+    /// Whether it has a head: a part has none.
+    has_head: bool,
+    /// Where the next piece stands; none where a call did not write all of its pieces, or wrote one that may not stand where it does.
+    place: Option<Place>,
 }
 
 impl Model for Page {
-    ghost use Rattle.std.specs.Prelude.{◌≡◌, ℕ, List, true};
-    ghost use Rattle.page_text.specs.Pages.{IsPage};
+    ghost use Rattle.std.specs.Prelude.{◌≡◌, ℕ, List, Some};
+    ghost use Rattle.page_text.specs.declared.places.Place.{Place};
+    ghost use Rattle.page_text.specs.within.Growing.{IsGrown};
 
     ghost Value = { List ℕ };
 
     ghost view = { λ p. p.bytes.items };
 
-    ghost invariant = { λ p. p.is_whole ≡ true → IsPage p.bytes.items };
+    ghost invariant = { λ p. (place : Place) → p.place ≡ Some place → IsGrown p.has_head place p.bytes.items };
 }
 
 /// Writes the names and signs around a name.
@@ -182,6 +188,26 @@ fn head(alloc: Global, title: &[u8], style: &[u8]) -> Result<Vec<u8>, AllocError
     Ok(page)
 }
 
+/// Where the next piece stands behind a part that is written behind a page: outside of tags, where both end so and the part has no head.
+fn joint_of(page: Option<Place>, has_head: bool, part: Option<Place>) -> Option<Place>
+    ensures { (next : ThePlace) → result ≡ Some next → (next ≡ Outside) × (page ≡ Some Outside) × (part ≡ Some Outside) × (has_head ≡ false) }
+{
+    match (page, part) {
+        (Some(Place::Outside), Some(Place::Outside)) if !has_head => Some(Place::Outside),
+        _ => None,
+    }
+}
+
+/// Whether a page has a head, and ends outside of tags.
+fn is_whole(has_head: bool, place: Option<Place>) -> bool
+    ensures { result ≡ true → (has_head ≡ true) × (place ≡ Some Outside) }
+{
+    match place {
+        Some(Place::Outside) => has_head,
+        _ => false,
+    }
+}
+
 impl Page {
     /// A page of a title and a style, in which nothing stands yet.
     pub fn new(alloc: Global, title: &[u8], style: &[u8]) -> Result<Page, AllocError>
@@ -190,29 +216,54 @@ impl Page {
         let bytes = head(alloc, title, style)?;
         Ok(Page {
             bytes,
-            is_whole: true,
+            has_head: true,
+            place: Some(Place::Outside),
         })
     }
 
-    /// Writes the pieces behind what is written. Where memory runs out, some of them may have been written, and there is no page any more.
+    /// A part of a page, in which nothing stands yet. It takes no memory.
+    pub fn part(alloc: Global) -> Page
+        ensures { result ≡ [] }
+    {
+        Page {
+            bytes: Vec::new(alloc),
+            has_head: false,
+            place: Some(Place::Outside),
+        }
+    }
+
+    /// Writes the pieces behind what is written. Where memory runs out, some of them may have been written, and there is no page any
+    /// more; nor where one of them may not stand where it does, as a text in a tag.
     pub fn write(&mut self, pieces: &[Piece<'_>]) -> Result<(), AllocError>
         ensures { OnOk result (self.new ≡ self.old ++ all_written pieces.now) }
     {
         let alloc = *self.bytes.allocator();
-        let was_whole = self.is_whole;
-        self.is_whole = false;
+        let place = self.place;
+        self.place = None;
         put_all(alloc, &mut self.bytes, pieces)?;
-        self.is_whole = was_whole;
+        self.place = behind_all(place, pieces);
         Ok(())
     }
 
-    /// The page's bytes; or that memory ran out in a call that wrote.
+    /// Writes a part behind what is written, outside of tags: else there is no page any more, as behind [`Page::write`].
+    pub fn append(&mut self, part: &Page) -> Result<(), AllocError>
+        ensures { OnOk result (self.new ≡ self.old ++ part.now) }
+    {
+        let place = joint_of(self.place, part.has_head, part.place);
+        self.place = None;
+        self.bytes.extend_from_slice(&part.bytes)?;
+        self.place = place;
+        Ok(())
+    }
+
+    /// The page's bytes; or that memory ran out in a call that wrote, or that a piece stood where it may not, or that it is a part.
     pub fn finish(self) -> Result<Vec<u8>, AllocError>
         ensures exact { IfOk result (λ page. page.items ≡ self) }
-        // A head with a charset and a policy, and behind it elements and attributes of the closed set, and texts that are escaped.
+        // A head with a charset and a policy, and behind it elements and attributes of the closed set, and texts that are escaped and
+        // stand in no tag.
         ensures whole { IfOk result (λ page. IsPage page.items) }
     {
-        if self.is_whole {
+        if is_whole(self.has_head, self.place) {
             Ok(self.bytes)
         } else {
             Err(AllocError)

@@ -2,7 +2,7 @@
 use Rattle.std.proofs.Common.{◌≡◌, ◌<◌, ◌+◌, ◌^◌, suc, ◌==◌, ◌≢◌, ◌++◌, ℕ, List, [], ◌∷◌, All, Bool, true, false, not, if◌then◌else◌, refl, ap, sym, ◌∙◌, arith, codes, decimal, string_bytes, length}
 use Rattle.std.specs.List.{AllByRecursion, flat_map}
 use Rattle.std.proofs.lemmas.Bool.Decides.{nat_tests}
-use Rattle.sentences.specs.Texts.{in_line, in_one_line, is_margin, line_of, margin, margin_behind, node_text, sentence_text, ending_of, row_line}
+use Rattle.sentences.specs.Texts.{in_line, in_one_line, is_margin, margin, margin_behind, node_text, sentence_text, ending_of, row_line}
 use Rattle.evidence_set.specs.declared.indication.Indication.{Indication}
 use Rattle.evidence_set.specs.declared.indication.Indication.TheVariants.{Trusted, Suspected, Exposed}
 use Rattle.sentences.specs.declared.explanation.NodeExplanation.{NodeExplanation}
@@ -93,11 +93,14 @@ sentences_out (s ∷ sentences) more =
     ∙ sentence_out s (flat_map sentence_text sentences ++ more)
     ∙ sentences_out sentences more
 
--- the word behind a node's number, without its line feed
-word : Indication → List ℕ
-word Trusted = codes " trusted"
-word Suspected = codes " suspected"
-word Exposed = codes " exposed"
+-- what stands behind a node's number, without its line feed
+word : Indication → Bool → List ℕ
+word Trusted false = codes " trusted"
+word Suspected false = codes " suspected"
+word Exposed false = codes " exposed"
+word Trusted true = codes " trusted (no item)"
+word Suspected true = codes " suspected (no item)"
+word Exposed true = codes " exposed (no item)"
 
 tested : (xs : List ℕ) → all xs ≡ true → AllByRecursion IsWithin xs
 unfolding all
@@ -108,17 +111,23 @@ tested (b ∷ xs) h = go (b == 10) refl (λ e. tested xs e) h
     go true _ _ e = absurd cc
     go false f rest e = ((λ g. grind (arith, nat_tests)), rest e)
 
-word_within : (i : Indication) → AllByRecursion IsWithin (word i)
+word_within : (i : Indication) (n : Bool) → AllByRecursion IsWithin (word i n)
 unfolding all word
-word_within Trusted = tested (codes " trusted") refl
-word_within Suspected = tested (codes " suspected") refl
-word_within Exposed = tested (codes " exposed") refl
+word_within Trusted false = tested (codes " trusted") refl
+word_within Suspected false = tested (codes " suspected") refl
+word_within Exposed false = tested (codes " exposed") refl
+word_within Trusted true = tested (codes " trusted (no item)") refl
+word_within Suspected true = tested (codes " suspected (no item)") refl
+word_within Exposed true = tested (codes " exposed (no item)") refl
 
-word_ends : (i : Indication) → ending_of i ≡ word i ++ 10 ∷ []
+word_ends : (i : Indication) (n : Bool) → ending_of i n ≡ word i n ++ 10 ∷ []
 unfolding word
-word_ends Trusted = refl
-word_ends Suspected = refl
-word_ends Exposed = refl
+word_ends Trusted false = refl
+word_ends Suspected false = refl
+word_ends Exposed false = refl
+word_ends Trusted true = refl
+word_ends Suspected true = refl
+word_ends Exposed true = refl
 
 digits_within : (ds : List ℕ) → AllDigits 10 ds → AllByRecursion IsWithin ds
 digits_within [] _ = tt
@@ -147,18 +156,23 @@ line_kept (d ∷ ds) ws more _ k h =
     ∙ ap (λ z. d ∷ z) (kept_line d (ds ++ ws) more not_feed all_within)
     ∙ ap (λ z. d ∷ z) ungroup
 
-row_kept : (n : ℕ) (i : Indication) (more : List ℕ) → n < 2 ^ 64 → margin (line_of (n, i) ++ more) ≡ line_of (n, i) ++ margin more
-row_kept n i more h =
+line_of : ℕ → Indication → Bool → List ℕ
+line_of n i none = decimal n ++ ending_of i none
+
+row_kept : (n : ℕ) (i : Indication) (none : Bool) (more : List ℕ) → n < 2 ^ 64 → margin (line_of n i none ++ more) ≡ line_of n i none ++ margin more
+unfolding line_of
+row_kept n i none more h =
     let numeral = decimal_is_IsNumeral n h in
-    let kept : margin ((decimal n ++ (word i ++ 10 ∷ [])) ++ more) ≡ (decimal n ++ (word i ++ 10 ∷ [])) ++ margin more = line_kept (decimal n) (word i) more numeral.0.0 numeral.0.1 (word_within i) in
-    ap (λ z. margin ((decimal n ++ z) ++ more)) (word_ends i) ∙ kept ∙ ap (λ z. (decimal n ++ z) ++ margin more) (sym (word_ends i))
+    let kept : margin ((decimal n ++ (word i none ++ 10 ∷ [])) ++ more) ≡ (decimal n ++ (word i none ++ 10 ∷ [])) ++ margin more = line_kept (decimal n) (word i none) more numeral.0.0 numeral.0.1 (word_within i none) in
+    ap (λ z. margin ((decimal n ++ z) ++ more)) (word_ends i none) ∙ kept ∙ ap (λ z. (decimal n ++ z) ++ margin more) (sym (word_ends i none))
 
 -- a node behind others
-node_told : (n : NodeExplanation) (more : List ℕ) → n.node < 2 ^ 64 → margin (node_text n ++ more) ≡ line_of (n.node, n.indication) ++ margin more
+node_told : (n : NodeExplanation) (more : List ℕ) → n.node < 2 ^ 64 → margin (node_text n ++ more) ≡ row_line n ++ margin more
+unfolding line_of
 node_told n more h =
-    ap margin (append_assoc (line_of (n.node, n.indication)) (flat_map sentence_text n.sentences.items) more)
-    ∙ row_kept n.node n.indication (flat_map sentence_text n.sentences.items ++ more) h
-    ∙ ap (λ z. line_of (n.node, n.indication) ++ z) (sentences_out n.sentences.items more)
+    ap margin (append_assoc (row_line n) (flat_map sentence_text n.sentences.items) more)
+    ∙ row_kept n.node n.indication n.has_no_item (flat_map sentence_text n.sentences.items ++ more) h
+    ∙ ap (λ z. row_line n ++ z) (sentences_out n.sentences.items more)
 
 told : (nodes : List NodeExplanation) → AllByRecursion (λ n. n.node < 2 ^ 32) nodes → margin (flat_map node_text nodes) ≡ flat_map row_line nodes
 unfolding margin_behind

@@ -1,5 +1,5 @@
--- How an explanation is written: of each node the line that a report has of it, and below it its sentences.
-use Rattle.std.specs.Prelude.{ℕ, ◌≡◌, ◌==◌, List, [], ◌∷◌, ◌++◌, Bool, true, not, if◌then◌else◌, map, codes, decimal, string_bytes}
+-- How an explanation is written: of each node a line of its own, and below it its sentences.
+use Rattle.std.specs.Prelude.{ℕ, ◌≡◌, ◌==◌, List, [], ◌∷◌, ◌++◌, Bool, false, true, not, if◌then◌else◌, map, codes, decimal, string_bytes}
 use Rattle.std.specs.List.{flat_map}
 use Rattle.evidence_set.specs.declared.indication.Indication.{Indication}
 use Rattle.evidence_set.specs.Names.{name_of}
@@ -7,16 +7,17 @@ use Rattle.sentences.specs.declared.explanation.Explanation.{Explanation}
 use Rattle.sentences.specs.declared.explanation.NodeExplanation.{NodeExplanation}
 use Rattle.sentences.specs.declared.explanation.Sentence.{Sentence}
 
--- A node's line: its number in decimal digits, a blank, the word for what is said of it, and a line feed.
-abbrev pub ending_of : Indication → List ℕ
-ending_of i = codes " " ++ name_of i ++ codes "\n"
+-- What is said of a node behind the word for it: that no item is of it.
+abbrev pub mark_of : Bool → List ℕ
+mark_of true = codes " (no item)"
+mark_of false = []
 
-abbrev pub line_of : ℕ × Indication → List ℕ
-line_of row = decimal row.0 ++ ending_of row.1
+-- A node's line: its number in decimal digits, a blank, the word for what is said of it, whether no item is of it, and a line feed.
+abbrev pub ending_of : Indication → Bool → List ℕ
+ending_of i has_no_item = codes " " ++ name_of i ++ mark_of has_no_item ++ codes "\n"
 
--- The line that a report has of a node.
 abbrev pub row_line : NodeExplanation → List ℕ
-row_line n = line_of (n.node, n.indication)
+row_line n = decimal n.node ++ ending_of n.indication n.has_no_item
 
 -- A text in one line: a line feed in it is written as a blank.
 abbrev pub in_line : ℕ → ℕ
@@ -41,7 +42,7 @@ nodes_text e = flat_map node_text e.nodes.items
 abbrev pub text_of : Explanation → List ℕ
 text_of e = in_one_line (string_bytes e.heading) ++ codes "\n" ++ nodes_text e
 
--- The report of the same nodes.
+-- The lines of the same nodes alone.
 abbrev pub report_of : Explanation → List ℕ
 report_of e = flat_map row_line e.nodes.items
 
@@ -56,7 +57,3 @@ margin_behind before so (b ∷ text) = if is_margin before so b then b ∷ margi
 -- The lines of a text that do not begin with a blank, each with its line feed.
 abbrev pub margin : List ℕ → List ℕ
 margin text = margin_behind 10 true text
-
--- A text ends with another.
-abbrev pub EndsWith : List ℕ → List ℕ → Type 0
-EndsWith text end = (front : List ℕ) × (text ≡ front ++ end)

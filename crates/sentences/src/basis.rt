@@ -1,13 +1,14 @@
 //! Under what a verdict is given: the program, the directory and the evidence.
 
-ghost use Rattle.std.specs.Prelude.{◌≡◌, IfOk, string_bytes};
+ghost use Rattle.std.specs.Prelude.{◌≡◌, ◌++◌, ◌∷◌, IfOk, OnOk, string_bytes};
+ghost use Rattle.hex.specs.Hex.{encode_lower};
 ghost use Rattle.sha2.specs.Sha256.{sha256};
+ghost use Rattle.sentences.specs.Bases.{basis_text, digest_label, digest_line, groups, input_name, program_line};
 
 use crate::site::Input;
 use log_chain::Hash;
 use sha2::{Digest, Sha256};
 use std::alloc::{AllocError, Global};
-use std::fmt;
 
 /// Under what a verdict is given. Whoever puts another program or another directory in its place may have another verdict of the same
 /// bytes.
@@ -53,48 +54,89 @@ impl Basis {
     }
 }
 
-/// A hash in groups of four digits, as it is read out.
-#[derive(Clone, Copy)]
-pub struct Grouped<'a>(pub &'a Hash);
-
-/// `ec73 934f 8067 ..`: sixteen groups.
-impl<'a> fmt::Display for Grouped<'a> {
-    fn fmt<W: fmt::Write>(&self, f: &mut fmt::Formatter<W>) -> fmt::Result {
-        let mut is_first_of_two = true;
-        let mut is_first = true;
-        let hash = *self.0;
-        for byte in hash.0.as_slice() {
-            if is_first_of_two && !is_first {
-                f.write_str(" ")?;
-            }
-            write!(f, "{byte:02x}")?;
-            is_first = false;
-            is_first_of_two = !is_first_of_two;
-        }
-        Ok(())
-    }
+/// Writes bytes in hexadecimal digits, behind a blank.
+fn put_group(alloc: Global, text: &mut Vec<u8>, bytes: &[u8]) -> Result<(), AllocError>
+    ensures { OnOk result (text.new.items ≡ text.old.items ++ 32 ∷ encode_lower bytes.now) }
+{
+    let digits = hex::encode(alloc, bytes)?;
+    text.extend_from_slice(b" ")?;
+    text.extend_from_slice(digits.as_bytes())
 }
 
-/// `store`, `union of the stores`, `proof`.
-impl fmt::Display for Input {
-    fn fmt<W: fmt::Write>(&self, f: &mut fmt::Formatter<W>) -> fmt::Result {
-        f.write_str(match self {
+/// Writes bytes in groups of four hexadecimal digits, each group behind a blank. A byte that is left over is not written.
+fn put_groups(alloc: Global, text: &mut Vec<u8>, bytes: &[u8]) -> Result<(), AllocError>
+    ensures { OnOk result (text.new.items ≡ text.old.items ++ groups bytes.now) }
+{
+    let mut left = bytes;
+    while left.len() >= 2 {
+        let (pair, rest) = left.split_at(2);
+        put_group(alloc, text, pair)?;
+        left = rest;
+    }
+    Ok(())
+}
+
+/// A hash as it is read out: ` ec73 934f 8067 ..`, sixteen groups, each behind a blank.
+pub fn groups_of(alloc: Global, hash: &Hash) -> Result<Vec<u8>, AllocError>
+    ensures { IfOk result (λ text. text.items ≡ groups hash.now) }
+{
+    let mut text = Vec::new(alloc);
+    put_groups(alloc, &mut text, &hash.0)?;
+    Ok(text)
+}
+
+impl Input {
+    /// `store`, `union of the stores`, `proof`.
+    pub(crate) fn name(self) -> &'static str
+        ensures { result.now ≡ input_name self }
+    {
+        match self {
             Input::Store => "store",
             Input::Union => "union of the stores",
             Input::Proof => "proof",
-        })
+        }
     }
 }
 
-/// Three lines: the program, and the SHA-256 of the directory and of what was judged.
-impl fmt::Display for Basis {
-    fn fmt<W: fmt::Write>(&self, f: &mut fmt::Formatter<W>) -> fmt::Result {
-        let program = self.program.as_str();
-        write!(f, "Program: {program}\n")?;
-        let directory = Grouped(&self.directory);
-        write!(f, "SHA-256 of the directory: {directory}\n")?;
-        let input = self.input;
-        let evidence = Grouped(&self.evidence);
-        write!(f, "SHA-256 of the {input}: {evidence}\n")
-    }
+/// Writes what stands before a digest: the name of what has it.
+fn put_label(text: &mut Vec<u8>, name: &str) -> Result<(), AllocError>
+    ensures { OnOk result (text.new.items ≡ text.old.items ++ digest_label name.now) }
+{
+    text.extend_from_slice(b"SHA-256 of the ")?;
+    text.extend_from_slice(name.as_bytes())?;
+    text.extend_from_slice(b":")
+}
+
+/// Writes the line of a digest behind the name of what has it.
+pub(crate) fn put_digest(
+    alloc: Global,
+    text: &mut Vec<u8>,
+    name: &str,
+    hash: &Hash,
+) -> Result<(), AllocError>
+    ensures { OnOk result (text.new.items ≡ text.old.items ++ digest_line name.now hash.now) }
+{
+    put_label(text, name)?;
+    put_groups(alloc, text, &hash.0)?;
+    text.extend_from_slice(b"\n")?;
+    Ok(())
+}
+
+/// Writes the line of the program.
+fn put_program(text: &mut Vec<u8>, program: &str) -> Result<(), AllocError>
+    ensures { OnOk result (text.new.items ≡ text.old.items ++ program_line program.now) }
+{
+    text.extend_from_slice(b"Program: ")?;
+    text.extend_from_slice(program.as_bytes())?;
+    text.extend_from_slice(b"\n")
+}
+
+/// Writes three lines: the program, and the SHA-256 of the directory and of what was judged.
+pub(crate) fn put_basis(alloc: Global, text: &mut Vec<u8>, basis: &Basis) -> Result<(), AllocError>
+    ensures { OnOk result (text.new.items ≡ text.old.items ++ basis_text basis.now) }
+{
+    put_program(text, basis.program.as_str())?;
+    put_digest(alloc, text, "directory", &basis.directory)?;
+    put_digest(alloc, text, basis.input.name(), &basis.evidence)?;
+    Ok(())
 }

@@ -1,61 +1,7 @@
-//! How many nodes and items there are, in words.
+//! How many items there are, in words.
 
 use crate::words::Count;
-use evidence_set::Indication;
 use std::fmt;
-
-/// How many nodes there are, by indication.
-#[derive(Clone, Copy, Debug)]
-pub struct Indications {
-    trusted: u64,
-    suspected: u64,
-    exposed: u64,
-}
-
-impl Indications {
-    /// No node.
-    pub fn none() -> Indications {
-        Indications {
-            trusted: 0,
-            suspected: 0,
-            exposed: 0,
-        }
-    }
-
-    /// The counts with a node more.
-    pub fn with(self, indication: Indication) -> Indications {
-        let Indications {
-            mut trusted,
-            mut suspected,
-            mut exposed,
-        } = self;
-        match indication {
-            Indication::Trusted => trusted = trusted.saturating_add(1),
-            Indication::Suspected => suspected = suspected.saturating_add(1),
-            Indication::Exposed => exposed = exposed.saturating_add(1),
-        }
-        Indications {
-            trusted,
-            suspected,
-            exposed,
-        }
-    }
-}
-
-/// `2 trusted, 0 suspected, 1 exposed`.
-impl fmt::Display for Indications {
-    fn fmt<W: fmt::Write>(&self, f: &mut fmt::Formatter<W>) -> fmt::Result {
-        let Indications {
-            trusted,
-            suspected,
-            exposed,
-        } = *self;
-        write!(
-            f,
-            "{trusted} trusted, {suspected} suspected, {exposed} exposed"
-        )
-    }
-}
 
 /// How many items there are, by form.
 #[derive(Clone, Copy, Debug)]

@@ -42,6 +42,8 @@ pub struct NodeExplanation {
     pub node: NodeId,
     /// What the evidence says of it.
     pub indication: Indication,
+    /// Whether no item is of it: it is trusted for want of evidence.
+    pub has_no_item: bool,
     /// Why, in order.
     pub sentences: Vec<Sentence>,
 }

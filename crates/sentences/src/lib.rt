@@ -2,24 +2,25 @@
 //!
 //! - [`Explanation`] has a heading, and of each node its indication and [`Sentence`]s; a [`Mark`] names an entry of which a sentence says
 //!   that it contradicts something. [`text_of`] writes an explanation down.
-//! - [`Basis`] says under which program and directory a verdict is given, and of which bytes.
+//! - [`Basis`] says under which program and directory a verdict is given, and of which bytes. [`verdict_text`] writes it in front of an
+//!   explanation.
 //! - [`Listing`] has what a directory lists, with the SHA-256 of each key.
 //! - [`Lines`] takes sentences one after the other.
-//! - [`Count`], [`Indications`], [`FormCounts`], [`Kind`], [`Shown`], [`Sending`], [`Logged`] and [`Sites`] are the words for what evidence has: each writes itself.
+//! - [`Count`], [`FormCounts`], [`Kind`], [`Shown`], [`Sending`], [`Logged`] and [`Sites`] are the words for what evidence has: each writes itself.
 //! - [`Said`] reads what an entry's content says. A [`Voice`] says what a program's payload says; [`PlainVoice`] shows its bytes.
 //!
-//! `specs/Texts.antt` says how an explanation is written: of each node the line that a report has of it, and its sentences behind blanks. No
-//! contract speaks of a sentence's words: stored outputs hold them.
+//! `specs/Texts.antt` says how an explanation is written: of each node a line of its own, and its sentences behind blanks; and
+//! `specs/Bases.antt` how a basis is. No contract of this crate speaks of a sentence's words.
 #![tactic(auto)]
 
 pub use authenticators::NodeId;
-pub use basis::{Basis, Grouped};
+pub use basis::{Basis, groups_of};
 pub use content::{Content, Logged, Said, Sending};
-pub use counts::{FormCounts, Indications};
+pub use counts::FormCounts;
 pub use evidence_set::Indication;
 pub use explanation::{Explanation, Mark, NamedHash, NodeExplanation, Sentence};
 pub use lines::Lines;
-pub use listing::{ListedNode, Listing};
+pub use listing::{ListedNode, Listing, listing_lines};
 pub use log_chain::Entry;
 pub use outcome::Memory;
 pub use payload::{MOST_SHOWN, Payload, PlainVoice, Shown, Voice};

@@ -1,10 +1,73 @@
 //! Sentences, one after the other.
 
+ghost use Rattle.std.specs.Prelude.{◌≡◌, IfOk};
+
 use crate::explanation::{Mark, NamedHash, Sentence};
 use authenticators::NodeId;
 use log_chain::Hash;
 use outcome::Memory;
 use std::alloc::Global;
+
+impl Sentence {
+    /// A sentence that speaks of no contradiction. It takes no memory.
+    pub fn plain(alloc: Global, text: String) -> Sentence
+        ensures { result.text ≡ text }
+    {
+        Sentence {
+            text,
+            marks: Vec::new(alloc),
+            named: Vec::new(alloc),
+        }
+    }
+
+    /// A sentence that speaks of what stands under this number as contradicting something.
+    pub fn of_number(
+        alloc: Global,
+        node: NodeId,
+        seq: u64,
+        text: String,
+    ) -> Result<Sentence, Memory>
+        ensures { IfOk result (λ s. s.text ≡ text) }
+    {
+        let mut marks = Vec::new(alloc);
+        marks.push(Mark { node, seq })?;
+        let named = Vec::new(alloc);
+        Ok(Sentence { text, marks, named })
+    }
+
+    /// A sentence that speaks of the entry with this number and hash, and of no other under the number, as contradicting something.
+    pub fn of_entry(
+        alloc: Global,
+        node: NodeId,
+        seq: u64,
+        hash: Hash,
+        text: String,
+    ) -> Result<Sentence, Memory>
+        ensures { IfOk result (λ s. s.text ≡ text) }
+    {
+        let mut marks = Vec::new(alloc);
+        marks.push(Mark { node, seq })?;
+        let mut named = Vec::new(alloc);
+        named.push(NamedHash { node, seq, hash })?;
+        Ok(Sentence { text, marks, named })
+    }
+
+    /// A sentence that names the hash of an entry which contradicts something.
+    pub fn of_hash(
+        alloc: Global,
+        node: NodeId,
+        seq: u64,
+        hash: Hash,
+        text: String,
+    ) -> Result<Sentence, Memory>
+        ensures { IfOk result (λ s. s.text ≡ text) }
+    {
+        let mut named = Vec::new(alloc);
+        named.push(NamedHash { node, seq, hash })?;
+        let marks = Vec::new(alloc);
+        Ok(Sentence { text, marks, named })
+    }
+}
 
 /// The sentences about a node, so far.
 #[derive(Debug, Drop)]
@@ -29,49 +92,13 @@ impl Lines {
 
     /// Says a sentence that speaks of no contradiction.
     pub fn say(&mut self, text: String) -> Result<(), Memory> {
-        let marks = Vec::new(self.alloc);
-        let named = Vec::new(self.alloc);
-        self.sentences.push(Sentence { text, marks, named })?;
-        Ok(())
+        let sentence = Sentence::plain(self.alloc, text);
+        self.add(sentence)
     }
 
-    /// Says a sentence that speaks of what stands under this number as contradicting something.
-    pub fn say_of(&mut self, node: NodeId, seq: u64, text: String) -> Result<(), Memory> {
-        let mut marks = Vec::new(self.alloc);
-        marks.push(Mark { node, seq })?;
-        let named = Vec::new(self.alloc);
-        self.sentences.push(Sentence { text, marks, named })?;
-        Ok(())
-    }
-
-    /// Says a sentence that speaks of the entry with this number and hash, and of no other under the number, as contradicting something.
-    pub fn say_entry(
-        &mut self,
-        node: NodeId,
-        seq: u64,
-        hash: Hash,
-        text: String,
-    ) -> Result<(), Memory> {
-        let mut marks = Vec::new(self.alloc);
-        marks.push(Mark { node, seq })?;
-        let mut named = Vec::new(self.alloc);
-        named.push(NamedHash { node, seq, hash })?;
-        self.sentences.push(Sentence { text, marks, named })?;
-        Ok(())
-    }
-
-    /// Says a sentence that names the hash of an entry which contradicts something.
-    pub fn say_hash(
-        &mut self,
-        node: NodeId,
-        seq: u64,
-        hash: Hash,
-        text: String,
-    ) -> Result<(), Memory> {
-        let mut named = Vec::new(self.alloc);
-        named.push(NamedHash { node, seq, hash })?;
-        let marks = Vec::new(self.alloc);
-        self.sentences.push(Sentence { text, marks, named })?;
+    /// Adds a sentence.
+    pub fn add(&mut self, sentence: Sentence) -> Result<(), Memory> {
+        self.sentences.push(sentence)?;
         Ok(())
     }
 

@@ -1,12 +1,11 @@
 //! What a directory lists, in lines that can be read out.
 
-use crate::basis::Grouped;
+use crate::basis::{groups_of, put_digest};
 use crate::words::Count;
 use authenticators::{Directory, NodeId, PublicKey};
 use log_chain::Hash;
 use sha2::{Digest, Sha256};
 use std::alloc::{AllocError, Global};
-use std::fmt;
 
 /// A node that a directory lists.
 #[derive(Debug, Drop)]
@@ -64,24 +63,25 @@ impl Listing {
 }
 
 /// Writes a node, and below it its keys by number.
-fn write_node<W: fmt::Write>(listed: &ListedNode, f: &mut fmt::Formatter<W>) -> fmt::Result {
+fn put_node(alloc: Global, text: &mut Vec<u8>, listed: &ListedNode) -> Result<(), AllocError> {
     let node = listed.node;
-    write!(f, "node {node}\n")?;
+    let line = format!(in alloc; "node {node}\n")?;
+    text.extend_from_slice(line.as_bytes())?;
     for (number, key) in listed.keys.iter().enumerate() {
-        let digest = Grouped(key);
-        write!(f, "  key {number}: {digest}\n")?;
+        let name = format!(in alloc; "  key {number}:")?;
+        text.extend_from_slice(name.as_bytes())?;
+        text.extend_from_slice(&groups_of(alloc, key)?)?;
+        text.extend_from_slice(b"\n")?;
     }
     Ok(())
 }
 
 /// The directory's SHA-256, and below it each node with the SHA-256 of each of its keys.
-impl fmt::Display for Listing {
-    fn fmt<W: fmt::Write>(&self, f: &mut fmt::Formatter<W>) -> fmt::Result {
-        let directory = Grouped(&self.directory);
-        write!(f, "SHA-256 of the directory: {directory}\n")?;
-        for node in &self.nodes {
-            write_node(node, f)?;
-        }
-        Ok(())
+pub fn listing_lines(alloc: Global, listing: &Listing) -> Result<Vec<u8>, AllocError> {
+    let mut text = Vec::new(alloc);
+    put_digest(alloc, &mut text, "directory", &listing.directory)?;
+    for node in &listing.nodes {
+        put_node(alloc, &mut text, node)?;
     }
+    Ok(text)
 }

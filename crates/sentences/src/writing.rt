@@ -2,11 +2,11 @@
 
 ghost use Rattle.std.specs.Prelude.{◌≡◌, ◌++◌, ◌<◌, ◌^◌, All, IfOk, OnOk, string_bytes};
 ghost use Rattle.std.specs.List.{flat_map};
-ghost use Rattle.sentences.specs.Texts.{EndsWith, in_line, in_one_line, line_of, margin, node_text, nodes_text, report_of, sentence_text, text_of};
+ghost use Rattle.sentences.specs.Bases.{basis_text};
+ghost use Rattle.sentences.specs.Texts.{in_line, in_one_line, margin, mark_of, node_text, nodes_text, report_of, row_line, sentence_text, text_of};
 
-use crate::basis::Basis;
+use crate::basis::{Basis, put_basis};
 use crate::explanation::{Explanation, NodeExplanation, Sentence};
-use evidence_set::Indication;
 use std::alloc::{AllocError, Global};
 
 /// The byte as it stands within a line.
@@ -45,22 +45,30 @@ fn put_sentences(text: &mut Vec<u8>, sentences: &[Sentence]) -> Result<(), Alloc
     Ok(())
 }
 
-/// A node's line.
-fn line_of(alloc: Global, node: u32, indication: Indication) -> Result<String, AllocError>
-    ensures { IfOk result (λ s. string_bytes s ≡ line_of (node, indication)) }
-{
-    match indication {
-        Indication::Trusted => format!(in alloc; "{node} trusted\n"),
-        Indication::Suspected => format!(in alloc; "{node} suspected\n"),
-        Indication::Exposed => format!(in alloc; "{node} exposed\n"),
+impl NodeExplanation {
+    /// What is said behind the word for it: ` (no item)`, or nothing.
+    pub fn mark(&self) -> &'static str
+        ensures { result.now ≡ mark_of self.now.has_no_item }
+    {
+        if self.has_no_item { " (no item)" } else { "" }
     }
+}
+
+/// A node's line.
+fn row_line(alloc: Global, node: &NodeExplanation) -> Result<String, AllocError>
+    ensures { IfOk result (λ s. string_bytes s ≡ row_line node.now) }
+{
+    let number = node.node;
+    let indication = node.indication;
+    let mark = node.mark();
+    format!(in alloc; "{number} {indication}{mark}\n")
 }
 
 /// Writes a node's line, and its sentences below it.
 fn put_node(alloc: Global, text: &mut Vec<u8>, node: &NodeExplanation) -> Result<(), AllocError>
     ensures { OnOk result (text.new.items ≡ text.old.items ++ node_text node.now) }
 {
-    let line = line_of(alloc, node.node.0, node.indication)?;
+    let line = row_line(alloc, node)?;
     text.extend_from_slice(line.as_bytes())?;
     put_sentences(text, node.sentences.as_slice())
 }
@@ -109,11 +117,11 @@ fn put_explanation(
     Ok(())
 }
 
-/// The text of an explanation: the heading's line, and for each node a line `NODE INDICATION` and its sentences, each in a line behind two
-/// blanks.
+/// The text of an explanation: the heading's line, and for each node a line `NODE INDICATION`, with ` (no item)` where no item is of it, and
+/// its sentences, each in a line behind two blanks.
 pub fn text_of(alloc: Global, explanation: &Explanation) -> Result<Vec<u8>, AllocError>
     ensures exact { IfOk result (λ text. text.items ≡ text_of explanation.now) }
-    // Behind the heading the lines that do not begin with a blank are the report, and no other.
+    // Behind the heading the lines that do not begin with a blank are those of the nodes, and no other.
     ensures report { OnOk result (margin (nodes_text explanation.now) ≡ report_of explanation.now) }
 {
     let mut text = Vec::new(alloc);
@@ -127,11 +135,12 @@ pub fn verdict_text(
     basis: &Basis,
     explanation: &Explanation,
 ) -> Result<Vec<u8>, AllocError>
-    ensures ends { IfOk result (λ text. EndsWith text.items (text_of explanation.now)) }
-    // Behind the heading the lines that do not begin with a blank are the report, and no other.
+    ensures exact { IfOk result (λ text. text.items ≡ basis_text basis.now ++ text_of explanation.now) }
+    // Behind the heading the lines that do not begin with a blank are those of the nodes, and no other.
     ensures report { OnOk result (margin (nodes_text explanation.now) ≡ report_of explanation.now) }
 {
-    let mut text = format!(in alloc; "{basis}")?.into_bytes();
+    let mut text = Vec::new(alloc);
+    put_basis(alloc, &mut text, basis)?;
     put_explanation(alloc, &mut text, explanation)?;
     Ok(text)
 }

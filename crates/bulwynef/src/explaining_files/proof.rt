@@ -1,10 +1,17 @@
 //! Whom a proof convicts.
 
-ghost use Rattle.std.specs.Prelude.{◌≡◌, ◌+◌, ◌<◌, ◌^◌, ℕ, IfErr, IfOk, MatchResult, OnOk};
-ghost use Rattle.explaining.specs.Explained.{ExplainsProof};
-ghost use Rattle.operating.specs.ConvictingFiles.{AreConvicting, RefusesConviction, RefusesProofText, TextConvicts};
+ghost use Rattle.std.specs.Prelude.{◌≡◌, ◌+◌, ◌<◌, ◌^◌, ℕ, IfErr, IfOk, MatchResult, Ok, OnOk};
+ghost use Rattle.proofs.specs.declared.proof.Parts.{Parts};
+ghost use Rattle.proofs.specs.Convicting.{Convicts};
+ghost use Rattle.proofs.specs.ProofTexts.{proof_of};
+ghost use Rattle.sentences.specs.declared.basis.Basis.{Basis};
+ghost use Rattle.sentences.specs.declared.site.Input.TheVariants as kind;
+ghost use Rattle.commands.specs.within.OwnFaults.{IsOwn};
+ghost use Rattle.explaining.specs.Explained.{ExplainsProof, IsBasis};
+ghost use Rattle.operating.specs.ConvictingFiles.{RefusesConviction, RefusesProofText};
+ghost use Rattle.operating.specs.FileTexts.{IsOfReading};
 ghost use Rattle.operating.specs.Operating.{HasRoom, Ran};
-ghost use Rattle.bulwynef.specs.Explained.{ExplainProof};
+ghost use Rattle.bulwynef.specs.Explained.{AreConvictingTexts, ConvictingTexts, ExplainProof};
 
 use crate::explaining_files::stores::Explaining;
 use commands::device::Sink;
@@ -26,7 +33,8 @@ fn told_of<P: Program, V: Voice>(
     read: &ReadDirectory,
     text: &[u8],
 ) -> Result<Vec<u8>, Fault>
-    ensures { MatchResult result (λ told. (node : ℕ) × TextConvicts P.means read.now.directory text.now node × ExplainsProof explaining.now.is_page node told.items) (λ f. RefusesProofText P.means read.now.directory text.now f) }
+    ensures told { MatchResult result (λ told. (node : ℕ) × (x : Parts) × (b : Basis) × (proof_of text.now ≡ Ok x) × Convicts read.now.directory P.means node x × IsBasis explaining.now.followed.name.now read.now.text.items kind.Proof text.now b × ExplainsProof explaining.now.is_page node x b told.items) (λ f. RefusesProofText P.means read.now.directory text.now f) }
+    ensures own { IfErr result IsOwn }
 {
     let proof = Proof::decode(alloc, text)?;
     let name = explaining.followed.name;
@@ -50,12 +58,13 @@ fn told<P: Program, V: Voice, O: Opener>(
     limits: Limits,
 ) -> Result<Vec<u8>, Refusal>
     requires room { (O.seen opener.old).failures + 1 < 2 ^ 63 }
-    ensures told { IfOk result (λ told. (node : ℕ) × AreConvicting P.means limits.most_bytes (O.seen opener.old).files node × ExplainsProof explaining.now.is_page node told.items) }
+    ensures told { IfOk result (λ told. (x : ConvictingTexts) × AreConvictingTexts P.means limits.most_bytes (O.seen opener.old).files x × (b : Basis) × IsBasis explaining.now.followed.name.now x.directory kind.Proof x.proof b × ExplainsProof explaining.now.is_page x.node x.parts b told.items) }
     ensures refused { IfErr result (λ r. RefusesConviction P.means limits.most_bytes (O.seen opener.old).files r) }
+    ensures blamed { IfErr result (λ r. IsOfReading (O.seen opener.old) (O.seen opener.new) r.fault) }
     ensures quiet { OnOk result ((O.seen opener.new).failures ≡ (O.seen opener.old).failures) }
 {
     let read = read_directory_file(alloc, opener, limits)?;
-    let text = read_said(alloc, opener, 1, false, limits)?;
+    let text = read_said(alloc, opener, 1, None, limits)?;
     match told_of(alloc, explaining, &read, &text) {
         Ok(told) => Ok(told),
         Err(fault) => Err(Refusal::of_text(1, &text, fault)),
@@ -72,7 +81,7 @@ pub fn run<P: Program, V: Voice, O: Opener, W: Sink>(
     writer: &mut W,
 ) -> Result<Ending, Refusal>
     requires room { HasRoom 1 (O.seen opener.old) (W.seen writer.old) }
-    ensures { Ran (AreConvicting P.means limits.most_bytes (O.seen opener.old).files) (RefusesConviction P.means limits.most_bytes (O.seen opener.old).files) (ExplainProof explaining.now.is_page) result (O.seen opener.old) (O.seen opener.new) W.seen writer.old writer.new }
+    ensures { Ran (AreConvictingTexts P.means limits.most_bytes (O.seen opener.old).files) (RefusesConviction P.means limits.most_bytes (O.seen opener.old).files) (ExplainProof explaining.now.followed.name.now explaining.now.is_page) result (O.seen opener.old) (O.seen opener.new) W.seen writer.old writer.new }
 {
     let text = told(alloc, explaining, opener, limits)?;
     write(writer, &text)?;

@@ -1,9 +1,13 @@
 //! What stores say.
 
-ghost use Rattle.std.specs.Prelude.{◌<◌, ◌≤◌};
+ghost use Rattle.std.specs.Prelude.{◌≡◌, ◌<◌, ◌≤◌, IfOk, length};
+ghost use Rattle.operating.specs.GatheredFiles.{under};
 ghost use Rattle.operating.specs.Operating.{HasRoom, RanOnStores};
 ghost use Rattle.parallel_checking.specs.declared.limits.TheConstants.{MOST_WORKERS};
-ghost use Rattle.bulwynef.specs.Explained.{ExplainStores};
+ghost use Rattle.evidence_set.specs.Exports.{export_of};
+ghost use Rattle.explaining.specs.Explained.{IsBasis};
+ghost use Rattle.sentences.specs.declared.site.Input.TheVariants as kind;
+ghost use Rattle.bulwynef.specs.Explained.{ExplainStores, IsBasisOfStores, fronted};
 
 use commands::device::Sink;
 use commands::fault::Fault;
@@ -31,11 +35,49 @@ pub struct Explaining<'a, P, V> {
     pub is_page: bool,
 }
 
-/// Puts these bytes in front.
-fn put_front(text: &mut [u8], front: [u8; 8]) {
+/// Puts these bytes in place of the first eight.
+fn put_front(text: &mut [u8], front: [u8; 8])
+    ensures text { text.new ≡ fronted front text.old }
+    ensures length { length front ≡ 8 }
+{
     if text.len() >= 8 {
         text[..8].copy_from_slice(&front);
     }
+}
+
+/// The text of the one store that was read, with its own front.
+fn own_text<P: Program, S: Evidence<P>>(read: &Gathered<S>) -> Result<Vec<u8>, Memory>
+    ensures text { IfOk result (λ text. text.items ≡ fronted read.now.front (export_of (S.contents read.now.store).items)) }
+    ensures length { IfOk result (λ text. length read.now.front ≡ 8) }
+{
+    let mut text = read.store.export()?;
+    put_front(&mut text, read.front);
+    Ok(text)
+}
+
+/// Under what one store is judged: its own text.
+fn basis_of_one<P: Program, S: Evidence<P>>(
+    alloc: Global,
+    name: &str,
+    read: &Gathered<S>,
+) -> Result<Basis, Memory>
+    ensures { IfOk result (λ b. (length read.now.front ≡ 8) × IsBasis name.now read.now.directory.items kind.Store (fronted read.now.front (export_of (S.contents read.now.store).items)) b) }
+{
+    let text = own_text::<P, S>(read)?;
+    let basis = Basis::of(alloc, name, &read.directory, Input::Store, &text)?;
+    Ok(basis)
+}
+
+/// Under what several stores are judged: the text of their union.
+fn basis_of_union<P: Program, S: Evidence<P>>(
+    alloc: Global,
+    name: &str,
+    read: &Gathered<S>,
+) -> Result<Basis, Memory>
+    ensures { IfOk result (λ b. IsBasis name.now read.now.directory.items kind.Union (export_of (S.contents read.now.store).items) b) }
+{
+    let text = read.store.export()?;
+    Basis::of(alloc, name, &read.directory, Input::Union, &text)
 }
 
 /// Under what the evidence is judged: one store by its own text, of several the text of their union.
@@ -43,19 +85,19 @@ fn basis_of<P: Program, S: Evidence<P>>(
     alloc: Global,
     name: &str,
     read: &Gathered<S>,
-) -> Result<Basis, Memory> {
-    let mut text = read.store.export()?;
-    let input = if read.stores == 1 {
-        put_front(&mut text, read.front);
-        Input::Store
-    } else {
-        Input::Union
-    };
-    Basis::of(alloc, name, &read.directory, input, &text)
+) -> Result<Basis, Memory>
+    ensures { IfOk result (IsBasisOfStores name.now (under read.now.directory.items (S.contents read.now.store))) }
+{
+    if read.stores == 1 {
+        let basis = basis_of_one(alloc, name, read)?;
+        return Ok(basis);
+    }
+    let basis = basis_of_union(alloc, name, read)?;
+    Ok(basis)
 }
 
 impl<'a, P: Program, S: Evidence<P>, V: Voice> Question<P, S> for Explaining<'a, P, V> {
-    ghost means = { λ q. ExplainStores q.is_page P.means };
+    ghost means = { λ q. ExplainStores q.followed.name.now q.is_page P.means };
 
     fn answer(&self, alloc: Global, read: &Gathered<S>) -> Result<Answer, Fault> {
         let basis = basis_of::<P, S>(alloc, self.followed.name, read)?;
@@ -86,7 +128,7 @@ where
     P::State: Send,
     requires workers { (0 < reading.now.limits.workers) × (reading.now.limits.workers ≤ MOST_WORKERS) }
     requires room { HasRoom stores (O.seen opener.old) (W.seen writer.old) }
-    ensures { RanOnStores (ExplainStores explaining.now.is_page P.means) reading.now.limits.most_bytes stores result (O.seen opener.old) (O.seen opener.new) W.seen writer.old writer.new }
+    ensures { RanOnStores (ExplainStores explaining.now.followed.name.now explaining.now.is_page P.means) reading.now.limits.most_bytes stores result (O.seen opener.old) (O.seen opener.new) W.seen writer.old writer.new }
 {
     ask::<R, P, IndexedStore<P>, Explaining<'_, P, V>, O, F, W>(
         reading, explaining, opener, stores, watcher, writer,

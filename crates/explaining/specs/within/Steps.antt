@@ -26,9 +26,9 @@ abbrev pub IsRefusal : {Y : Type 0} → Refusal → Result Y Fault → Type 0
 IsRefusal r expected = Fails fault.Memory r.fault expected × IsOwn r.fault
 
 -- A call read, seen by view, what is expected, or refused so.
-abbrev pub Reads : {X Y : Type 0} → (X → Y) → Result X Refusal → Result Y Fault → Type 0
-Reads view (Ok x) expected = expected ≡ Ok (view x)
-Reads view (Err r) expected = IsRefusal r expected
+abbrev pub ReadsAs : {X Y : Type 0} → (X → Y) → Result X Refusal → Result Y Fault → Type 0
+ReadsAs view (Ok x) expected = expected ≡ Ok (view x)
+ReadsAs view (Err r) expected = IsRefusal r expected
 
 -- A call gave a store, seen by contents, that holds what is expected, or refused so.
 abbrev pub Holds : {S : Type 0} → (S → Contents) → Result S Refusal → Result Parsed Fault → Type 0

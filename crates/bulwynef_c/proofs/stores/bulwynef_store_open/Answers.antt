@@ -4,6 +4,4 @@ use Rattle.bulwynef_c.specs.Handles.{Is}
 use Rattle.bulwynef_c.proofs.stores.bulwynef_store_open.Goals as goal
 
 pub returns-in-Ok-clause-opened : goal.returns-in-Ok-clause-opened
-returns-in-Ok-clause-opened c = λ zero.
-    let made = c.in-Ok.ensures.made in
-    (made.0, made.1, subst (λ v. Is (IsStoreOf c.args.program made.0) v) (sym (c.put.ensures.put zero)) made.2)
+returns-in-Ok-clause-opened c = λ zero. subst (λ v. Is (IsStoreOf c.args.program c.args.directory.now) v) (sym (c.put.ensures.put zero)) c.in-Ok.ensures.made

@@ -7,6 +7,7 @@ use Rattle.operating.specs.declared.asking.Ending.TheVariants as ending
 use Rattle.operating.specs.declared.check.Found.{Found}
 use Rattle.operating.specs.ConvictingFiles.{AreConvictingUnder, RefusesConviction}
 use Rattle.operating.specs.Questions.{Check}
+use Rattle.operating.proofs.Blames.{memory_own}
 use Rattle.operating.proofs.Endings.{files_refused, not_answered, not_written, written}
 use Rattle.operating.proofs.check.run.Goals as goal
 
@@ -22,13 +23,13 @@ returns-in_err-found g c =
     let p = err_from_is_err_and c.from_residual.result c.from_residual.ensures.1 in
     let old = g.O.Opener.seen c.args.opener.now in
     rw (p.1, p.2) (files_refused (AreConvictingUnder g.P.Program.means c.args.limits.most_bytes old.files) (RefusesConviction g.P.Program.means c.args.limits.most_bytes old.files) (Check c.args.convicting.now.style c.args.convicting.now.name.now) old (g.O.Opener.seen c.convicted.new.opener) g.W.Sink.seen c.args.writer.now
-    c.in_err-found.field-0.0 c.in_err-found.ensures.refused)
+    c.in_err-found.field-0.0 c.in_err-found.ensures.refused c.in_err-found.ensures.blamed)
 
 pub returns-in-Err : goal.returns-in-Err
 returns-in-Err g c =
     let old = g.O.Opener.seen c.args.opener.now in
     not_answered (AreConvictingUnder g.P.Program.means c.args.limits.most_bytes old.files) (RefusesConviction g.P.Program.means c.args.limits.most_bytes old.files) (Check c.args.convicting.now.style c.args.convicting.now.name.now) old (g.O.Opener.seen c.convicted.new.opener) g.W.Sink.seen c.args.writer.now
-    (found c.in_ok-found.found) c.of_none.result c.in_ok-found.ensures.convicted c.of_none.ensures.1 (inl c.of_none.ensures.0)
+    (found c.in_ok-found.found) c.of_none.result c.in_ok-found.ensures.convicted c.of_none.ensures.1 (inl c.of_none.ensures.0) (memory_own c.of_none.result.fault c.of_none.ensures.0)
 
 pub returns-in_err-write : goal.returns-in_err-write
 returns-in_err-write g c =

@@ -1,3 +1,6 @@
+use Rattle.std.proofs.Common.{sym, subst}
+use Rattle.commands.specs.within.OwnFaults.{IsOwn}
+use Rattle.commands.proofs.Refused.{cause_own}
 use Rattle.operating.proofs.Steps.{text_refused}
 use Rattle.operating.proofs.gathering.add_text.Goals as goal
 
@@ -10,4 +13,9 @@ returns-in-Ok-clause-added g c =
 pub returns-in-Err-clause-refused : goal.returns-in-Err-clause-refused
 returns-in-Err-clause-refused g c =
     let (told, file, item) = c.of_import.ensures in
-    (file, text_refused (g.S.Evidence.contents c.args.store.now) c.args.text.now c.in-Err.fault c.of_import.result told item c.in-Err.ensures.fault)
+    (file, text_refused (g.S.Evidence.contents c.args.store.now).directory c.args.text.now c.in-Err.fault c.of_import.result told item c.in-Err.ensures.fault)
+
+pub returns-in-Err-clause-own : goal.returns-in-Err-clause-own
+returns-in-Err-clause-own g c =
+    let (told, file, item) = c.of_import.ensures in
+    subst IsOwn (sym told) (cause_own c.in-Err.fault.cause)

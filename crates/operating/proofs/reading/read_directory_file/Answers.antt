@@ -1,9 +1,10 @@
-use Rattle.std.proofs.Common.{◌≡◌, ◌∙◌, List, ℕ, Ok, inl, inr, subst}
+use Rattle.std.proofs.Common.{List, ℕ, ◌≡◌, Ok, inl, inr, subst}
 use Rattle.std.proofs.lemmas.Result.{err_from_is_err_and}
-use Rattle.outcome.specs.Outcome.{Fails}
+use Rattle.outcome.specs.Outcome.{Fails, told_as}
 use Rattle.authenticators.specs.DirectoryText.{directory_of}
-use Rattle.authenticators.specs.declared.fault.DirectoryFault.TheVariants as listing
-use Rattle.operating.proofs.Steps.{no_directory}
+use Rattle.commands.specs.declared.fault.Fault.TheVariants as fault
+use Rattle.commands.specs.Refusals.{of_directory}
+use Rattle.operating.proofs.Blames.{own_blames}
 use Rattle.operating.proofs.reading.read_directory_file.Goals as goal
 
 pub returns-in_err-text-clause-refused : goal.returns-in_err-text-clause-refused
@@ -12,16 +13,21 @@ returns-in_err-text-clause-refused g c =
     let told = c.in_err-text.ensures.refused in
     rw (p.1, p.2) (told.0, inl told.1)
 
-pub returns-in-Ok-clause-said : goal.returns-in-Ok-clause-said
-returns-in-Ok-clause-said g c =
-    (c.in_ok-text.text.items, c.in_ok-text.ensures.said, subst (λ (t : List ℕ). directory_of t ≡ Ok c.in-Ok.directory) c.deref.ensures.value c.in-Ok.ensures.exact)
+pub returns-clause-said : goal.returns-clause-said
+returns-clause-said g c = (c.in_ok-text.text.items, c.in_ok-text.ensures.said, subst (λ (t : List ℕ). directory_of t ≡ Ok c.in_ok-directory.directory) c.deref.ensures.value c.in_ok-directory.ensures.read)
 
-pub returns-in-Ok-clause-text : goal.returns-in-Ok-clause-text
-returns-in-Ok-clause-text g c =
-    (c.in_ok-text.ensures.said, subst (λ (t : List ℕ). directory_of t ≡ Ok c.in-Ok.directory) c.deref.ensures.value c.in-Ok.ensures.exact)
+pub returns-clause-text : goal.returns-clause-text
+returns-clause-text g c = (c.in_ok-text.ensures.said, subst (λ (t : List ℕ). directory_of t ≡ Ok c.in_ok-directory.directory) c.deref.ensures.value c.in_ok-directory.ensures.read)
 
-pub returns-in-Err-clause-refused : goal.returns-in-Err-clause-refused
-returns-in-Err-clause-refused g c =
-    let (told, file, item) = c.of_text.ensures in
-    let fails = subst (λ (t : List ℕ). Fails listing.Memory c.in-Err.fault (directory_of t)) c.deref.ensures.value c.in-Err.ensures.exact in
-    ((file, item), inr (c.in_ok-text.text.items, c.in_ok-text.ensures.said, no_directory (directory_of c.in_ok-text.text.items) c.in-Err.fault c.of_text.result.fault (told ∙ c.from.ensures) fails))
+pub returns-in_err-directory-clause-refused : goal.returns-in_err-directory-clause-refused
+returns-in_err-directory-clause-refused g c =
+    let p = err_from_is_err_and c.from_residual-in_err-directory.result c.from_residual-in_err-directory.ensures.1 in
+    let r = c.in_err-directory.field-0.0 in
+    let told = c.in_err-directory.ensures.refused in
+    let fails = subst (λ (t : List ℕ). Fails fault.Memory r.fault (told_as of_directory (directory_of t))) c.deref.ensures.value told.1 in
+    rw (p.1, p.2) (told.0, inr (c.in_ok-text.text.items, c.in_ok-text.ensures.said, fails))
+
+pub returns-in_err-directory-clause-blamed : goal.returns-in_err-directory-clause-blamed
+returns-in_err-directory-clause-blamed g c =
+    let p = err_from_is_err_and c.from_residual-in_err-directory.result c.from_residual-in_err-directory.ensures.1 in
+    rw (p.1, p.2) (own_blames (g.O.Opener.seen c.args.opener.now) (g.O.Opener.seen c.read_said.new.opener) c.in_err-directory.field-0.0.fault c.in_err-directory.ensures.own)

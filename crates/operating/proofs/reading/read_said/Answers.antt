@@ -1,17 +1,27 @@
-use Rattle.std.proofs.Common.{rules, inl, inr, sym, subst}
-use Rattle.commands.specs.declared.fault.Fault.{Fault}
-use Rattle.operating.specs.FileTexts.{IsUnsaid}
+use Rattle.std.proofs.Common.{sym, subst}
+use Rattle.std.proofs.lemmas.Result.{err_from_is_err_and}
+use Rattle.operating.specs.FileTexts.{IsOfReading}
+use Rattle.operating.proofs.Blames.{own_blames}
+use Rattle.operating.proofs.Saying.{misplaced, says, unsaid}
 use Rattle.operating.proofs.reading.read_said.Goals as goal
 
-pub returns-in-Ok-said-clause-said : goal.returns-in-Ok-said-clause-said
-returns-in-Ok-said-clause-said g c = record { bytes = c.in-Ok.bytes.items; all = c.in-Ok.ensures.all; within = search rules; is = c.in-Ok-said.ensures }
+pub returns-in_err-texts-clause-refused : goal.returns-in_err-texts-clause-refused
+returns-in_err-texts-clause-refused g c =
+    let p = err_from_is_err_and c.from_residual.result c.from_residual.ensures.1 in
+    let told = c.in_err-texts.ensures.refused in
+    rw (p.1, p.2) (told.0, unsaid c.args.limits.most_bytes _ ((g.O.Opener.seen c.args.opener.now).files c.args.file) c.in_err-texts.field-0.0.fault told.1)
+
+pub returns-in-Ok-clause-said : goal.returns-in-Ok-clause-said
+returns-in-Ok-clause-said g c = says c.args.limits.most_bytes _ ((g.O.Opener.seen c.args.opener.now).files c.args.file) _ c.in-Ok.text.items c.in_ok-texts.ensures.said c.in-Ok.ensures.told
 
 pub returns-in-Err-clause-refused : goal.returns-in-Err-clause-refused
 returns-in-Err-clause-refused g c =
     let (told, file, item) = c.of_file.ensures in
-    ((file, item), subst (λ (f : Fault). IsUnsaid c.args.limits.most_bytes c.args.first ((g.O.Opener.seen c.args.opener.now).files c.args.file) f) (sym told) (inl c.in-Err.ensures.refused))
+    ((file, item), misplaced c.args.limits.most_bytes _ ((g.O.Opener.seen c.args.opener.now).files c.args.file) _ c.in-Err.fault c.of_file.result.fault told c.in_ok-texts.ensures.said c.in-Err.ensures.told)
 
-pub returns-in-Err-said-clause-refused : goal.returns-in-Err-said-clause-refused
-returns-in-Err-said-clause-refused g c =
-    let (told, file, item) = c.of_file-in-Err-said.ensures in
-    ((file, item), subst (λ (f : Fault). IsUnsaid c.args.limits.most_bytes c.args.first ((g.O.Opener.seen c.args.opener.now).files c.args.file) f) (sym told) (inr (c.in-Ok.bytes.items, c.in-Ok.ensures.all, search rules, c.in-Err-said.ensures)))
+pub returns-in-Err-clause-blamed : goal.returns-in-Err-clause-blamed
+returns-in-Err-clause-blamed g c =
+    let (told, file, item) = c.of_file.ensures in
+    let old = g.O.Opener.seen c.args.opener.now in
+    let new = g.O.Opener.seen c.read_texts.new.opener in
+    subst (IsOfReading old new) (sym told) (own_blames old new c.in-Err.fault c.in-Err.ensures.own)

@@ -1,4 +1,4 @@
-use Rattle.std.proofs.Common.{false, ℕ, List, Ok, Option, inl, subst}
+use Rattle.std.proofs.Common.{ℕ, List, None, Ok, Option, inl, subst}
 use Rattle.std.proofs.lemmas.Result.{err_from_is_err_and}
 use Rattle.std.specs.Io.KnownBytes.{Appends}
 use Rattle.operating.specs.declared.asking.Ending.TheVariants as ending
@@ -6,27 +6,28 @@ use Rattle.operating.specs.declared.refusal.Refusal.{Refusal}
 use Rattle.operating.specs.FileTexts.{IsUnsaid, Says}
 use Rattle.operating.specs.GatheredFiles.{IsOfFile}
 use Rattle.operating.specs.Questions.{Show}
+use Rattle.operating.proofs.Blames.{memory_own}
 use Rattle.operating.proofs.Endings.{files_refused, not_answered, not_written, written}
 use Rattle.operating.proofs.show.run.Goals as goal
 
 abbrev reads : ℕ → (ℕ → Option (List ℕ)) → List ℕ → Type 0
-reads limit files = Says limit false (files 0)
+reads limit files = Says limit None (files 0)
 
 abbrev refuses : ℕ → (ℕ → Option (List ℕ)) → Refusal → Type 0
-refuses limit files r = IsOfFile 0 r × IsUnsaid limit false (files 0) r.fault
+refuses limit files r = IsOfFile 0 r × IsUnsaid limit None (files 0) r.fault
 
 pub returns-in_err-text : goal.returns-in_err-text
 returns-in_err-text g c =
     let p = err_from_is_err_and c.from_residual.result c.from_residual.ensures.1 in
     let old = g.O.Opener.seen c.args.opener.now in
     rw (p.1, p.2) (files_refused (reads c.args.limits.most_bytes old.files) (refuses c.args.limits.most_bytes old.files) (Show c.args.style) old (g.O.Opener.seen c.read_said.new.opener) g.W.Sink.seen c.args.writer.now
-    c.in_err-text.field-0.0 c.in_err-text.ensures.refused)
+    c.in_err-text.field-0.0 c.in_err-text.ensures.refused c.in_err-text.ensures.blamed)
 
 pub returns-in-Err : goal.returns-in-Err
 returns-in-Err g c =
     let old = g.O.Opener.seen c.args.opener.now in
     not_answered (reads c.args.limits.most_bytes old.files) (refuses c.args.limits.most_bytes old.files) (Show c.args.style) old (g.O.Opener.seen c.read_said.new.opener) g.W.Sink.seen c.args.writer.now
-    c.in_ok-text.text.items c.of_none.result c.in_ok-text.ensures.said c.of_none.ensures.1 (inl c.of_none.ensures.0)
+    c.in_ok-text.text.items c.of_none.result c.in_ok-text.ensures.said c.of_none.ensures.1 (inl c.of_none.ensures.0) (memory_own c.of_none.result.fault c.of_none.ensures.0)
 
 pub returns-in_err-write : goal.returns-in_err-write
 returns-in_err-write g c =

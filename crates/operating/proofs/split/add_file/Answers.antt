@@ -1,4 +1,4 @@
-use Rattle.std.proofs.Common.{List, ℕ, inl, inr, subst}
+use Rattle.std.proofs.Common.{List, ℕ, inl, inr, sym, subst}
 use Rattle.std.specs.Prelude.{◌⊎◌, ◌≡◌}
 use Rattle.std.proofs.lemmas.Result.{err_from_is_err_and}
 use Rattle.containers.specs.declared.fault.Cause.TheVariants as cause
@@ -7,6 +7,10 @@ use Rattle.containers.specs.DecodedItems.{decoded_of}
 use Rattle.containers.specs.Refusals as container
 use Rattle.evidence_set.specs.Exports.{magic_of}
 use Rattle.shards.specs.Parts.{Decodes}
+use Rattle.commands.specs.Refusals.{of_import}
+use Rattle.commands.proofs.Refused.{cause_own}
+use Rattle.operating.specs.FileTexts.{IsOfReading}
+use Rattle.operating.proofs.Blames.{own_blames}
 use Rattle.operating.proofs.split.add_file.Goals as goal
 
 pub returns-in_err-text-clause-refused : goal.returns-in_err-text-clause-refused
@@ -31,3 +35,10 @@ returns-clause-refused g c =
         (f, told, item, subst (λ (t : List ℕ). container.Refuses f (import_of (magic_of t) decoded_of t) ⊎ (f.cause ≡ cause.Memory)) c.deref.ensures.value c.in-Err.ensures.refused),
       ),
     )
+
+pub returns-clause-blamed : goal.returns-clause-blamed
+returns-clause-blamed g c =
+    let (told, file, item) = c.of_import.ensures in
+    let old = g.O.Opener.seen c.args.opener.now in
+    let new = g.O.Opener.seen c.read_said.new.opener in
+    subst (IsOfReading old new) (sym told) (own_blames old new (of_import c.in-Err.fault) (cause_own c.in-Err.fault.cause))

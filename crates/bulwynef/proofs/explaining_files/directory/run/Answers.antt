@@ -7,6 +7,7 @@ use Rattle.operating.specs.declared.refusal.Refusal.{Refusal}
 use Rattle.operating.specs.FileTexts.{SaysDirectory}
 use Rattle.operating.specs.GatheredFiles.{IsOfFile, RefusesDirectory}
 use Rattle.bulwynef.specs.Explained.{ExplainDirectory}
+use Rattle.operating.proofs.Blames.{memory_own}
 use Rattle.operating.proofs.Endings.{files_refused, not_answered, not_written, written}
 use Rattle.bulwynef.proofs.explaining_files.directory.run.Goals as goal
 
@@ -21,13 +22,13 @@ returns-in_err-read g c =
     let p = err_from_is_err_and c.from_residual.result c.from_residual.ensures.1 in
     let old = g.O.Opener.seen c.args.opener.now in
     rw (p.1, p.2) (files_refused (reads c.args.limits.most_bytes old.files) (refuses c.args.limits.most_bytes old.files) (ExplainDirectory c.args.is_page) old (g.O.Opener.seen c.read_directory_file.new.opener) g.W.Sink.seen c.args.writer.now
-    c.in_err-read.field-0.0 c.in_err-read.ensures.refused)
+    c.in_err-read.field-0.0 c.in_err-read.ensures.refused c.in_err-read.ensures.blamed)
 
 pub returns-in-Err : goal.returns-in-Err
 returns-in-Err g c =
     let old = g.O.Opener.seen c.args.opener.now in
     not_answered (reads c.args.limits.most_bytes old.files) (refuses c.args.limits.most_bytes old.files) (ExplainDirectory c.args.is_page) old (g.O.Opener.seen c.read_directory_file.new.opener) g.W.Sink.seen c.args.writer.now
-    c.in_ok-read.read.directory c.of_none.result c.in_ok-read.ensures.said c.of_none.ensures.1 (inl c.of_none.ensures.0)
+    c.in_ok-read.read.directory c.of_none.result c.in_ok-read.ensures.said c.of_none.ensures.1 (inl c.of_none.ensures.0) (memory_own c.of_none.result.fault c.of_none.ensures.0)
 
 pub returns-in_err-write : goal.returns-in_err-write
 returns-in_err-write g c =

@@ -1,9 +1,8 @@
-use Rattle.std.proofs.Common.{rules, ◌≡◌, ◌++◌}
-use Rattle.page_text.specs.Pages.{all_written}
-use Rattle.page_text.proofs.Whole.{more}
+use Rattle.std.proofs.Common.{sym, ◌∙◌}
+use Rattle.page_text.proofs.Whole.{more_at}
 use Rattle.page_text.proofs.page.Page.write.Goals as goal
 
 pub invariant_of-self-2 : goal.invariant_of-self-2
-invariant_of-self-2 c =
-    let is : c.put_all.new.page.items ≡ c.self.inside.bytes.items ++ all_written c.args.pieces.now = search rules in
-    λ whole. more c.self.inside.bytes.items c.put_all.new.page.items c.args.pieces.now is (c.self.invariant whole)
+invariant_of-self-2 c = λ place stands.
+    more_at c.self.inside.has_head c.self.inside.place c.self.inside.bytes.items c.put_all.new.page.items c.args.pieces.now place c.self.invariant
+    c.in_ok-put_all.ensures (sym c.behind_all-self-inside.ensures ∙ stands)

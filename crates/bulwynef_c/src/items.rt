@@ -1,0 +1,80 @@
+//! Items of evidence: the statements that they hold, and the challenges that are made of them.
+
+ghost use Rattle.std.specs.Prelude.{◌≡◌, Ok, false, is_some, true};
+ghost use Rattle.outcome.specs.Outcome.{Fails};
+ghost use Rattle.byte_calls.specs.declared.refusal.Refusal.{Refusal as TheRefusal};
+ghost use Rattle.byte_calls.specs.declared.refusal.Refusal.TheVariants.{Memory};
+ghost use Rattle.byte_calls.specs.ItemTexts.{demand_text, sending_text, statement_text};
+ghost use Rattle.byte_calls.specs.Refusals.{number_of as refusal_number};
+ghost use Rattle.bulwynef_c.specs.Handles.{Is, IsText};
+
+use crate::handle::Handle;
+use crate::object::Object;
+use crate::taking::{put, told};
+use byte_calls::{Refusal, items};
+use std::alloc::Global;
+
+/// `uint8_t bulwynef_statement_of(const uint8_t *item, size_t item_len, size_t place, struct bulwynef_handle *text)`: the statement at the
+/// place, from 0, of those that an item has signatures of, as an item of tag 1; 116 where there are fewer.
+#[unsafe(no_mangle)]
+pub extern "C" fn bulwynef_statement_of(
+    alloc: Global,
+    item: &[u8],
+    place: usize,
+    text: &mut Handle,
+) -> u8
+    ensures text { result ≡ 0 → Is (IsText (λ t. statement_text item.now place ≡ Ok t)) text.new.value }
+    ensures still_open { is_some text.old.value ≡ true → result ≡ 114 }
+    ensures number { is_some text.old.value ≡ false → (result ≡ 0 → ⊥) → (f : TheRefusal) × (result ≡ refusal_number f) × Fails Memory f (statement_text item.now place) }
+    ensures refused { (result ≡ 0 → ⊥) → text.new.value ≡ text.old.value }
+{
+    if text.is_open() {
+        return told(Refusal::StillOpen);
+    }
+    match items::statement_of(alloc, item, place) {
+        Ok(bytes) => put(alloc, text, Object::Text(bytes)),
+        Err(refusal) => told(refusal),
+    }
+}
+
+/// `uint8_t bulwynef_audit_challenge(const uint8_t *first, size_t first_len, const uint8_t *last, size_t last_len, struct
+/// bulwynef_handle *text)`: the demand for a node's log up to the entry of its statement `last`, from that of its statement `first` or,
+/// where that is empty, from the beginning (an item of tag 3).
+#[unsafe(no_mangle)]
+pub extern "C" fn bulwynef_audit_challenge(
+    alloc: Global,
+    first: &[u8],
+    last: &[u8],
+    text: &mut Handle,
+) -> u8
+    ensures text { result ≡ 0 → Is (IsText (λ t. demand_text first.now last.now ≡ Ok t)) text.new.value }
+    ensures still_open { is_some text.old.value ≡ true → result ≡ 114 }
+    ensures number { is_some text.old.value ≡ false → (result ≡ 0 → ⊥) → (f : TheRefusal) × (result ≡ refusal_number f) × Fails Memory f (demand_text first.now last.now) }
+    ensures refused { (result ≡ 0 → ⊥) → text.new.value ≡ text.old.value }
+{
+    if text.is_open() {
+        return told(Refusal::StillOpen);
+    }
+    match items::audit_challenge(alloc, first, last) {
+        Ok(bytes) => put(alloc, text, Object::Text(bytes)),
+        Err(refusal) => told(refusal),
+    }
+}
+
+/// `uint8_t bulwynef_send_challenge(const uint8_t *message, size_t message_len, struct bulwynef_handle *text)`: the demand to acknowledge
+/// the message of an item, a message or an acknowledgement (an item of tag 4).
+#[unsafe(no_mangle)]
+pub extern "C" fn bulwynef_send_challenge(alloc: Global, message: &[u8], text: &mut Handle) -> u8
+    ensures text { result ≡ 0 → Is (IsText (λ t. sending_text message.now ≡ Ok t)) text.new.value }
+    ensures still_open { is_some text.old.value ≡ true → result ≡ 114 }
+    ensures number { is_some text.old.value ≡ false → (result ≡ 0 → ⊥) → (f : TheRefusal) × (result ≡ refusal_number f) × Fails Memory f (sending_text message.now) }
+    ensures refused { (result ≡ 0 → ⊥) → text.new.value ≡ text.old.value }
+{
+    if text.is_open() {
+        return told(Refusal::StillOpen);
+    }
+    match items::send_challenge(alloc, message) {
+        Ok(bytes) => put(alloc, text, Object::Text(bytes)),
+        Err(refusal) => told(refusal),
+    }
+}
