@@ -3,17 +3,20 @@
  * Link with libbulwynef.a, which c/run.py makes of the crate bulwynef_c and of heap.c; c/example.c is a program that does. Each call is
  * proved against its contract (crates/bulwynef_c/src). docs/FORMATS.md has the bytes of every text.
  *
- * Every call but two answers a number: 0, or that of a refusal, and then nothing has changed, but where it says so below. No call
- * aborts, blocks, keeps a pointer, or writes behind the room that it is handed.
+ * Every call but two answers a number: 0, or that of a refusal, and then nothing has changed, neither behind a handle nor in what the call
+ * writes to, but where it says so below. No call aborts, blocks, keeps a pointer, or writes behind the room that it is handed.
  *
  * A handle is a place of the caller's, zeroed at first: struct bulwynef_handle h = {0}. A call opens it; bulwynef_close closes it, and
  * frees what lies behind it. What the library cannot see, and the caller owes:
- *  - a pointer points to as many bytes as the length beside it says, for the call. Where the length is 0 it may be any pointer but a
- *    null one. What a call writes overlaps nothing else that it is handed, and two handles of one call are two.
+ *  - a pointer points to as many bytes as the length beside it says, for the call. Where the length is 0 it may be any pointer, NULL too:
+ *    an empty text. What a call writes overlaps nothing else that it is handed, and two handles of one call are two.
  *    (One handle given twice is refused as it turns out: 110 as two stores, 114 as a store and a text.)
  *  - the fields of a handle are the library's. A handle may be moved; where a copy is made, one of the two is used no more, and closed
  *    no more: an open handle is closed once. One that is let go open, or overwritten, leaks.
- *  - one call at a time has a handle. It stays on its thread, or is handed over by what orders the threads, as a lock or a join does.
+ *  - one call at a time has a handle: nothing behind it has a lock. It stays on its thread, or is handed over by what orders the threads,
+ *    as a lock or a join does.
+ *  - a handle that was opened before fork is used no more in the child, and not closed there. Nothing refuses it: parent and child would
+ *    sign two statements by one leaf of a key, and whoever sees both can sign as the node.
  *  - malloc, realloc and free are one allocator, aligned to 16.
  *  - entropy is 32 random bytes, fresh for each call that signs. A seed signs in one process at a time, once: a node's key that has
  *    signed begins no second node (docs/DEPLOYING.md).
@@ -32,8 +35,8 @@ extern "C" {
 
 /* the programs that nodes follow */
 enum { BULWYNEF_TALLY = 1, BULWYNEF_RELAY = 2, BULWYNEF_MAILBOX = 3 };
-/* what a store says of a node */
-enum { BULWYNEF_TRUSTED = 0, BULWYNEF_SUSPECTED = 1, BULWYNEF_EXPOSED = 2 };
+/* what a store says of a node; 0 is none of these, so that a place which no call wrote to says nothing */
+enum { BULWYNEF_TRUSTED = 1, BULWYNEF_SUSPECTED = 2, BULWYNEF_EXPOSED = 3 };
 /* RFC 8554: the types of trees and of one-time signatures. A key of H5 signs 32 statements, one of H10 1,024. */
 enum { BULWYNEF_H5 = 5, BULWYNEF_H10 = 6 };
 enum { BULWYNEF_W1 = 1, BULWYNEF_W2 = 2, BULWYNEF_W4 = 3, BULWYNEF_W8 = 4 };
@@ -51,8 +54,9 @@ struct bulwynef_handle { void *at; bool is_open; };
 uint8_t bulwynef_check_proof(uint8_t program, const uint8_t *directory, size_t directory_len, const uint8_t *proof, size_t proof_len,
                              uint32_t *node);
 
-/* Whom a proof convicts, and why, for a person to read: a line for the whole, the line `NODE exposed`, and sentences, each in a line behind
-   two blanks. 114 the handle is open; else refused as bulwynef_check_proof refuses. */
+/* Whom a proof convicts, and why, for a person to read. Under what the verdict is given stands first: the lines `program tally` (relay,
+   mailbox) and `directory SUM`, the SHA-256 of the directory's text in 64 digits. Then a line for the whole, the line `NODE exposed`, and
+   sentences, each in a line behind two blanks. 114 the handle is open; else refused as bulwynef_check_proof refuses. */
 uint8_t bulwynef_explain_proof(uint8_t program, const uint8_t *directory, size_t directory_len, const uint8_t *proof, size_t proof_len,
                                struct bulwynef_handle *text);
 
@@ -63,6 +67,33 @@ uint8_t bulwynef_explain_proof(uint8_t program, const uint8_t *directory, size_t
        uint8_t refused = bulwynef_public_key(BULWYNEF_H10, BULWYNEF_W8, key_id, 16, seed, 32, key, sizeof key); */
 uint8_t bulwynef_public_key(uint32_t lms_type, uint32_t ots_type, const uint8_t *key_id, size_t key_id_len, const uint8_t *seed,
                             size_t seed_len, uint8_t *key, size_t key_len);
+
+/* ---- items that are made of others. Nothing is verified here: a store verifies what it takes (bulwynef_store_take).
+
+       bulwynef_statement_of(message, message_len, 0, &text);               what its sender signed
+       bulwynef_audit_challenge(NULL, 0, statement, statement_len, &text);  whose log up to there is then demanded
+       bulwynef_store_take(&store, audit, audit_len, &is_new);              and it is suspected until its segment comes */
+
+/* The statement at a place, from 0, of those that an item has signatures of, as an item of tag 1: of a statement (tag 1) that one; of a
+   segment (2) that of its last entry; of an audit (3) those that it names, the earlier one first; of a message (4) its sender's; of an
+   acknowledgement (5) that, and behind it its receiver's. 114 the handle is open; 40 to 43 of the item's text; 116 there are fewer.
+
+       if (bulwynef_statement_of(ack, ack_len, 1, &text) == 0) { note_what_the_receiver_signed(&text); bulwynef_close(&text); } */
+uint8_t bulwynef_statement_of(const uint8_t *item, size_t item_len, size_t place, struct bulwynef_handle *text);
+
+/* The demand for the log of a node up to the entry of its statement `last`, as an item of tag 3: from the entry of its statement `first` or,
+   where that is empty, from the log's beginning. Both are items of tag 1. 114 the handle is open; 40 to 43 of `first`, where it is not
+   empty, 41 also of another item; the same of `last`; 48 the two are of two nodes, or the number of `first` is not below that of `last`.
+
+       if (bulwynef_audit_challenge(first, first_len, last, last_len, &text) == 0) { ask_the_node(&text); bulwynef_close(&text); } */
+uint8_t bulwynef_audit_challenge(const uint8_t *first, size_t first_len, const uint8_t *last, size_t last_len,
+                                 struct bulwynef_handle *text);
+
+/* The demand to acknowledge the message of an item, a message (tag 4) or an acknowledgement (5), as an item of tag 4. 114 the handle is
+   open; 40 to 43 of the item's text, 41 also of another item.
+
+       if (bulwynef_send_challenge(ack, ack_len, &text) == 0) { ask_again(&text); bulwynef_close(&text); } */
+uint8_t bulwynef_send_challenge(const uint8_t *message, size_t message_len, struct bulwynef_handle *text);
 
 /* ---- stores of evidence */
 
@@ -99,7 +130,7 @@ uint8_t bulwynef_store_includes(struct bulwynef_handle *store, struct bulwynef_h
        if (bulwynef_store_indication(&store, node, &said) == 0 && said == BULWYNEF_EXPOSED) hand_on_a_proof(node); */
 uint8_t bulwynef_store_indication(struct bulwynef_handle *store, uint32_t node, uint8_t *indication);
 
-/* A proof that convicts the node. 44 it is not listed, 115 the items do not expose it.
+/* A proof that convicts the node. Refused, in this order: 44 it is not listed; 115 the items do not expose it.
 
        struct bulwynef_handle text = {0};
        if (bulwynef_store_proof(&store, node, &text) == 0) {
@@ -111,7 +142,7 @@ uint8_t bulwynef_store_indication(struct bulwynef_handle *store, uint32_t node, 
 uint8_t bulwynef_store_proof(struct bulwynef_handle *store, uint32_t node, struct bulwynef_handle *text);
 
 /* The challenge at a place, from 0, of those against a node that no item answers, in the order of their bytes: an item of tag 3 or 4, which
-   goes to the node (bulwynef_node_answer), and whose answer is taken. 44 it is not listed, 116 there are fewer.
+   goes to the node (bulwynef_node_answer), and whose answer is taken. Refused, in this order: 44 it is not listed; 116 there are fewer.
 
        for (size_t place = 0; bulwynef_store_challenge(&store, node, place, &text) == 0; place++) {
            ask_the_node(&text);
@@ -119,8 +150,10 @@ uint8_t bulwynef_store_proof(struct bulwynef_handle *store, uint32_t node, struc
        } */
 uint8_t bulwynef_store_challenge(struct bulwynef_handle *store, uint32_t node, size_t place, struct bulwynef_handle *text);
 
-/* What the items say of each listed node, in ascending order, and why, for a person to read: a line for the whole, and of each node the
-   line `NODE trusted`, `NODE suspected` or `NODE exposed` and sentences, each in a line behind two blanks.
+/* What the items say of each listed node, in ascending order, and why, for a person to read. Under what the verdict is given stands first:
+   the lines `program tally` (relay, mailbox) and `directory SUM`, the SHA-256 of the text by which the store was opened, in 64 digits. Then
+   a line for the whole, and of each node the line `NODE trusted`, `NODE suspected` or `NODE exposed`, with ` (no item)` at its end where no
+   item is of the node, and sentences, each in a line behind two blanks.
 
        if (bulwynef_store_explain(&store, &text) == 0) { print(&text); bulwynef_close(&text); } */
 uint8_t bulwynef_store_explain(struct bulwynef_handle *store, struct bulwynef_handle *text);
@@ -180,9 +213,9 @@ uint8_t bulwynef_node_waiting(struct bulwynef_handle *node, size_t place, uint64
 uint8_t bulwynef_node_message(struct bulwynef_handle *node, uint64_t seq, struct bulwynef_handle *text);
 
 /* Answers an item of tag 4, a message: it is received, and its acknowledgement is an item of tag 5; or of tag 3, an audit, by a segment,
-   an item of tag 2. What was answered before is answered as it was. 117 the entropy is not 32 bytes; 40 to 49 of the item; 72 it is no
-   challenge, 70 it is another node's, 71 it names what is not in the log; 36, 37. Where the answer is 99 the node may have received the
-   message: the same call again answers it.
+   an item of tag 2. What was answered before is answered as it was. Refused, in this order: 114 the text's handle is open; 117 the entropy
+   is not 32 bytes; 40 to 49 of the item; 72 it is no challenge, 70 it is another node's, 71 it names what is not in the log; 36, 37. Where
+   the answer is 99 the node is as it was, or has answered: the same call again answers it.
 
        uint8_t refused = bulwynef_node_answer(&node, item, item_len, entropy, 32, &text);
        if (refused == 99) refused = bulwynef_node_answer(&node, item, item_len, entropy, 32, &text);
@@ -196,8 +229,11 @@ uint8_t bulwynef_node_answer(struct bulwynef_handle *node, const uint8_t *challe
        if (bulwynef_node_history(&node, &text) == 0) { look_at(&text); bulwynef_close(&text); } */
 uint8_t bulwynef_node_history(struct bulwynef_handle *node, struct bulwynef_handle *text);
 
-/* Accepts an acknowledgement, an item of tag 5: its message waits no longer. 40 to 43, 41 also of another item; 38 it is of no message
-   that was sent, or not valid for it. */
+/* Accepts an acknowledgement, an item of tag 5: its message waits no longer. It is evidence of the receipt: a store of the same directory
+   takes it (bulwynef_store_take), and the message in it is, byte by byte, one that the node sent. 40 to 43, 41 also of another item; 38 of
+   any other acknowledgement.
+
+       if (bulwynef_node_accept_ack(&node, ack, ack_len) == 38) send_the_message_again(); */
 uint8_t bulwynef_node_accept_ack(struct bulwynef_handle *node, const uint8_t *ack, size_t ack_len);
 
 /* Logs a checkpoint, from which an audit can begin, and tells its number. 37.

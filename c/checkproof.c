@@ -1,10 +1,12 @@
 /* checkproof: whom a proof convicts, over libbulwynef.a, as one file that wants no library of the system.
  *
- *   checkproof [--program tally|relay|mailbox] DIRECTORY PROOF
+ *   checkproof --program tally|relay|mailbox DIRECTORY PROOF
  *
- * A file has bytes, or one line of hexadecimal digits: told apart by its first eight bytes. It writes `exposes ID`, and ends with 0; with 1
- * after `refused NUMBER NAME` on standard error; with 2 where the words are others than these. The check itself is proved; the reading of
- * words, files and digits, in this file, is not.
+ * A file has bytes, or one line of hexadecimal digits: told apart by its first eight bytes. It writes three lines, `exposes ID`, `program
+ * NAME` and `directory SUM`, the SHA-256 of the directory's bytes, and ends with 0; with 1 after `refused NUMBER NAME` on standard error;
+ * with 2 where the words are others than these. No program is taken where none is named: a proof against a node that was to follow one
+ * shows nothing of a node that was to follow another. The check itself is proved; the reading of words, files and digits, in this file, is
+ * not.
  */
 #include "bulwynef.h"
 #include "refusals.h"
@@ -88,40 +90,66 @@ static unsigned text_of(const char *path, struct text *text) {
     return fault == 0 && is_line(text) ? decode(text) : fault;
 }
 
-static int told(uint32_t node) {
-    if (printf("exposes %u\n", (unsigned)node) < 0 || fflush(stdout) != 0) return refused(WRITE_FAILED, "");
+struct program { const char *word; uint8_t number; };
+static const struct program programs[] = {{"tally", BULWYNEF_TALLY}, {"relay", BULWYNEF_RELAY}, {"mailbox", BULWYNEF_MAILBOX}};
+
+enum { SUM_DIGITS = 64 };
+
+/* Puts the digits of the directory's sum there, which the library's explanation has; or tells why not. */
+static unsigned sum_of(uint8_t program, const struct text texts[2], char sum[SUM_DIGITS + 1]) {
+    static const char before[] = "\ndirectory ";
+    struct bulwynef_handle handle = {0};
+    unsigned fault = bulwynef_explain_proof(program, texts[0].at, texts[0].len, texts[1].at, texts[1].len, &handle);
+    if (fault != 0) return fault;
+    size_t len = bulwynef_text_len(&handle), count = 0;
+    char *text = malloc(len + 1);
+    fault = text == NULL ? MEMORY : bulwynef_text_copy(&handle, (uint8_t *)text, len);
+    bulwynef_close(&handle);
+    if (fault == 0) {
+        text[len] = '\0';
+        const char *at = strstr(text, before);
+        for (at = at ? at + sizeof before - 1 : ""; *at && *at != '\n' && count < SUM_DIGITS; at++) sum[count++] = *at;
+    }
+    sum[count] = '\0';
+    free(text);
+    return fault == 0 && count != SUM_DIGITS ? MEMORY : fault;
+}
+
+static int told(uint32_t node, const char *word, const char *sum) {
+    if (printf("exposes %u\nprogram %s\ndirectory %s\n", (unsigned)node, word, sum) < 0 || fflush(stdout) != 0) return refused(WRITE_FAILED, "");
     return 0;
 }
 
-static int check(uint8_t program, const char *const paths[2], struct text texts[2]) {
+static int check(const struct program *program, const char *const paths[2], struct text texts[2]) {
     for (int i = 0; i < 2; i++) {
         unsigned fault = text_of(paths[i], &texts[i]);
         if (fault != 0) return refused(fault, paths[i]);
     }
     uint32_t node = 0;
-    unsigned fault = bulwynef_check_proof(program, texts[0].at, texts[0].len, texts[1].at, texts[1].len, &node);
-    return fault == 0 ? told(node) : refused(fault, "");
+    char sum[SUM_DIGITS + 1];
+    unsigned fault = bulwynef_check_proof(program->number, texts[0].at, texts[0].len, texts[1].at, texts[1].len, &node);
+    if (fault == 0) fault = sum_of(program->number, texts, sum);
+    return fault == 0 ? told(node, program->word, sum) : refused(fault, "");
 }
 
-static uint8_t program_of(const char *word) {
-    static const struct { const char *word; uint8_t program; } programs[] = {
-        {"tally", BULWYNEF_TALLY}, {"relay", BULWYNEF_RELAY}, {"mailbox", BULWYNEF_MAILBOX}};
+static const struct program *program_of(const char *word) {
     for (size_t i = 0; i < sizeof programs / sizeof *programs; i++)
-        if (strcmp(programs[i].word, word) == 0) return programs[i].program;
-    return 0;
+        if (strcmp(programs[i].word, word) == 0) return &programs[i];
+    return NULL;
 }
 
 int main(int count, char **words) {
-    uint8_t program = BULWYNEF_TALLY;
+    const struct program *program = NULL;
     const char *paths[2] = {NULL, NULL};
-    int found = 0, is_good = 1;
+    int found = 0, is_named = 0, is_good = 1;
     for (int i = 1; i < count; i++) {
-        if (strcmp(words[i], "--program") == 0 && i + 1 < count) is_good &= (program = program_of(words[++i])) != 0;
+        if (strcmp(words[i], "--program") == 0 && i + 1 < count && !is_named) is_named = 1, program = program_of(words[++i]);
         else if (found < 2 && words[i][0] != '-') paths[found++] = words[i];
         else is_good = 0;
     }
-    if (!is_good || found != 2) {
-        fprintf(stderr, "usage: checkproof [--program tally|relay|mailbox] DIRECTORY PROOF\n");
+    if (program == NULL) fprintf(stderr, "--program NAME says which program the nodes were to follow: tally, relay, mailbox\n");
+    if (program == NULL || !is_good || found != 2) {
+        fprintf(stderr, "usage: checkproof --program tally|relay|mailbox DIRECTORY PROOF\n");
         return 2;
     }
     struct text texts[2] = {{NULL, 0}, {NULL, 0}};

@@ -75,7 +75,7 @@ static struct bytes answer(struct bulwynef_handle *node, struct bytes message) {
 
 /* Hands the witness an item, and says what the items tell of node 2 then. */
 static void show(struct bulwynef_handle *witness, const char *what, struct bytes item) {
-    static const char *const words[] = {"trusted", "suspected", "exposed"};
+    static const char *const words[] = {"no indication", "trusted", "suspected", "exposed"};
     uint8_t is_new, indication;
     must(bulwynef_store_take(witness, item.at, item.len, &is_new));
     must(bulwynef_store_indication(witness, 2, &indication));

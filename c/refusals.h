@@ -65,6 +65,7 @@ static const struct { unsigned number; const char *name; } refusals[] = {
     {106, "BadBundle"},
     {107, "OtherLength"},
     {108, "OtherSum"},
+    {109, "UnknownProgram"},
     {110, "Closed"},
     {111, "OtherKind"},
     {112, "OtherDirectory"},

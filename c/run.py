@@ -13,6 +13,7 @@ Ends with 1 where something differs.
 """
 
 import argparse
+import hashlib
 import os
 import shutil
 import subprocess
@@ -23,15 +24,17 @@ HERE = f"{TOP}/c"
 OUT = f"{HERE}/out"
 BUILT = f"{TOP}/crates/bulwynef_c/out/libbulwynef_c.a"
 EXAMPLES = "answer equivocation exchange hidden_entry second_key silence spreading status_equivocation two_witnesses wrong_output".split()
-# What c/example.c writes, without the sentences that say why
+# What c/example.c writes, without the sentences that say why, and without the sums of what it makes anew each time
 WRITTEN = """a message to it: 2 is suspected
 its acknowledgement: 2 is trusted
 an acknowledgement by a second log: 2 is exposed
 the proof exposes 2
+program tally
 The proof exposes node 2 by two statements.
 2 exposed
 """
-SECOND = [sys.executable, f"{TOP}/second_opinion/check.py"]
+SECOND = [sys.executable, f"{TOP}/second_opinion/check.py", "--program", "tally"]
+NAMED = "--program NAME says which program the nodes were to follow: tally, relay, mailbox"
 WARNINGS = ["-Wall", "-Wextra", "-Werror"]
 # How many words each command has beside --relay
 COUNTS = {"status": 1, "merge": 1, "check": 1, "prove": 2}
@@ -56,7 +59,7 @@ def differs_in_example(name, compiler):
     program = f"{OUT}/{name}"
     subprocess.run([*compiler, *WARNINGS, "-o", program, f"{HERE}/example.c", "-x", "none", f"{OUT}/libbulwynef.a"], check=True)
     status, text, error = said([program], "")
-    lines = "".join(line for line in text.splitlines(keepends=True) if not line.startswith("  "))
+    lines = "".join(line for line in text.splitlines(keepends=True) if not line.startswith(("  ", "directory ")))
     return [] if (status, lines, error) == (0, WRITTEN, "") and lines != text else [f"{name}: {status} {text!r} {error!r}"]
 
 
@@ -72,7 +75,7 @@ def read(path):
 
 def differs_on_example(program, name):
     """What the program says of an example otherwise than the second opinion, of each node and by a proof of each that is exposed, or than is
-    stored of why."""
+    stored of why, under which program, directory and evidence."""
     text = read(f"{TOP}/examples/{name}.txt")
     if text.count("\n") > 2:
         text = text.splitlines()[0] + "\n" + said([program, "merge"], text)[1]
@@ -81,15 +84,17 @@ def differs_on_example(program, name):
     for node in [line.split()[0] for line in wanted[0].splitlines() if line.endswith(" exposed")]:
         proof = text.splitlines()[0] + "\n" + said([program, "prove", node], text)[1]
         wanted += [f"exposes {node}\n", stored(f"{name}.proof{node}")]
-        found += [said([*SECOND, "-"], proof)[1], said([program, "proof"], proof)[1]]
+        found += [said([*SECOND, "-"], proof)[1].partition("program")[0], said([program, "proof"], proof)[1]]
     wanted.append(stored(name))
     found.append(said([program, "store"], text)[1])
     return [f"{name}: {one!r} and not {other!r}" for one, other in zip(found, wanted) if one != other]
 
 
 def stored(name):
-    """What is explained, without the three lines that say of which program, directory and evidence: who calls the library has these."""
-    return "".join(read(f"{TOP}/examples/explained/{name}.txt").splitlines(keepends=True)[3:])
+    """What is explained, behind the two lines that the library writes in place of the three that say of which program, directory and evidence."""
+    directory = bytes.fromhex(read(f"{TOP}/examples/{name.split('.')[0]}.txt").splitlines()[0])
+    sentences = read(f"{TOP}/examples/explained/{name}.txt").splitlines(keepends=True)[3:]
+    return f"program tally\ndirectory {hashlib.sha256(directory).hexdigest()}\n" + "".join(sentences)
 
 
 def checkproof():
@@ -116,14 +121,18 @@ def differs_on_checkproof(test, program):
     told = []
     for name in ("wrong_output", "equivocation"):
         for files in files_of(test, name):
-            one, other = (said([*words, *files], "") for words in ([program], SECOND))
+            one, other = (said([*words, *files], "") for words in ([program, "--program", "tally"], SECOND))
             told.append((name, (one[0], one[1], one[2].split()[:2]), (other[0], other[1], other[2].split()[:2])))
     good = files_of(test, "wrong_output")[0]
-    told.append(("swapped", said([program, *good[::-1]], "")[::2], (1, "refused 23 BadMagic\n")))
-    told.append(("another program", said([program, "--program", "relay", *good], "")[0], 1))
-    told.append(("no file", said([program, good[0], f"{OUT}/none"], "")[::2], (1, f"refused 100 ReadFailed: {OUT}/none\n")))
-    told.append(("two lines", said([program, f"{TOP}/examples/wrong_output.txt", good[1]], "")[2].split()[:2], ["refused", "104"]))
-    told.append(("no words", said([program], "")[0], 2))
+    tally = [program, "--program", "tally"]
+    told.append(("swapped", said([*tally, *good[::-1]], "")[::2], (1, "refused 23 BadMagic\n")))
+    told.append(("another program", said([program, "--program", "relay", *good], "")[:2], (1, "")))
+    told.append(("no file", said([*tally, good[0], f"{OUT}/none"], "")[::2], (1, f"refused 100 ReadFailed: {OUT}/none\n")))
+    told.append(("two lines", said([*tally, f"{TOP}/examples/wrong_output.txt", good[1]], "")[2].split()[:2], ["refused", "104"]))
+    told.append(("no words", said(tally, "")[0], 2))
+    for name, words in (("no program", []), ("no such program", ["--program", "other"]), ("an empty name", ["--program", ""])):
+        status, text, error = said([program, *words, *good], "")
+        told.append((name, (status, text, error.splitlines()[:1]), (2, "", [NAMED])))
     return [f"checkproof, {name}: {one!r} and not {other!r}" for name, one, other in told if one != other]
 
 

@@ -1,9 +1,10 @@
 #!/usr/bin/env python3
 """Installs the package into a folder of its own, offline, and runs its tests, the examples of its page, and the network of
-examples/network for a short time. Wants c/out/libbulwynef.a, which c/run.py makes. What is missing of pip and pytest comes from Debian;
-where Debian can't be reached, it says so and runs nothing."""
+examples/network for a short time, twice. Wants c/out/libbulwynef.a, which c/run.py makes, or what BULWYNEF_ARCHIVE names. What is missing of
+pip and pytest it installs from Debian's packages. Ends with 1 where something fails, and where they can't be installed."""
 
 import os
+import shutil
 import subprocess
 import sys
 import tempfile
@@ -13,6 +14,7 @@ TOP = os.path.dirname(HERE)
 PYTHON = "/usr/bin/python3"
 PACKAGES = {"pip": "python3-pip", "pytest": "python3-pytest"}
 NETWORK = [f"{TOP}/examples/network/run.py", "--seconds", "12", "--mails", "48", "--w", "4"]
+FAULTS = [[], ["--faults", "drops=2,mangles=3,silent=5", "--kill"]]
 
 
 def has(module):
@@ -22,6 +24,8 @@ def has(module):
 def install_tools():
     """Whether pip and pytest are there, after what is missing was installed."""
     missing = [package for module, package in PACKAGES.items() if not has(module)]
+    if missing and not shutil.which("apt-get"):
+        return False
     for words in (["update"], ["install", "-y", "--no-install-recommends", *missing]):
         if missing and subprocess.run(["apt-get", *words], stdout=subprocess.DEVNULL).returncode:
             return False
@@ -31,10 +35,11 @@ def install_tools():
 def main():
     if not install_tools():
         print(f"python: nothing was run, since {' and '.join(PACKAGES.values())} can't be installed")
-        return 0
+        return 1
     with tempfile.TemporaryDirectory(prefix="bulwynef-python-") as folder:
         pip = ["-m", "pip", "install", "--quiet", "--no-build-isolation", "--no-index", "--root-user-action=ignore", "--target", folder, HERE]
-        runs = [pip, ["-m", "pytest", "-q", "-p", "no:cacheprovider", f"{HERE}/tests"], ["-m", "doctest", f"{HERE}/README.md"], NETWORK]
+        runs = [pip, ["-m", "pytest", "-q", "-p", "no:cacheprovider", f"{HERE}/tests"], ["-m", "doctest", f"{HERE}/README.md"]]
+        runs += [[*NETWORK, *faults] for faults in FAULTS]
         where = {**os.environ, "PYTHONPATH": folder, "PYTHONDONTWRITEBYTECODE": "1"}
         for words in runs:
             if subprocess.run([PYTHON, *words], env=where, cwd=folder).returncode:

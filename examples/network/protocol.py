@@ -1,8 +1,7 @@
-"""What the processes of the network share: frames over TCP on loopback, links that lose, repeat, reorder and delay them, and the bytes of
-items."""
+"""What the processes of the network share: frames over TCP on loopback, links that lose, repeat, reorder and delay them, and whom items are
+of and for."""
 
 import asyncio
-import hashlib
 import random
 import struct
 from collections import Counter
@@ -12,9 +11,8 @@ HOST = "127.0.0.1"
 # a summary, a report, the export, an end
 ANSWER, TAKE, CHALLENGE, OUTLINE, PACK, REPORT, EXPORT, END = b"ATCOPRXE"
 LONGEST_FRAME = 1 << 28
-SEND, RECV = 2, 3
 # the tags of items
-AUTH, SEGMENT, AUDIT, MESSAGE, ACK = 1, 2, 3, 4, 5
+SEGMENT, AUDIT, MESSAGE, ACK = 2, 3, 4, 5
 
 
 # ---- frames: a length in four bytes, a letter, and the rest
@@ -101,7 +99,7 @@ async def serve(port, handle):
     return await asyncio.start_server(talk, HOST, port)
 
 
-# ---- items (docs/FORMATS.md): only what a process picks out of them; the library judges them
+# ---- items (docs/FORMATS.md): only whom they are of and for is picked out here; the library makes them, takes them apart and judges them
 
 
 def with_length(data):
@@ -122,67 +120,20 @@ def in_turn(data):
         yield item
 
 
-def items_of(export):
-    """The items of a store's export, behind its first eight bytes and its count."""
-    return in_turn(export[16:])
-
-
-def entry_hash(prev, seq, kind, content):
-    return hashlib.sha256(prev + struct.pack(">QB", seq, kind) + hashlib.sha256(content).digest()).digest()
+def items_of(pack):
+    """The items of a pack, behind its first eight bytes and its count."""
+    return in_turn(pack[16:])
 
 
 class Message:
-    """The fields of an item of tag 4 or 5."""
+    """Of whom and for whom the message of an item of tag 4 or 5 is, its number, and its payload."""
 
     def __init__(self, item):
-        self.sender, self.receiver, self.seq = struct.unpack(">IIQ", item[1:17])
-        self.prev = item[17:49]
-        self.sig, at = field(item, 49)
-        self.payload, at = field(item, at)
-        if item[0] == ACK:
-            (self.ack_seq,) = struct.unpack(">Q", item[at : at + 8])
-            self.ack_prev = item[at + 8 : at + 40]
-            self.ack_sig, _ = field(item, at + 40)
-
-    @property
-    def name(self):
-        return self.sender, self.receiver, self.seq
-
-    def sent(self):
-        """The sender's statement: node, number, hash and signature."""
-        content = self.receiver.to_bytes(4, "big") + self.payload
-        return self.sender, self.seq, entry_hash(self.prev, self.seq, SEND, content), self.sig
-
-    def received(self):
-        """The receiver's statement, of an item of tag 5."""
-        content = struct.pack(">IQ", self.sender, self.seq) + self.prev + with_length(self.sig) + self.payload
-        return self.receiver, self.ack_seq, entry_hash(self.ack_prev, self.ack_seq, RECV, content), self.ack_sig
+        self.name = self.sender, self.receiver, self.seq = struct.unpack(">IIQ", item[1:17])
+        _, at = field(item, 49)
+        self.payload, _ = field(item, at)
 
 
-def fields_of(statement):
-    _, seq, digest, sig = statement
-    return seq.to_bytes(8, "big") + digest + with_length(sig)
-
-
-def auth_item(statement):
-    return bytes([AUTH]) + statement[0].to_bytes(4, "big") + fields_of(statement)
-
-
-def statement_of(item):
-    """The statement of an item of tag 1."""
-    node, seq = struct.unpack(">IQ", item[1:13])
-    return node, seq, item[13:45], field(item, 45)[0]
-
-
-def audit_item(first, last):
-    """The demand for a node's log from one statement of its, or from the beginning, up to another."""
-    front = bytes([AUDIT]) + last[0].to_bytes(4, "big") + bytes([first is not None])
-    return front + (fields_of(first) if first else b"") + fields_of(last)
-
-
-def last_of_audit(item):
-    """The statement up to which an item of tag 3 asks for a log."""
-    node, at = int.from_bytes(item[1:5], "big"), 6
-    if item[5]:
-        _, at = field(item, at + 40)
-    return node, int.from_bytes(item[at : at + 8], "big"), item[at + 8 : at + 40], field(item, at + 40)[0]
+def whose(statement):
+    """The node and the number of an item of tag 1."""
+    return struct.unpack(">IQ", statement[1:13])

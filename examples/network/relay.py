@@ -11,7 +11,7 @@ import sys
 import time
 
 import protocol
-from bulwynef import Key, Node, Program, Refusal
+from bulwynef import Key, Node, Program, Refusal, statement_of
 
 KEEPER = 1
 TRIES = 3
@@ -28,6 +28,13 @@ def wishes(text, to):
 
 
 FETCH = 0x80 << 56
+# Who has a second node by its key; and of these, who drops mails.
+TWOFOLD, DROPS = ("drops", "forks", "mangles"), ("drops", "mangles")
+
+
+def mangled(ack):
+    """An acknowledgement with one bit turned, in the sender's signature."""
+    return ack[:80] + bytes([ack[80] ^ 1]) + ack[81:]
 
 
 class Relay:
@@ -39,7 +46,7 @@ class Relay:
         # Who modifies mails runs another program. Who drops them, or tells two histories, has a second node by its key.
         program = Program.RELAY if self.fault == "modifies" else Program.MAILBOX
         self.node = Node(listed, self.me, self.keys.pop(0), program)
-        self.other = Node(listed, self.me, Key(*self.first_key()), program) if self.fault in ("drops", "forks") else None
+        self.other = Node(listed, self.me, Key(*self.first_key()), program) if self.fault in TWOFOLD else None
         self.link = protocol.Link(told)
         self.random = random.Random(told["seed_of_link"] + 1)
         self.mails = self.mail_bytes = self.signatures = self.steps = self.refused = 0
@@ -89,8 +96,8 @@ class Relay:
             self.sides[message.name] = node
             self.signatures += 1
             self.step()
-        self.note(message.sent())
-        return ack
+        self.note(statement_of(item))
+        return mangled(ack) if self.fault == "mangles" and node is self.other else ack
 
     def side(self, message):
         """The node that answers. Who drops mails acknowledges them by the other one, whose log nobody is shown; who tells two histories
@@ -99,7 +106,7 @@ class Relay:
             return self.sides.get(message.name, self.node)
         is_mail = message.payload[:1] in (b"D", b"M")
         is_odd = len(self.sides) % 2 == 1
-        wrong = (is_mail if self.fault == "drops" else is_odd) and self.errs()
+        wrong = (is_mail if self.fault in DROPS else is_odd) and self.errs()
         return self.other if wrong else self.node
 
     def report(self):
@@ -121,7 +128,7 @@ class Relay:
 
     def note(self, statement):
         """Keeps a statement that is to go to a witness."""
-        self.statements[protocol.auth_item(statement)] = True
+        self.statements[statement] = True
 
     def wish(self):
         """Ticks the timer for one mail to another node, or for what the keeper holds."""
@@ -164,7 +171,7 @@ class Relay:
             return
         try:
             self.node.accept_ack(ack)
-            self.note(protocol.Message(ack).received())
+            self.note(statement_of(ack, 1))
         except Refusal:
             self.refused += 1
 

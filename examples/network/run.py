@@ -4,13 +4,14 @@
     run.py [--seconds N] [--faults drops=2,modifies=3,forks=4,silent=5] [--epochs N] [--kill] [--keep FOLDER]
            [--lose P] [--repeat P] [--reorder P] [--delay S] [--seed N] [--mails N] [--w 4]
 
-Faults: `drops` acknowledges mails and goes on as if they had not come, `modifies` sends something else on, `forks` tells two histories,
-and `silent` answers nothing from a third of the time on, though it goes on to send; `--faults ""` has none. Each epoch has a directory and
-fresh nodes of its own; with --kill a witness is killed in the midst of each and started again. At the end of each epoch both witnesses must
-export the same bytes; each faulty relay must be exposed, or suspected where it is silent, and each other one trusted; and each proof must
-convince processes that have the directory and the proof alone: the library, second_opinion/check.py and, where it is built, `bulwynef
-check`. Ends with 1 where that is not so. --keep leaves of each epoch the directory and the export as `mailbox_sim status` reads them,
-what is explained of them and, where bulwynef is built, its page. Needs the package of python/ (BULWYNEF_LIBRARY may name the shared library).
+Faults: `drops` acknowledges mails and goes on as if they had not come, `mangles` does so with a bit turned in each such acknowledgement,
+`modifies` sends something else on, `forks` tells two histories, and `silent` answers nothing from a third of the time on, though it goes on
+to send; `--faults ""` has none. Each epoch has a directory and fresh nodes of its own; with --kill a witness is killed in the midst of each
+and started again, and must have all then that it told before. At the end of each epoch both witnesses must export the same bytes; each
+faulty relay must be exposed, or suspected where it mangles or is silent, and each other one trusted; and each proof must convince
+processes that have the directory and the proof alone: the library, second_opinion/check.py and, where it is built, `bulwynef check`. Ends
+with 1 where that is not so. --keep leaves of each epoch the directory and the export as `mailbox_sim status` reads them, what is explained
+of them and, where bulwynef is built, its page. Needs the package of python/ (BULWYNEF_LIBRARY may name the shared library).
 """
 
 import argparse
@@ -39,14 +40,14 @@ from bulwynef import Key, Program, Store, directory
 
 RELAYS, WITNESSES, KEEPER = range(1, 6), 2, 1
 MOST_SECONDS = 1800
-WANTED = {"drops": "exposed", "modifies": "exposed", "forks": "exposed", "silent": "suspected"}
+WANTED = {"drops": "exposed", "mangles": "suspected", "modifies": "exposed", "forks": "exposed", "silent": "suspected"}
 H10, TYPES_OF_W = 6, {1: 1, 2: 2, 4: 3, 8: 4}
 # The keeper signs some four times for a mail, and a key of H10 signs 1,024 times.
 KEYS = {KEEPER: 4}
 CHECK = """
 import sys
 from bulwynef import Program, check_proof
-listed, proof = map(bytes.fromhex, open(sys.argv[1]).read().split())
+listed, proof = (bytes.fromhex(open(path).read()) for path in sys.argv[1:])
 print("exposes", check_proof(listed, proof, Program.MAILBOX))
 """
 BULWYNEF = os.path.join(TOP, "crates", "bulwynef", "out", "bulwynef")
@@ -87,11 +88,11 @@ async def said_by(words):
     return said.decode().strip()
 
 
-def checkers(path):
-    """The commands that tell whom a proof convicts; the file has the directory and the proof, each in a line of digits."""
+def checkers(listed, proof):
+    """The commands that tell whom a proof convicts; the files have the directory and the proof, each in a line of digits."""
     second = os.path.join(TOP, "second_opinion", "check.py")
-    found = [[sys.executable, "-c", CHECK, path], [sys.executable, second, "--program", "mailbox", path]]
-    return found + [[BULWYNEF, "check", "--program", "mailbox", "--directory", path, path]] * os.path.exists(BULWYNEF)
+    found = [[sys.executable, "-c", CHECK, listed, proof], [sys.executable, second, "--program", "mailbox", listed, proof]]
+    return found + [[BULWYNEF, "check", "--program", "mailbox", "--directory", listed, proof]] * os.path.exists(BULWYNEF)
 
 
 class Epoch:
@@ -126,13 +127,17 @@ class Epoch:
         self.witnesses[which] = await started("witness.py", self.told(10 + which) | told)
 
     async def kill_one(self):
-        """A witness dies, and is started again: it takes its export up where it wrote it down last."""
-        process = self.witnesses[0]
+        """A witness dies right behind its answer, and is started again: it has all that it answered by."""
+        process, port = self.witnesses[0], self.witness_ports[0]
+        before = await self.report(port)
         process.send_signal(signal.SIGKILL)
         await process.wait()
         await asyncio.sleep(1)
         await self.start_witness(0)
+        after = await self.report(port)
         print(f"epoch {self.number}: a witness was killed and started again", flush=True)
+        if not before or not after or after["taken"] < before["taken"] or set(before["proofs"]) - set(after["proofs"]):
+            self.wrong.append("a witness that was killed has lost what it told")
 
     async def end(self):
         for port in [*self.relay_ports.values(), *self.witness_ports]:
@@ -193,14 +198,15 @@ class Epoch:
             return ["a witness does not answer"]
         wrong = [] if exports[0] == exports[1] else ["the witnesses export other bytes"]
         proofs = {(node, proof) for report in reports for node, proof in report["proofs"].items()}
-        path = os.path.join(self.folder, f"epoch{self.number}.proof")
+        files = [os.path.join(self.folder, f"epoch{self.number}.{kind}") for kind in ("directory", "proof")]
         for node, proof in proofs:
-            with open(path, "w", encoding="ascii") as file:
-                file.write(f"{self.listed.hex()}\n{proof}\n")
-            said = [await said_by(words) for words in checkers(path)]
+            for path, digits in zip(files, (self.listed.hex(), proof)):
+                with open(path, "w", encoding="ascii") as file:
+                    file.write(digits + "\n")
+            said = [await said_by(words) for words in checkers(*files)]
             wrong += [f"the proof against {node} does not convince: {said}"] * any(it.split("\n")[0] != f"exposes {node}" for it in said)
-        print(f"epoch {self.number}: {len(proofs)} proofs were checked by {len(checkers(path))} other processes each", flush=True)
-        return [each for report in reports for each in self.differs(report)] + wrong
+        print(f"epoch {self.number}: {len(proofs)} proofs were checked by {len(checkers(*files))} other processes each", flush=True)
+        return [each for report in reports for each in self.differs(report)] + wrong + self.wrong
 
     def sum_up(self, reports, relays):
         """What went over the network, and when faults were exposed."""

@@ -1,8 +1,8 @@
 """A witness: a store of evidence in a process of its own.
 
 It takes the statements that relays hand it, challenges relays in turns to show their logs, hands challenges that nothing answers to their
-relays, and exchanges what it has with the other witness by outlines, summaries and packs. What it has it writes down now and then, and
-takes up again where it is started anew.
+relays, and exchanges what it has with the other witness by outlines, summaries and packs. What it takes is on disk before it answers anybody,
+so one that was killed takes up again all that it told.
 """
 
 import asyncio
@@ -12,10 +12,40 @@ import sys
 import time
 
 import protocol
-from bulwynef import Indication, Program, Refusal, Store
+from bulwynef import Indication, Program, Refusal, Store, audit_challenge, statements_of
 
 # How many open challenges of a relay are handed to it in a turn
 AT_ONCE = 6
+
+
+class Kept:
+    """A file of items, each behind its length. What its writer had begun to write when it died is cut off: nobody was answered by it."""
+
+    def __init__(self, path):
+        self.file, self.is_behind = open(path, "ab+"), True
+        folder = os.open(os.path.dirname(os.path.abspath(path)), os.O_RDONLY)
+        os.fsync(folder)
+        os.close(folder)
+
+    def whole(self):
+        """The items that are there, before others are added."""
+        self.file.seek(0)
+        data, end = self.file.read(), 0
+        while end + 4 <= len(data) and protocol.field(data, end)[1] <= len(data):
+            end = protocol.field(data, end)[1]
+        self.file.truncate(end)
+        return protocol.in_turn(data[:end])
+
+    def add(self, item):
+        self.file.write(protocol.with_length(item))
+        self.is_behind = True
+
+    def sync(self):
+        """Returns once all is on disk that was added."""
+        if self.is_behind:
+            self.file.flush()
+            os.fsync(self.file.fileno())
+            self.is_behind = False
 
 
 class Witness:
@@ -24,25 +54,32 @@ class Witness:
         self.ports = {int(node): port for node, port in told["ports"].items()}
         self.store = Store(bytes.fromhex(told["directory"]), Program.MAILBOX)
         self.link = protocol.Link(told)
-        # of each relay: the latest statement that was seen, the one up to which its log is here, and when it was first exposed
+        # of each relay: the number and the latest statement that was seen, those up to which its log is here, and when it was exposed
         self.latest, self.shown, self.exposed_at = {}, {}, {}
         # by a message's name, its acknowledgement
         self.acks, self.asked_last, self.taken, self.refused = {}, set(), 0, 0
         self.began, self.is_over, self.turns = time.monotonic(), False, 0
-        if os.path.exists(told["kept"]):
-            self.take_up(told["kept"])
+        self.kept = Kept(told["kept"])
+        for item in self.kept.whole():
+            self.take_up(item)
 
-    def take_up(self, path):
-        """Takes up what it wrote down before it died."""
-        with open(path, "rb") as kept:
-            export = kept.read()
-        self.taken = self.store.load(export)
-        for item in protocol.items_of(export):
+    def take_up(self, item):
+        """Takes an item that was kept."""
+        try:
+            self.taken += self.store.take(item)
             self.notice(item)
+        except Refusal:
+            self.refused += 1
 
     # ---- what others ask
 
     def handle(self, kind, body):
+        """The answer, once all that it may come from is on disk."""
+        answer = self.answer(kind, body)
+        self.kept.sync()
+        return answer
+
+    def answer(self, kind, body):
         try:
             if kind == protocol.TAKE:
                 return self.take_all(body)
@@ -74,23 +111,18 @@ class Witness:
 
     def take(self, item):
         """Takes an item, and keeps in mind what it tells."""
-        self.taken += self.store.take(item)
+        if self.store.take(item):
+            self.taken += 1
+            self.kept.add(item)
         self.notice(item)
 
     def notice(self, item):
-        if item[0] == protocol.AUTH:
-            self.see(protocol.statement_of(item))
-        elif item[0] == protocol.MESSAGE:
-            self.see(protocol.Message(item).sent())
-        elif item[0] == protocol.ACK:
-            message = protocol.Message(item)
-            self.acks[message.name] = item
-            self.see(message.received())
-
-    def see(self, statement):
-        node, seq = statement[:2]
-        if node in self.ports and seq > self.latest.get(node, (0, 0))[1]:
-            self.latest[node] = statement
+        for statement in statements_of(item):
+            node, seq = protocol.whose(statement)
+            if node in self.ports and seq > self.latest.get(node, (0, b""))[0]:
+                self.latest[node] = seq, statement
+        if item[0] == protocol.ACK:
+            self.acks[protocol.Message(item).name] = item
 
     def report(self):
         said = {node: self.store.indication(node).name.lower() for node in self.ports}
@@ -106,8 +138,8 @@ class Witness:
         last, first = self.latest.get(node), self.shown.get(node)
         if self.store.challenges(node):
             return False
-        if last and (first is None or first[1] < last[1]):
-            self.store.take(protocol.audit_item(first, last))
+        if last and (first is None or first[0] < last[0]):
+            self.take(audit_challenge(last[1], first[1] if first else None))
         return True
 
     async def settle(self, node):
@@ -119,7 +151,8 @@ class Witness:
             try:
                 self.take(answer)
                 if challenge[0] == protocol.AUDIT and answer[0] == protocol.SEGMENT:
-                    self.shown[node] = protocol.last_of_audit(challenge)
+                    last = statements_of(challenge)[-1]
+                    self.shown[node] = protocol.whose(last)[1], last
             except Refusal:
                 self.refused += 1
 
@@ -131,6 +164,8 @@ class Witness:
             if pack:
                 try:
                     self.taken += self.store.apply(pack)
+                    for item in protocol.items_of(pack):
+                        self.kept.add(item)
                 except Refusal:
                     self.refused += 1
 
@@ -138,14 +173,6 @@ class Witness:
         for node in self.ports:
             if node not in self.exposed_at and self.store.indication(node) is Indication.EXPOSED:
                 self.exposed_at[node] = time.time()
-
-    def keep(self):
-        """Writes the export down, whole or not at all."""
-        with open(self.told["kept"] + ".new", "wb") as kept:
-            kept.write(self.store.export())
-            kept.flush()
-            os.fsync(kept.fileno())
-        os.replace(self.told["kept"] + ".new", self.told["kept"])
 
     def audit_in_turn(self):
         """Audits one relay after the other; and each once more when the time is over."""
@@ -163,10 +190,7 @@ class Witness:
             if self.turns % 4 == 0:
                 await self.exchange()
             self.note()
-            if self.turns % 16 == 0:
-                self.keep()
             await asyncio.sleep(0.25)
-        self.keep()
 
 
 async def main():

@@ -33,7 +33,7 @@ SENTENCES: Dict[int, Tuple[str, str]] = {
     45: ("SelfMessage", "A message is from a node to itself."),
     46: ("EmptySegment", "A segment has no entry."),
     47: ("BadStart", "A segment begins neither with a log's first entry nor with a CHECKPOINT."),
-    48: ("BadRange", "The range of an audit challenge is empty."),
+    48: ("BadRange", "The range of an audit challenge is empty, or is of two nodes."),
     49: ("BadSignature", "A signature of an item is not valid."),
     50: ("NoContradiction", "The parts of a proof do not contradict each other, or are of two nodes."),
     51: ("Conforms", "The segment that a proof presents conforms."),

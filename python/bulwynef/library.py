@@ -1,15 +1,20 @@
 """The C interface, by ctypes."""
 
+import contextlib
 import ctypes
 import enum
+import itertools
+import operator
 import os
-from typing import Any, TypeVar
+import threading
+from typing import Any, Iterator, List, NamedTuple, Tuple, TypeVar
 
 from .errors import Refusal
 
 Self = TypeVar("Self", bound="Opened")
 
 U8, U32, U64, SIZE = ctypes.c_uint8, ctypes.c_uint32, ctypes.c_uint64, ctypes.c_size_t
+OUT_OF_RANGE = 116
 
 
 class Program(enum.IntEnum):
@@ -24,40 +29,64 @@ class Handle(ctypes.Structure):
     _fields_ = [("at", ctypes.c_void_p), ("is_open", ctypes.c_bool)]
 
 
+class Number(NamedTuple):
+    """A number that a call takes: ctypes would cut it down to the bits of its type, so it is tested before."""
+
+    name: str
+    kind: Any
+
+    @property
+    def bits(self) -> int:
+        return 8 * ctypes.sizeof(self.kind)
+
+    def tested(self, word: Any) -> int:
+        """The number, if the type has it."""
+        number = operator.index(word)
+        if not 0 <= number < 2**self.bits:
+            raise ValueError(f"{self.name} {number} is not from 0 to {2**self.bits - 1}")
+        return number
+
+
 HANDLE, BYTES = ctypes.POINTER(Handle), ctypes.c_char_p
-KEY = [U32, U32, BYTES, SIZE, BYTES, SIZE]
+PROGRAM, NODE, SEQ, PLACE = Number("program", U8), Number("node", U32), Number("number", U64), Number("place", SIZE)
+TEXT = [BYTES, Number("length", SIZE)]
+KEY = [Number("LMS type", U32), Number("LM-OTS type", U32), *TEXT, *TEXT]
+ROOM = [ctypes.POINTER(ctypes.c_char), Number("length", SIZE)]
 
 # What each call takes; each but two answers the number of a refusal, or 0.
 CALLS = {
-    "check_proof": [U8, BYTES, SIZE, BYTES, SIZE, ctypes.POINTER(U32)],
-    "explain_proof": [U8, BYTES, SIZE, BYTES, SIZE, HANDLE],
-    "public_key": [*KEY, ctypes.POINTER(ctypes.c_char), SIZE],
-    "store_open": [U8, BYTES, SIZE, HANDLE],
-    "store_take": [HANDLE, BYTES, SIZE, ctypes.POINTER(U8)],
-    "store_import": [HANDLE, BYTES, SIZE, ctypes.POINTER(U64)],
+    "check_proof": [PROGRAM, *TEXT, *TEXT, ctypes.POINTER(U32)],
+    "explain_proof": [PROGRAM, *TEXT, *TEXT, HANDLE],
+    "statement_of": [*TEXT, PLACE, HANDLE],
+    "audit_challenge": [*TEXT, *TEXT, HANDLE],
+    "send_challenge": [*TEXT, HANDLE],
+    "public_key": [*KEY, *ROOM],
+    "store_open": [PROGRAM, *TEXT, HANDLE],
+    "store_take": [HANDLE, *TEXT, ctypes.POINTER(U8)],
+    "store_import": [HANDLE, *TEXT, ctypes.POINTER(U64)],
     "store_merge": [HANDLE, HANDLE, ctypes.POINTER(U64)],
     "store_includes": [HANDLE, HANDLE, ctypes.POINTER(U8)],
-    "store_indication": [HANDLE, U32, ctypes.POINTER(U8)],
-    "store_proof": [HANDLE, U32, HANDLE],
-    "store_challenge": [HANDLE, U32, SIZE, HANDLE],
+    "store_indication": [HANDLE, NODE, ctypes.POINTER(U8)],
+    "store_proof": [HANDLE, NODE, HANDLE],
+    "store_challenge": [HANDLE, NODE, PLACE, HANDLE],
     "store_explain": [HANDLE, HANDLE],
     "store_export": [HANDLE, HANDLE],
     "store_outline": [HANDLE, HANDLE],
     "store_summary": [HANDLE, HANDLE],
-    "store_short_summary": [HANDLE, BYTES, SIZE, HANDLE],
-    "store_pack": [HANDLE, BYTES, SIZE, HANDLE],
-    "store_apply": [HANDLE, BYTES, SIZE, ctypes.POINTER(U64)],
-    "node_new": [U8, BYTES, SIZE, U32, U64, *KEY, HANDLE],
-    "node_timer": [HANDLE, U64, BYTES, SIZE],
-    "node_waiting": [HANDLE, SIZE, ctypes.POINTER(U64)],
-    "node_message": [HANDLE, U64, HANDLE],
-    "node_answer": [HANDLE, BYTES, SIZE, BYTES, SIZE, HANDLE],
+    "store_short_summary": [HANDLE, *TEXT, HANDLE],
+    "store_pack": [HANDLE, *TEXT, HANDLE],
+    "store_apply": [HANDLE, *TEXT, ctypes.POINTER(U64)],
+    "node_new": [PROGRAM, *TEXT, NODE, Number("first number", U64), *KEY, HANDLE],
+    "node_timer": [HANDLE, Number("moment", U64), *TEXT],
+    "node_waiting": [HANDLE, PLACE, ctypes.POINTER(U64)],
+    "node_message": [HANDLE, SEQ, HANDLE],
+    "node_answer": [HANDLE, *TEXT, *TEXT, HANDLE],
     "node_history": [HANDLE, HANDLE],
-    "node_accept_ack": [HANDLE, BYTES, SIZE],
+    "node_accept_ack": [HANDLE, *TEXT],
     "node_checkpoint": [HANDLE, ctypes.POINTER(U64)],
     "node_remaining": [HANDLE, ctypes.POINTER(U32)],
     "node_next_key": [HANDLE, *KEY],
-    "text_copy": [HANDLE, ctypes.POINTER(ctypes.c_char), SIZE],
+    "text_copy": [HANDLE, *ROOM],
 }
 
 
@@ -70,7 +99,7 @@ def load() -> ctypes.CDLL:
         raise ImportError(f"{error} (python/README.md says how it is built; BULWYNEF_LIBRARY may name it)") from None
     for name, takes in CALLS.items():
         call = getattr(library, "bulwynef_" + name)
-        call.argtypes, call.restype = takes, U8
+        call.argtypes, call.restype = [it.kind if isinstance(it, Number) else it for it in takes], U8
     library.bulwynef_text_len.argtypes, library.bulwynef_text_len.restype = [HANDLE], SIZE
     library.bulwynef_close.argtypes, library.bulwynef_close.restype = [HANDLE], None
     return library
@@ -80,8 +109,12 @@ LIBRARY = load()
 
 
 def call(name: str, *words: Any) -> None:
-    """Calls the library; what is refused is raised."""
-    number = getattr(LIBRARY, "bulwynef_" + name)(*words)
+    """Calls the library with numbers that were tested; what is refused is raised."""
+    takes = CALLS[name]
+    if len(words) != len(takes):
+        raise TypeError(f"{name} takes {len(takes)} words and not {len(words)}")
+    tested = [it.tested(word) if isinstance(it, Number) else word for it, word in zip(takes, words)]
+    number = getattr(LIBRARY, "bulwynef_" + name)(*tested)
     if number:
         raise Refusal(number)
 
@@ -106,19 +139,77 @@ def text(name: str, *words: Any) -> bytes:
         LIBRARY.bulwynef_close(ctypes.byref(handle))
 
 
+def each(at: Any) -> List[Any]:
+    """What a call gives at each place, from 0 to the first at which there is nothing."""
+    found: List[Any] = []
+    while True:
+        try:
+            found.append(at(len(found)))
+        except Refusal as refusal:
+            if refusal.number != OUT_OF_RANGE:
+                raise
+            return found
+
+
+class Process:
+    """How often this process and those that it was forked off were forked off."""
+
+    forks = 0
+
+    @classmethod
+    def has_forked(cls) -> None:
+        cls.forks += 1
+
+    @classmethod
+    def name(cls) -> Tuple[int, int]:
+        """This process and none before it; the system's number alone may come again."""
+        return os.getpid(), cls.forks
+
+
+os.register_at_fork(after_in_child=Process.has_forked)
+
+
 class Opened:
-    """What lies behind a handle: a context manager that closes it. Use it from one thread at a time."""
+    """What lies behind a handle: a context manager that closes it.
+
+    Threads may share it: it has a lock, and one call at a time. A child that was forked off may not: a call there is a RuntimeError, as
+    parent and child would sign by one leaf of a key."""
+
+    _opened = itertools.count()
 
     def __init__(self) -> None:
-        self._handle = Handle()
+        self._handle, self._lock = Handle(), threading.RLock()
+        self._process, self._number = Process.name(), next(Opened._opened)
 
-    @property
-    def at(self) -> Any:
-        return ctypes.byref(self._handle)
+    @contextlib.contextmanager
+    def _mine(self, *others: "Opened") -> Iterator[Any]:
+        """The handle, while no other thread has it or the others, which every thread takes in one order."""
+        for it in (self, *others):
+            if it._process != Process.name():
+                raise RuntimeError("this handle was opened before fork, and is its parent's: open another one here, with a key of its own")
+        with contextlib.ExitStack() as held:
+            for it in sorted((self, *others), key=lambda it: it._number):
+                held.enter_context(it._lock)
+            yield ctypes.byref(self._handle)
+
+    def _call(self, name: str, *words: Any) -> None:
+        with self._mine() as at:
+            call(name, at, *words)
+
+    def _told(self, kind: Any, name: str, *words: Any) -> int:
+        with self._mine() as at:
+            return told(kind, name, at, *words)
+
+    def _text(self, name: str, *words: Any) -> bytes:
+        with self._mine() as at:
+            return text(name, at, *words)
 
     def close(self) -> None:
-        """Lets go of what lies behind the handle. What is closed stays closed; each later call is refused (110)."""
-        LIBRARY.bulwynef_close(ctypes.byref(self._handle))
+        """Lets go of what lies behind the handle. What is closed stays closed; each later call is refused (110). In a child that was
+        forked off it does nothing."""
+        if self._process == Process.name():
+            with self._mine() as at:
+                LIBRARY.bulwynef_close(at)
 
     def __enter__(self: Self) -> Self:
         return self
@@ -127,7 +218,7 @@ class Opened:
         self.close()
 
     def __del__(self) -> None:
-        if getattr(self, "_handle", None) is not None:
+        if getattr(self, "_number", None) is not None:
             self.close()
 
     def __copy__(self) -> "Opened":

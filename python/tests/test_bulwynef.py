@@ -8,40 +8,22 @@ import subprocess
 import sys
 
 import pytest
+from scene import KEYS, LISTED, TOP, exchanged, first_message
 
-from bulwynef import Indication, Key, Node, Program, Refusal, Store, check_proof, directory, explain_proof
+from bulwynef import Indication, Key, Node, Program, Refusal, Store, audit_challenge, check_proof, directory, explain_proof, statements_of
 
-TOP = os.path.dirname(os.path.dirname(os.path.dirname(os.path.abspath(__file__))))
 SECOND = os.path.join(TOP, "second_opinion", "check.py")
-KEYS = {n: Key(bytes(15) + bytes([n]), bytes(31) + bytes([n])) for n in (1, 2)}
 
 
 @pytest.fixture(scope="module")
 def listed():
-    return directory({n: [key.public()] for n, key in KEYS.items()})
+    return LISTED
 
 
 def second_opinion(*words_and_texts):
-    words = [it for it in words_and_texts if isinstance(it, str)]
+    words = ["--program", "tally", *(it for it in words_and_texts if isinstance(it, str))]
     lines = "".join(it.hex() + "\n" for it in words_and_texts if isinstance(it, bytes))
     return subprocess.run([sys.executable, SECOND, *words, "-"], input=lines, capture_output=True, text=True).stdout
-
-
-def first_message(node):
-    return node.message(node.waiting()[0])
-
-
-def exchanged(listed):
-    """A message of node 1, the acknowledgement of node 2, and one of a second node 2 by the same key."""
-    with Node(listed, 1, KEYS[1]) as one, Node(listed, 2, KEYS[2]) as two, Node(listed, 2, KEYS[2]) as liar:
-        one.timer(5)
-        message = first_message(one)
-        ack = two.answer(message)
-        assert two.answer(message) == ack
-        one.accept_ack(ack)
-        assert one.waiting() == []
-        one.timer(6)
-        return message, ack, liar.answer(first_message(one))
 
 
 def test_public_key_is_the_rfc_s(listed):
@@ -50,8 +32,8 @@ def test_public_key_is_the_rfc_s(listed):
 
 
 def test_a_message_is_challenged_acknowledged_and_told_twice(listed):
-    message, ack, lie = exchanged(listed)
-    with Store(listed) as store:
+    message, ack, lie = exchanged()
+    with Store(listed, Program.TALLY) as store:
         assert store.take(message) and not store.take(message)
         assert store.indication(2) is Indication.SUSPECTED and store.proof(2) is None
         assert store.challenges(2) == [message] and store.challenges(1) == []
@@ -61,58 +43,56 @@ def test_a_message_is_challenged_acknowledged_and_told_twice(listed):
         assert store.indication(2) is Indication.EXPOSED
         assert second_opinion("--store", listed, store.export()) == "1 trusted\n2 exposed\n"
         proof = store.proof(2)
-        assert check_proof(listed, proof) == 2
-        assert second_opinion(listed, proof) == "exposes 2\n"
+        assert check_proof(listed, proof, Program.TALLY) == 2
+        assert second_opinion(listed, proof).splitlines()[0] == "exposes 2"
+
+
+def basis_of(program, listed):
+    """The lines that say of which program and directory the rest is."""
+    return f"program {program}\ndirectory {hashlib.sha256(listed).hexdigest()}\n"
 
 
 def report_in(text):
-    """The lines of nodes: those behind the first that begin with no blank."""
-    return "".join(f"{line}\n" for line in text.splitlines()[1:] if not line.startswith(" "))
+    """The lines of nodes: those behind the basis and the line for the whole that begin with no blank."""
+    basis = basis_of("tally", LISTED)
+    assert text.startswith(basis)
+    return "".join(f"{line}\n" for line in text[len(basis) :].splitlines()[1:] if not line.startswith(" "))
 
 
 def test_what_is_said_is_explained(listed):
-    message, ack, lie = exchanged(listed)
-    with Store(listed) as store:
+    message, ack, lie = exchanged()
+    with Store(listed, Program.TALLY) as store:
         store.take(message)
         assert report_in(store.explain()) == second_opinion("--store", listed, store.export()) == "1 trusted\n2 suspected\n"
         store.take(ack), store.take(lie)
         assert report_in(store.explain()) == second_opinion("--store", listed, store.export()) == "1 trusted\n2 exposed\n"
         proof = store.proof(2)
-        assert report_in(explain_proof(listed, proof)) == "2 exposed\n"
-        assert "  Node 2 signed two hashes for entry 2 of its log.\n" in explain_proof(listed, proof)
+        assert report_in(explain_proof(listed, proof, Program.TALLY)) == "2 exposed\n"
+        assert "  Node 2 signed two hashes for entry 2 of its log.\n" in explain_proof(listed, proof, Program.TALLY)
     for bad, number in ((proof[:-1], 40), (proof + b"0", 43)):
         with pytest.raises(Refusal) as refused:
-            explain_proof(listed, bad)
+            explain_proof(listed, bad, Program.TALLY)
         assert refused.value.number == number
 
 
 def test_stores_exchange_what_they_have(listed):
-    message, ack, lie = exchanged(listed)
-    with Store(listed) as left, Store(listed) as right:
+    message, ack, lie = exchanged()
+    with Store(listed, Program.TALLY) as left, Store(listed, Program.TALLY) as right:
         left.take(message), left.take(ack), right.take(lie)
         assert left.apply(right.pack(left.summary(right.outline()))) == 1
         assert left.includes(right) and not right.includes(left)
         assert right.apply(left.pack(right.summary())) == 2
         assert left.export() == right.export()
-        with Store(listed) as third:
+        with Store(listed, Program.TALLY) as third:
             assert third.load(left.export()) == 3 and third.merge(right) == 0
             assert third.export() == left.export()
 
 
-def audit_of(message):
-    """The demand for the log of the message's sender up to its SEND entry, by the bytes that docs/FORMATS.md gives."""
-    sender, receiver, seq, before = message[1:5], message[5:9], message[9:17], message[17:49]
-    end = 53 + int.from_bytes(message[49:53], "big")
-    content = receiver + message[end + 4 :]
-    digest = hashlib.sha256(before + seq + b"\2" + hashlib.sha256(content).digest()).digest()
-    return b"\3" + sender + b"\0" + seq + digest + message[49:end]
-
-
 def test_a_segment_answers_an_audit(listed):
-    with Node(listed, 1, KEYS[1]) as one, Node(listed, 2, KEYS[2]) as two, Store(listed) as store:
+    with Node(listed, 1, KEYS[1]) as one, Node(listed, 2, KEYS[2]) as two, Store(listed, Program.TALLY) as store:
         one.timer(5)
         message = first_message(one)
-        audit = audit_of(message)
+        audit = audit_challenge(statements_of(message)[0])
         assert store.take(audit) and store.indication(1) is Indication.SUSPECTED and store.challenges(1) == [audit]
         segment = one.answer(audit)
         assert segment[0] == 2 and store.take(segment) and store.indication(1) is Indication.TRUSTED
@@ -120,6 +100,19 @@ def test_a_segment_answers_an_audit(listed):
             with pytest.raises(Refusal) as refused:
                 node.answer(challenge)
             assert refused.value.number == number
+
+
+def test_a_verdict_is_of_a_program_that_is_named(listed):
+    for judge in (Store, lambda listed: check_proof(listed, b"\3"), lambda listed: explain_proof(listed, b"\3")):
+        with pytest.raises(TypeError):
+            judge(listed)
+    for program in Program:
+        with Store(listed, program) as store:
+            assert store.explain().startswith(basis_of(program.name.lower(), listed))
+
+
+def test_the_numbers_of_indications_are_none_of_nothing():
+    assert [it.value for it in Indication] == [1, 2, 3] and [it.name for it in Indication] == ["TRUSTED", "SUSPECTED", "EXPOSED"]
 
 
 def entries_of(log):
@@ -143,7 +136,7 @@ def test_a_node_shows_its_log(listed):
 def test_a_node_goes_over_to_its_next_key():
     keys = [Key(bytes(15) + bytes([n]), bytes(31) + bytes([n])) for n in (8, 9)]
     text = directory({1: [key.public() for key in keys], 2: [KEYS[2].public()]})
-    with Node(text, 1, keys[0]) as one, Store(text) as store:
+    with Node(text, 1, keys[0]) as one, Store(text, Program.TALLY) as store:
         assert one.remaining() == 32
         one.timer(1)
         assert one.remaining() == 31 and one.checkpoint() == 4
@@ -158,7 +151,7 @@ def test_a_node_goes_over_to_its_next_key():
 
 def test_refusals_have_number_name_and_sentence(listed):
     with pytest.raises(Refusal) as refused:
-        Store(listed[:-1])
+        Store(listed[:-1], Program.TALLY)
     assert (refused.value.number, refused.value.name) == (24, "Truncated") and refused.value.sentence.endswith(".")
     with pytest.raises(Refusal) as refused:
         Node(listed, 3, KEYS[1])
@@ -169,12 +162,14 @@ def test_refusals_have_number_name_and_sentence(listed):
 
 
 def test_handles_are_closed_once_and_not_copied(listed):
-    store = Store(listed)
+    store = Store(listed, Program.TALLY)
+    assert store.merge(store) == 0 and store.includes(store)
     store.close()
     store.close()
-    with pytest.raises(Refusal) as refused:
-        store.indication(1)
-    assert refused.value.number == 110
+    for call in (lambda: store.indication(1), lambda: store.merge(store), lambda: store.includes(store)):
+        with pytest.raises(Refusal) as refused:
+            call()
+        assert refused.value.number == 110
     with pytest.raises(TypeError):
         copy.copy(store)
     with pytest.raises(TypeError):
@@ -183,7 +178,7 @@ def test_handles_are_closed_once_and_not_copied(listed):
 
 def test_two_directories_and_two_programs(listed):
     other = directory({1: [KEYS[1].public()]})
-    with Store(listed) as store, Store(other) as lesser, Store(listed, Program.MAILBOX) as mails:
+    with Store(listed, Program.TALLY) as store, Store(other, Program.TALLY) as lesser, Store(listed, Program.MAILBOX) as mails:
         for beside, number in ((lesser, 112), (mails, 111)):
             with pytest.raises(Refusal) as refused:
                 store.merge(beside)

@@ -1,0 +1,164 @@
+/* For c/test.c: what each call refuses. */
+#include "test_scenes.h"
+
+static void refusals(void) {
+    struct bulwynef_handle a = {0, false}, b = {0, false}, n = {0, false}, t = {0, false}, m = {0, false};
+    struct bytes text = nothing(), empty = size_of_empty();
+    static const uint8_t init[] = {0, 0, 0, 0, 0, 0, 0, 1, 1, 0, 0, 0, 4, 0, 0, 0, 1};
+    uint8_t room[16], key[56], wide[57];
+    hold(&a, &b, &n, &t, &m, &a, &b);
+    memset(room, FILLED, sizeof room);
+    memset(key, FILLED, sizeof key);
+    if (!begin()) goto end;
+    WANT(bulwynef_public_key(H, W, ids[1], 16, seeds[1], 32, key, 55), 117);
+    WANT(bulwynef_public_key(H, W, ids[1], 15, seeds[1], 32, key, 56), 117);
+    WANT(bulwynef_public_key(H, W, ids[1], 16, seeds[1], 31, key, 56), 117);
+    WANT(bulwynef_public_key(4, W, ids[1], 16, seeds[1], 32, key, 56), 2);
+    WANT(bulwynef_public_key(H, 5, ids[1], 16, seeds[1], 32, key, 56), 3);
+    WANT(bulwynef_public_key(7, W, ids[1], 16, seeds[1], 32, key, 56), 4);
+    WANT(bulwynef_public_key(H, W, NULL, 0, seeds[1], 32, key, 56), 117);
+    WANT(bulwynef_public_key(H, W, ids[1], 16, NULL, 0, key, 56), 117);
+    WANT(bulwynef_public_key(H, W, ids[1], 16, seeds[1], 32, NULL, 0), 117);
+    /* in the order of the header: the room, the types, the lengths, the height */
+    WANT(bulwynef_public_key(4, 5, ids[1], 15, seeds[1], 32, wide, 57), 117);
+    WANT(bulwynef_public_key(4, 5, ids[1], 15, seeds[1], 32, key, 56), 2);
+    WANT(bulwynef_public_key(7, 5, ids[1], 15, seeds[1], 32, key, 56), 3);
+    WANT(bulwynef_public_key(7, W, ids[1], 15, seeds[1], 32, key, 56), 117);
+    HOLDS(is_all(key, sizeof key));
+    WANT(bulwynef_check_proof(4, directory, sizeof directory, room, 0, &out.node), 113);
+    WANT(bulwynef_check_proof(1, directory, sizeof directory - 1, room, 0, &out.node), 24);
+    WANT(bulwynef_check_proof(1, directory, sizeof directory, room, 0, &out.node), 40);
+    WANT(bulwynef_check_proof(1, NULL, 0, NULL, 0, &out.node), 24);
+    WANT(bulwynef_check_proof(1, directory, sizeof directory, NULL, 0, &out.node), 40);
+    WANT(bulwynef_explain_proof(4, directory, sizeof directory, room, 0, &t), 113);
+    WANT(bulwynef_explain_proof(1, directory, 11, room, 0, &t), 24);
+    WANT(bulwynef_explain_proof(1, directory, sizeof directory, room, 0, &t), 40);
+    WANT(bulwynef_explain_proof(1, NULL, 0, NULL, 0, &t), 24);
+    WANT(bulwynef_explain_proof(1, directory, sizeof directory, NULL, 0, &t), 40);
+    HOLDS(!t.is_open);
+    /* closed handles */
+    WANT(bulwynef_store_take(&a, room, 0, &out.is_new), 110);
+    WANT(bulwynef_store_import(&a, room, 0, &out.added), 110);
+    WANT(bulwynef_store_merge(&a, &b, &out.added), 110);
+    WANT(bulwynef_store_indication(&a, 1, &out.said), 110);
+    WANT(bulwynef_store_export(&a, &t), 110);
+    WANT(bulwynef_store_explain(&a, &t), 110);
+    WANT(bulwynef_store_outline(&a, &t), 110);
+    WANT(bulwynef_node_timer(&n, 1, entropy, 32), 110);
+    WANT(bulwynef_node_remaining(&n, &out.leaves), 110);
+    WANT(bulwynef_node_history(&n, &t), 110);
+    WANT(bulwynef_text_copy(&t, room, 0), 110);
+    HOLDS(bulwynef_text_len(&t) == 0);
+    bulwynef_close(&t);
+    /* opening */
+    WANT(bulwynef_store_open(9, directory, sizeof directory, &a), 113);
+    WANT(bulwynef_store_open(1, directory, 11, &a), 24);
+    WANT(bulwynef_store_open(1, NULL, 0, &a), 24);
+    HOLDS(!a.is_open);
+    WANT(bulwynef_store_open(1, directory, sizeof directory, &a), 0);
+    WANT(bulwynef_store_open(1, directory, sizeof directory, &a), 114);
+    WANT(bulwynef_store_open(1, other_directory, sizeof other_directory, &b), 0);
+    WANT(bulwynef_store_open(3, directory, sizeof directory, &m), 0);
+    /* two directories, two programs, one handle twice */
+    WANT(bulwynef_store_merge(&a, &b, &out.added), 112);
+    WANT(bulwynef_store_merge(&a, &m, &out.added), 111);
+    WANT(bulwynef_store_merge(&a, &a, &out.added), 110);
+    WANT(bulwynef_store_export(&a, &a), 114);
+    HOLDS(a.is_open && b.is_open && m.is_open);
+    /* texts of stores */
+    WANT(bulwynef_store_take(&a, room, 0, &out.is_new), 40);
+    WANT(bulwynef_store_import(&a, (const uint8_t *)"PRSTORE1", 8, &out.added), 40);
+    WANT(bulwynef_store_import(&a, (const uint8_t *)"PRSTORE9........", 16, &out.added), 60);
+    WANT(bulwynef_store_apply(&a, (const uint8_t *)"PRSTORE2........", 16, &out.added), 60);
+    WANT(bulwynef_store_short_summary(&a, (const uint8_t *)"PROUTL0", 7, &t), 40);
+    WANT(bulwynef_store_pack(&a, (const uint8_t *)"PROUTL01", 8, &t), 60);
+    WANT(bulwynef_store_indication(&a, 3, &out.said), 44);
+    WANT(bulwynef_store_proof(&a, 3, &t), 44);
+    WANT(bulwynef_store_proof(&a, 1, &t), 115);
+    WANT(bulwynef_store_challenge(&a, 3, 0, &t), 44);
+    WANT(bulwynef_store_challenge(&a, 1, 0, &t), 116);
+    WANT(bulwynef_store_take(&a, NULL, 0, &out.is_new), 40);
+    WANT(bulwynef_store_import(&a, NULL, 0, &out.added), 40);
+    WANT(bulwynef_store_apply(&a, NULL, 0, &out.added), 40);
+    WANT(bulwynef_store_pack(&a, NULL, 0, &t), 40);
+    WANT(bulwynef_store_short_summary(&a, NULL, 0, &t), 40);
+    HOLDS(!t.is_open);
+    WANT(bulwynef_store_import(&a, empty.at, empty.len, &out.added), 0);
+    HOLDS(out.added == 0);
+    WANT(bulwynef_store_explain(&a, &t), 0);
+    text = text_of(&t);
+    HOLDS(has_line(text, "1 trusted (no item)") && has_line(text, "2 trusted (no item)"));
+    drop(&text);
+    WANT(bulwynef_store_export(&a, &t), 0);
+    WANT(bulwynef_store_export(&a, &t), 114);
+    WANT(bulwynef_store_explain(&a, &t), 114);
+    WANT(bulwynef_explain_proof(1, directory, sizeof directory, room, 0, &t), 114);
+    WANT(bulwynef_store_explain(&t, &n), 111);
+    HOLDS(t.is_open && !n.is_open);
+    WANT(bulwynef_store_indication(&t, 1, &out.said), 111);
+    WANT(bulwynef_node_remaining(&t, &out.leaves), 111);
+    WANT(bulwynef_node_remaining(&a, &out.leaves), 111);
+    WANT(bulwynef_node_history(&a, &n), 111);
+    WANT(bulwynef_text_copy(&a, room, 16), 111);
+    WANT(bulwynef_text_copy(&t, room, 15), 117);
+    WANT(bulwynef_text_copy(&t, NULL, 0), 117);
+    HOLDS(is_all(room, sizeof room));
+    WANT(bulwynef_text_copy(&t, room, 16), 0);
+    HOLDS(bulwynef_text_len(&a) == 0);
+    text = text_of(&t);
+    HOLDS(same(text, empty));
+    drop(&text);
+    /* nodes */
+    WANT(node_new(1, &a), 114);
+    WANT(bulwynef_node_new(1, directory, sizeof directory, 3, 1, H, W, ids[1], 16, seeds[1], 32, &n), 30);
+    WANT(bulwynef_node_new(1, directory, sizeof directory, 2, 1, H, W, ids[1], 16, seeds[1], 32, &n), 31);
+    WANT(bulwynef_node_new(4, directory, sizeof directory, 1, 1, H, W, ids[1], 16, seeds[1], 32, &n), 113);
+    WANT(bulwynef_node_new(4, directory, 11, 3, 1, 4, W, ids[1], 16, seeds[1], 32, &n), 2);
+    WANT(bulwynef_node_new(4, directory, 11, 3, 1, H, W, ids[1], 16, seeds[1], 32, &n), 113);
+    WANT(bulwynef_node_new(1, directory, 11, 3, 1, H, W, ids[1], 16, seeds[1], 32, &n), 24);
+    WANT(bulwynef_node_new(1, NULL, 0, 1, 1, H, W, ids[1], 16, seeds[1], 32, &n), 24);
+    WANT(bulwynef_node_new(1, directory, sizeof directory, 1, 1, H, W, NULL, 0, seeds[1], 32, &n), 117);
+    WANT(bulwynef_node_new(1, directory, sizeof directory, 1, 1, H, W, ids[1], 16, NULL, 0, &n), 117);
+    HOLDS(!n.is_open);
+    WANT(node_new(1, &n), 0);
+    /* the log has one entry, INIT with the number 1, of node 1 */
+    WANT(bulwynef_node_history(&n, &t), 0);
+    WANT(bulwynef_node_history(&n, &t), 114);
+    text = text_of(&t);
+    HOLDS(text.len == sizeof init && memcmp(text.at, init, sizeof init) == 0);
+    drop(&text);
+    WANT(bulwynef_node_timer(&n, 1, entropy, 31), 117);
+    WANT(bulwynef_node_timer(&n, 1, NULL, 0), 117);
+    WANT(bulwynef_node_message(&n, 9, &t), 116);
+    WANT(bulwynef_node_answer(&n, room, 0, entropy, 32, &t), 40);
+    WANT(bulwynef_node_answer(&n, NULL, 0, entropy, 32, &t), 40);
+    WANT(bulwynef_node_answer(&n, NULL, 0, NULL, 0, &t), 117);
+    WANT(bulwynef_node_accept_ack(&n, room, 0), 40);
+    WANT(bulwynef_node_accept_ack(&n, NULL, 0), 40);
+    WANT(bulwynef_node_next_key(&n, H, W, ids[2], 16, seeds[2], 32), 31);
+    WANT(bulwynef_node_next_key(&n, H, W, NULL, 0, seeds[2], 32), 117);
+    WANT(bulwynef_node_next_key(&n, H, W, ids[2], 16, NULL, 0), 117);
+    WANT(bulwynef_store_take(&n, room, 0, &out.is_new), 111);
+    WANT(tick(&n, 1), 0);
+    WANT(first_message(&n, &text), 0);
+    WANT(bulwynef_node_answer(&n, text.at, text.len, entropy, 32, &t), 70);
+    WANT(bulwynef_node_accept_ack(&n, text.at, text.len), 41);
+    WANT(bulwynef_node_answer(&n, text.at, text.len, entropy, 31, &t), 117);
+    WANT(bulwynef_node_answer(&n, text.at, text.len, entropy, 32, &n), 114);
+    /* items */
+    WANT(bulwynef_statement_of(text.at, text.len, 0, &n), 114);
+    WANT(bulwynef_audit_challenge(NULL, 0, text.at, text.len, &n), 114);
+    WANT(bulwynef_send_challenge(text.at, text.len, &n), 114);
+    WANT(bulwynef_statement_of(NULL, 0, 0, &t), 40);
+    WANT(bulwynef_statement_of(text.at, text.len, 1, &t), 116);
+    WANT(bulwynef_statement_of(text.at, text.len - 1, 1, &t), 40);
+    WANT(bulwynef_audit_challenge(NULL, 0, NULL, 0, &t), 40);
+    WANT(bulwynef_audit_challenge(NULL, 0, text.at, text.len, &t), 41);
+    WANT(bulwynef_audit_challenge(text.at, text.len - 1, NULL, 0, &t), 40);
+    WANT(bulwynef_send_challenge(NULL, 0, &t), 40);
+    HOLDS(!t.is_open);
+end:
+    bulwynef_close(&a); bulwynef_close(&b); bulwynef_close(&m); bulwynef_close(&n); bulwynef_close(&t);
+    drop(&text); drop(&empty);
+    if (!wrong && live) { fprintf(stderr, "%ld blocks are left\n", live); wrong = 1; }
+}

@@ -1,0 +1,26 @@
+"""What several tests begin with: two nodes of Tally, a message and two acknowledgements of one node under one number."""
+
+import os
+
+from bulwynef import Key, Node, directory
+
+TOP = os.path.dirname(os.path.dirname(os.path.dirname(os.path.abspath(__file__))))
+KEYS = {n: Key(bytes(15) + bytes([n]), bytes(31) + bytes([n])) for n in (1, 2)}
+LISTED = directory({n: [key.public()] for n, key in KEYS.items()})
+
+
+def first_message(node):
+    return node.message(node.waiting()[0])
+
+
+def exchanged():
+    """A message of node 1, the acknowledgement of node 2, and one of a second node 2 by the same key."""
+    with Node(LISTED, 1, KEYS[1]) as one, Node(LISTED, 2, KEYS[2]) as two, Node(LISTED, 2, KEYS[2]) as liar:
+        one.timer(5)
+        message = first_message(one)
+        ack = two.answer(message)
+        assert two.answer(message) == ack
+        one.accept_ack(ack)
+        assert one.waiting() == []
+        one.timer(6)
+        return message, ack, liar.answer(first_message(one))
