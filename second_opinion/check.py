@@ -1,14 +1,14 @@
 #!/usr/bin/env python3
 """A second opinion on evidence: whom a proof convicts, and what stores say of each node.
 
-    check.py [--program NAME] [--why] DIRECTORY PROOF       exposes ID, or the refusal
-    check.py [--program NAME] [--why] [DIRECTORY] BUNDLE    the same, and under which program and which directory
-    check.py [--program NAME] --store DIRECTORY STORE..     a line for each node: trusted, suspected or exposed
+    check.py --program NAME [--why] DIRECTORY PROOF         exposes ID, or the refusal; under which program, which directory
+    check.py [--program NAME] [--why] [DIRECTORY] BUNDLE    the same, and where the bundle says otherwise
+    check.py --program NAME --store DIRECTORY STORE..       a line for each node: trusted, suspected or exposed
 
-NAME is the program that the nodes were to follow: tally, relay or mailbox; without it tally, or the one that the bundle names. A file is
-bytes, or lines of hexadecimal digits, each of which is such a text: a file of two lines stands for two files. `-` is standard input.
---why tells each signature, hash and step that was verified, in sentences. It ends with 0; with 1 after `refused NUMBER NAME: PLACE` on
-standard error; with 2 where the words are others than these; with 3 where --store says that a node is exposed.
+NAME is the program that the nodes were to follow: tally, relay or mailbox. A bundle names its own. A file is bytes, or a line of hexadecimal
+digits; one of two lines is a directory, and what stands under it. `-` is standard input. --why tells each signature, hash and step that was
+verified, in sentences. It ends with 0; with 1 after `refused NUMBER NAME: PLACE` on standard error; with 2 where the words are others than
+these; with 3 where --store says that a node is exposed; with 5 where a bundle says something else than its proof shows.
 
 This one file is all of it, in Python 3.9 and its standard library, written from RFC 8554, from PeerReview (Haeberlen, Kouznetsov, Druschel:
 SOSP 2007) and from docs/FORMATS.md, whose headings stand below in quotes. It shares no code with the proved programs, and is not proved.
@@ -539,9 +539,8 @@ def by(signature):
     return f"by leaf {int.from_bytes(lms[:4], 'big')} of its key {key}"
 
 def of_send(content):
-    if len(content) < 4:
-        return f"of the bytes {content.hex()}"
-    return f"to node {int.from_bytes(content[:4], 'big')} of the bytes {content[4:].hex()}"
+    to, payload = int.from_bytes(content[:4], "big"), content[4:].hex()
+    return f"to node {to} of the bytes {payload}" if len(content) >= 4 else f"of the bytes {content.hex()}"
 
 def sentences(directory, program, parts):
     """A line for each thing that was verified, and last what follows."""
@@ -598,7 +597,8 @@ def read_bundle(text):
             raise Refused(108 if len(body) == int(length) else 107, f"line {place}")
     return program, int(node), *texts
 
-# ---- answers, files and words
+# ---- answers, files and words: "What a file says"
+@functools.lru_cache(maxsize=None)
 def read_file(name):
     try:
         with open(0 if name == "-" else name, "rb", closefd=name != "-") as file:
@@ -609,26 +609,30 @@ def read_file(name):
         raise Refused(101, name)
     return data
 
-def texts_of(files, least, most):
-    """The name and the bytes of each text. A file has one for each line where its first eight bytes are digits or ends of lines."""
-    texts = []
-    for name, data in files:
-        if data[:8].strip(b"0123456789abcdefABCDEF\n"):
-            texts.append((name, data, bytes))
-        else:
-            lines = (data[:-1] if data.endswith(b"\n") else data).split(b"\n") if data else []
-            texts += [(f"{name}, line {number}", line, binascii.unhexlify) for number, line in enumerate(lines, 1)]
-    if not least <= len(texts) <= most:
-        raise Refused(104)
-    for place, (name, line, read) in enumerate(texts):
-        try:
-            texts[place] = name, read(line)
-        except binascii.Error:
-            raise Refused(103, name) from None
+def texts_of(file, most=1):
+    """The texts that a file says, each with its place: its bytes, or what its one or two lines of digits spell. So many may stand here."""
+    name, data = file[0], file[1]()
+    if len(data) < 8 or data[:8].strip(b"0123456789abcdefABCDEF"):
+        return [(name, data)]
+    lines = (data[:-1] if data.endswith(b"\n") else data).split(b"\n")
+    if len(lines) > 2 or not lines[-1]:
+        raise Refused(104, name)
+    for number, line in enumerate(lines, 1):
+        if len(line) % 2 or not re.fullmatch(b"[0-9a-fA-F]*", line):
+            raise Refused(103, f"{name}, line {number}")
+    if len(lines) > most:
+        raise Refused(104, name)
+    return [(f"{name}, line {number}", binascii.unhexlify(line)) for number, line in enumerate(lines, 1)]
+
+def pair_of(files):
+    """The directory and the proof of two files, or of one of two texts."""
+    texts = [it for file in files for it in texts_of(file)] if len(files) > 1 else texts_of(files[0], 2)
+    if len(texts) < 2:
+        raise Refused(104, files[0][0])
     return texts
 
 def of_proof(name, directory, proof):
-    """The node that a proof convicts, under which program and directory, and the sentences. Directory and proof come with their names."""
+    """The node that a proof convicts, under which program and directory, and the sentences. Directory and proof come with their places."""
     with at(directory[0]):
         listed = read_directory(directory[1])
     with at(proof[0]):
@@ -636,38 +640,54 @@ def of_proof(name, directory, proof):
         node = convicted(listed, PROGRAMS[name], parts)
     return node, [f"program {name}", f"directory {sha256(directory[1]).hex()}"], sentences(listed, PROGRAMS[name], parts)
 
-def of_bundle(name, place, bundle, directory, why):
+def of_bundle(name, place, directory, why, program, said, own, proof):
     """Whom the proof of a bundle convicts under this program and directory, or else its own; and where the bundle says otherwise."""
-    program, said, own, proof = bundle
     name, directory = name or program, directory or (f"{place}, directory", own)
     if name not in PROGRAMS:
         raise Refused(109, place)
     node, under, verified = of_proof(name, directory, (f"{place}, proof", proof))
-    told = [f"exposes {node}", *under] + [f"disagrees: the bundle says that it exposes {said}"] * (node != said)
-    told += [f"disagrees: the bundle names the program {program}"] * (name != program)
-    told += [f"disagrees: the bundle has the directory {sha256(own).hex()}"] * (directory[1] != own)
-    return told + (list(verified) if why else [])
+    others = [f"disagrees: the bundle says that it exposes {said}"] * (node != said)
+    others += [f"disagrees: the bundle names the program {program}"] * (name != program)
+    others += [f"disagrees: the bundle has the directory {sha256(own).hex()}"] * (directory[1] != own)
+    return 5 if others else 0, [f"exposes {node}", *under, *others, *(verified if why else [])], []
 
-def of_stores(name, directory, *stores):
-    """What the items of all stores say of each node of the directory."""
-    with at(directory[0]):
-        listed = read_directory(directory[1])
+def stores_of(stores, files, directory):
+    """The stores, and then that of each file, where one of two texts must name the directory first."""
+    yield from stores
+    for file in files:
+        *named, store = texts_of(file, 2)
+        if named and named[0][1] != directory:
+            raise Refused(104, file[0])
+        yield store
+
+def of_stores(name, first, *files):
+    """What the items of all stores say of each node of the directory, behind which the first file may have a store."""
+    (place, directory), *stores = texts_of(first, 2)
+    if not stores and not files:
+        raise Refused(104, place)
+    with at(place):
+        listed = read_directory(directory)
     items = {}
-    for place, body in stores:
+    for place, body in stores_of(stores, files, directory):
         with at(place):
             items.update(read_store(listed, body))
-    return [f"{node} {word}" for node, word in Evidence(listed, PROGRAMS[name], items.values()).indications()]
+    told = Evidence(listed, PROGRAMS[name], items.values()).indications()
+    under = [f"program {name}", f"directory {sha256(directory).hex()}"]
+    return 3 if "exposed" in dict(told).values() else 0, [f"{node} {word}" for node, word in told], under
 
 def answer(words, files):
-    """The lines of the answer."""
+    """The status, the lines of the answer, and those that stand beside it, on standard error. Of each file there is what reads it."""
+    *others, (place, last) = files
+    if not words.store and last().startswith(b"bulwynef"):
+        with at(place):
+            bundle = read_bundle(last())
+        return of_bundle(words.program, place, texts_of(*others)[0] if others else None, words.why, *bundle)
+    if words.program is None:
+        words.error(f"no verdict without a program: --program NAME says which one the nodes were to follow: {', '.join(PROGRAMS)}")
     if words.store:
-        return of_stores(words.program or "tally", *texts_of(files, 2, 1024))
-    if files[-1][1].startswith(b"bulwynef"):
-        with at(files[-1][0]):
-            bundle = read_bundle(files[-1][1])
-        return of_bundle(words.program, files[-1][0], bundle, *(texts_of(files[:-1], 0, 1) or [None]), words.why)
-    node, under, verified = of_proof(words.program or "tally", *texts_of(files, 2, 2))
-    return [f"exposes {node}"] + ([*under, *verified] if words.why else [])
+        return of_stores(words.program, *files)
+    node, under, verified = of_proof(words.program, *pair_of(files))
+    return 0, [f"exposes {node}", *under, *(verified if words.why else [])], []
 
 def read_words():
     parser = argparse.ArgumentParser(description=__doc__, formatter_class=argparse.RawDescriptionHelpFormatter, allow_abbrev=False)
@@ -678,23 +698,23 @@ def read_words():
     words = parser.parse_args()
     if words.why if words.store else len(words.files) > 2:
         parser.error("a proof has two files at most, and --why is of proofs")
+    words.error = parser.error
     return words
 
 def write(make):
-    """The lines that are made, which are written; or none, and a refusal is told."""
+    """Writes the lines that are made, and those beside them on standard error, or tells a refusal there. Gives the status."""
     try:
-        lines = make()
+        status, lines, beside = make()
         with open(1, "wb", closefd=False) as sink:
             sink.write("".join(f"{line}\n" for line in lines).encode())
-        return lines
     except (Refused, OSError, MemoryError) as fault:
-        print(fault if isinstance(fault, Refused) else Refused(102 if isinstance(fault, OSError) else 99), file=sys.stderr)
-        return None
+        status, beside = 1, [fault if isinstance(fault, Refused) else Refused(102 if isinstance(fault, OSError) else 99)]
+    print(*beside, sep="\n", end="\n" if beside else "", file=sys.stderr)
+    return status
 
 def main():
     words = read_words()
-    lines = write(lambda: answer(words, [(name, read_file(name)) for name in words.files]))
-    return 1 if lines is None else 3 if words.store and any(line.endswith("exposed") for line in lines) else 0
+    return write(lambda: answer(words, [(name, functools.partial(read_file, name)) for name in words.files]))
 
 if __name__ == "__main__":
     sys.exit(main())

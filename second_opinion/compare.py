@@ -27,6 +27,7 @@ sys.dont_write_bytecode = True
 
 import boundaries
 import check
+import forms
 import make_bundle
 import stored
 from check import Refused, sha256, u32, u64
@@ -35,10 +36,10 @@ HERE = os.path.dirname(os.path.abspath(__file__))
 sys.path.append(f"{stored.TOP}/checks/fuzz")
 # How many cases each source has at least
 LEAST = {"tour": 13, "mailbox": 7, "explained": 10, "page": 11, "refusals": 34, "boundaries": 237, "vectors": 363, "cuts": 9640}
-LEAST.update({"verdicts": 83, "proofs": 264, "falling": 201, "bundles": 140, "process": 28, "why": 200, "program": 1, "cases": 1})
+LEAST.update({"verdicts": 83, "proofs": 264, "falling": 201, "bundles": 140, "forms": 262, "process": 45, "why": 200, "program": 1, "cases": 1})
 LEAST["mutated"] = 200
-MOST_LINES = 700
-DIGITS = b"0123456789abcdefABCDEF\n"
+MOST_LINES = 720
+DIGITS = b"0123456789abcdefABCDEF"
 
 
 def words_of(words):
@@ -47,10 +48,18 @@ def words_of(words):
     return argparse.Namespace(program=program, store=words[0] == "status", why=words[0] == "why")
 
 
-def opinion(words, text):
-    """What the second opinion writes, as an answer or a refusal without its place."""
+def answered(words, *files):
+    """The status, what is written, and what is told beside it, of files with these bytes."""
+    status, lines, beside = check.answer(words, [(name, lambda text=text: text) for name, text in files])
+    return status, "".join(f"{line}\n" for line in lines), "".join(f"{line}\n" for line in beside)
+
+
+def opinion(words, *texts):
+    """What the second opinion writes of one file or of several, as an answer or a refusal without its place: of a proof the first line, if why
+    is not asked."""
     try:
-        return "".join(f"{line}\n" for line in check.answer(words_of(words), [("input", text)]))
+        told = answered(words_of(words), *((f"input {number}", text) for number, text in enumerate(texts, 1)))[1]
+        return told.partition("\n")[0] + "\n" if words[0] == "check" else told
     except Refused as refused:
         refused.places.clear()
         return f"{refused}\n"
@@ -72,9 +81,9 @@ class Tried:
                 sys.exit(1)
 
     def case(self, case):
-        self.hold(case.source, case.name, opinion(case.words, case.text()), case.wanted)
+        self.hold(case.source, case.name, opinion(case.words, *case.files()), case.wanted)
         if case.words[0] == "check":
-            told = opinion(["why", *case.words[1:]], case.text())
+            told = opinion(["why", *case.words[1:]], *case.files())
             self.hold("why", case.name, told.splitlines(keepends=True)[0], case.wanted)
 
 
@@ -92,6 +101,8 @@ def hold_stored(tried):
         elif vector.words[1] in ("conforms", "deviates"):
             hold_verdict(tried, vector)
     hold_falling(tried)
+    for form, found, wanted in forms.tried():
+        tried.hold("forms", form, found, wanted)
     hold_process(tried)
     for case in [*stored.tours(), *stored.mailbox()]:
         if case.words[0] == "check":
@@ -178,10 +189,11 @@ def hold_bundle(tried, case):
     def hold(name, text, wanted, asked=None):
         words = argparse.Namespace(program=asked, store=False, why=False)
         try:
-            found = "".join(f"{line}\n" for line in check.answer(words, [("bundle", text.encode("latin-1"))]))
+            status, *found = answered(words, ("bundle", text.encode("latin-1")))
         except Refused as refused:
-            found = f"{refused}\n"
-        tried.hold("bundles", f"{case.name}, {name}", found, wanted)
+            status, found = 1, [f"{refused}\n", ""]
+        ends = 5 if "disagrees" in wanted else 1 if wanted.startswith("refused") else 0
+        tried.hold("bundles", f"{case.name}, {name}", (status, found), (ends, [wanted, ""]))
 
     hold("whole", "".join(lines), told)
     tried.hold("bundles", "two lines", "".join(lines[-2:]).encode(), case.text())
@@ -232,38 +244,55 @@ def hold_process(tried):
                 file.write(data)
         told = f"program tally\ndirectory {sha256(files['directory']).hex()}\n"
         of_two = f"{proof.wanted}program tally\ndirectory {sha256(files['two']).hex()}\n"
+        tally, store = "--program tally", "--program tally --store"
         for words, output, status, wanted in (
-            *((words, None, 2, "") for words in ("", "--store", "--why --store directory store", "directory proof proof", "--program x both")),
-            ("--store directory store", None, 3, good.wanted),
-            ("--store directory digits", None, 3, good.wanted),
-            ("--store directory store digits", None, 3, good.wanted),
-            ("--store - < both", None, 1, refused % "60 BadMagic: -, line 2"),
-            ("directory proof", None, 0, proof.wanted),
-            ("directory - < proof", None, 0, proof.wanted),
-            ("both", None, 0, proof.wanted),
+            *((words, None, 2, "") for words in ("", store, f"--why {store} directory store", f"{tally} directory proof proof", "--program x both")),
+            *((words, None, 2, "") for words in ("--store directory store", "directory proof", "both", "directory", "directory empty", "- < both")),
+            (f"{store} directory store", None, 3, good.wanted + told),
+            (f"{store} directory digits", None, 3, good.wanted + told),
+            (f"{store} directory store digits", None, 3, good.wanted + told),
+            (f"{store} - < both", None, 1, refused % "60 BadMagic: -, line 2"),
+            (f"{tally} directory proof", None, 0, proof.wanted + told),
+            (f"{tally} directory - < proof", None, 0, proof.wanted + told),
+            (f"{tally} both", None, 0, proof.wanted + told),
             ("bundle", None, 0, proof.wanted + told),
             ("- < bundle", None, 0, proof.wanted + told),
             ("directory bundle", None, 0, proof.wanted + told),
-            ("two bundle", None, 0, of_two + f"disagrees: the bundle has the {told.splitlines()[1]}\n"),
+            ("two bundle", None, 5, of_two + f"disagrees: the bundle has the {told.splitlines()[1]}\n"),
             ("proof bundle", None, 1, refused % "23 BadMagic: proof"),
-            ("both bundle", None, 1, refused % "104 LineCount"),
-            ("--program relay bundle", None, 0, None),
-            ("proof directory", None, 1, refused % "23 BadMagic: proof"),
-            ("directory store", None, 1, refused % "41 BadTag: store"),
-            ("directory", None, 1, refused % "104 LineCount"),
-            ("empty", None, 1, refused % "104 LineCount"),
-            ("--store odd", None, 1, refused % "103 BadHex: odd, line 2"),
-            ("--store returns", None, 1, refused % "103 BadHex: returns, line 1"),
-            ("directory missing", None, 1, refused % "100 ReadFailed: missing"),
-            ("directory .", None, 1, refused % "100 ReadFailed: ."),
-            ("both", "/dev/full", 1, refused % "102 WriteFailed"),
+            (f"{tally} empty bundle", None, 1, refused % "24 Truncated: empty"),
+            ("both bundle", None, 1, refused % "104 LineCount: both"),
+            ("--program relay bundle", None, 5, None),
+            (f"{tally} proof directory", None, 1, refused % "23 BadMagic: proof"),
+            (f"{tally} directory store", None, 1, refused % "41 BadTag: store"),
+            (f"{tally} directory", None, 1, refused % "104 LineCount: directory"),
+            (f"{tally} empty", None, 1, refused % "104 LineCount: empty"),
+            (f"{store} odd", None, 1, refused % "103 BadHex: odd, line 2"),
+            (f"{store} returns", None, 1, refused % "103 BadHex: returns, line 1"),
+            (f"{tally} directory missing", None, 1, refused % "100 ReadFailed: missing"),
+            (f"{tally} directory .", None, 1, refused % "100 ReadFailed: ."),
+            (f"{tally} both", "/dev/full", 1, refused % "102 WriteFailed"),
         ):
             words, _, given = words.partition(" < ")
             with open(output or os.devnull, "wb") as sink, open(given or os.devnull, "rb") as source:
                 streams = {"stdout": sink if output else subprocess.PIPE, "stderr": subprocess.PIPE, "stdin": source}
                 done = subprocess.run([sys.executable, f"{HERE}/check.py", *words.split()], **streams)
-            found = (done.stderr if done.returncode == 1 else done.stdout).decode()
+            found = ((done.stdout or b"") + done.stderr * (status != 2)).decode()
             tried.hold("process", words, (done.returncode, wanted if wanted is None else found), (status, wanted))
+            if status == 2 and "directory" in words and "--program" not in words:
+                is_told = done.stderr.endswith(b"no verdict without a program: --program NAME says which one the nodes were to follow: tally, relay, mailbox\n")
+                tried.hold("process", f"{words}: a program is wanted", is_told, True)
+        for words, status, wanted in (
+            ("directory proof", 2, ""),
+            (f"{tally} directory proof proof", 2, ""),
+            (f"{tally} directory proof", 0, files["bundle"].decode()),
+            (f"{tally} both", 0, files["bundle"].decode()),
+            (f"{tally} directory", 1, refused % "104 LineCount: directory"),
+            (f"{tally} both proof", 1, refused % "104 LineCount: both"),
+        ):
+            done = subprocess.run([sys.executable, f"{HERE}/make_bundle.py", *words.split()], capture_output=True)
+            found = (done.stdout + done.stderr * (status != 2)).decode()
+            tried.hold("process", f"make_bundle.py {words}", (done.returncode, found), (status, wanted))
         os.chdir(HERE)
 
 
@@ -280,10 +309,10 @@ def written_by(program, words, text):
 
 
 def is_alike(words, text):
-    """Whether node_sim and check.py read the same here. The latter has two of the commands; it reads what has no digits at its beginning as
-    bytes, and further lines of `status` as further stores."""
-    is_digits, lines = not text[:8].strip(DIGITS), text.count(b"\n") + (text[-1:] not in (b"", b"\n"))
-    return words[:1] in (["status"], ["check"]) and words[1:] in ([], ["--relay"]) and is_digits and (words[0] == "check" or lines < 3)
+    """Whether node_sim and check.py read the same here. The latter has two of the commands; it reads what has no eight digits at its beginning
+    as bytes, and a blank second line as no line."""
+    is_digits, lines = len(text) >= 8 and not text[:8].strip(DIGITS), text.split(b"\n")
+    return words[:1] in (["status"], ["check"]) and words[1:] in ([], ["--relay"]) and is_digits and (lines[1:2] != [b""] or len(lines) == 2)
 
 
 def mutated_inputs(seed):

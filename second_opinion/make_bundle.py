@@ -1,12 +1,13 @@
 #!/usr/bin/env python3
 """Writes a bundle: a proof to hand over in one file, with its directory, and with sentences for people. FORMATS, "Bundle", has its text.
 
-    make_bundle.py [--program NAME] DIRECTORY PROOF > BUNDLE
+    make_bundle.py --program NAME DIRECTORY PROOF > BUNDLE
 
 Its files are those of check.py, which judges the proof first: of a refused one no bundle is made. The statuses are those of check.py.
 """
 
 import argparse
+import functools
 import platform
 import sys
 
@@ -41,16 +42,18 @@ def bundle(program, directory, proof):
 
 
 def made(words):
-    (_, directory), (_, proof) = check.texts_of([(name, check.read_file(name)) for name in words.files], 2, 2)
-    return bundle(words.program, directory, proof)
+    (_, directory), (_, proof) = check.pair_of([(name, functools.partial(check.read_file, name)) for name in words.files])
+    return 0, bundle(words.program, directory, proof), []
 
 
 def main():
     parser = argparse.ArgumentParser(description=__doc__, formatter_class=argparse.RawDescriptionHelpFormatter, allow_abbrev=False)
-    parser.add_argument("--program", choices=check.PROGRAMS, default="tally", help="the program that the nodes were to follow")
+    parser.add_argument("--program", choices=check.PROGRAMS, required=True, help="the program that the nodes were to follow")
     parser.add_argument("files", nargs="+", metavar="FILE")
     words = parser.parse_args()
-    return 0 if check.write(lambda: made(words)) else 1
+    if len(words.files) > 2:
+        parser.error("a bundle has one directory and one proof")
+    return check.write(lambda: made(words))
 
 
 if __name__ == "__main__":

@@ -29,6 +29,10 @@ class Case(NamedTuple):
     def text(self):
         return input_of(*self.lines)
 
+    def files(self):
+        """The one file of these lines. A file has no blank line, so beside an empty text each stands in a file of its own."""
+        return [self.text()] if all(self.lines) else self.lines
+
 
 def read(path):
     with open(f"{TOP}/{path}", "rb") as file:
@@ -70,8 +74,8 @@ def proof_of(form, *items):
 
 
 def said_in(text):
-    """The lines on nodes."""
-    return "".join(re.findall(r"^\d+ (?:trusted|suspected|exposed)\n", text, re.MULTILINE))
+    """The lines on nodes, without what `explain` says of one of which there is no item."""
+    return "".join(re.findall(r"^\d+ (?:trusted|suspected|exposed)\n", text.replace(" trusted (no item)\n", " trusted\n"), re.MULTILINE))
 
 
 def tours():
@@ -108,12 +112,12 @@ def explained():
 
 def page():
     """What stands on the page of examples behind `bulwynef status`, of files that are there."""
-    asked = r"^    \$ bulwynef status( --program relay)? --directory (\S+) (.+)\n((?:    \d.*\n)+)"
-    for relay, directory, stores, told in re.findall(asked, read("examples/README.md").decode(), re.MULTILINE):
+    asked = r"^    \$ bulwynef status(?: --program (\w+))? --directory (\S+) (.+)\n((?:    \d.*\n)+)"
+    for program, directory, stores, told in re.findall(asked, read("examples/README.md").decode(), re.MULTILINE):
         names = [directory, *stores.split()]
         if all(os.path.isfile(f"{EXAMPLES}/{name}") for name in names):
             first, *others = [read(f"examples/{name}") for name in names]
-            yield Case("page", stores, ["status", *(["--relay"] if relay else [])], [first, merged(others)], told.replace("    ", ""))
+            yield Case("page", stores, ["status", "--program", program or "tally"], [first, merged(others)], told.replace("    ", ""))
 
 
 class Vector(NamedTuple):

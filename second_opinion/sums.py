@@ -2,7 +2,7 @@
 """Sums by which two people see that they have the same sources, and the same builds.
 
     sums.py             the sums of what is here
-    sums.py compare     the same, and whether they are those of docs/builds.txt; the gate runs it last
+    sums.py compare     the same, and whether they are those of docs/builds.txt: ends with 0 where they are, with 4 where nothing is compared
     sums.py write       writes docs/builds.txt anew
 
 The sum of the sources is the SHA-256 value of the lines that `sha256sum` writes of the files of crates/, of crates.txt and of HANDLES that
@@ -12,8 +12,9 @@ git tracks, as they are in the folder, in the order of their names' bytes:
 
 Behind it stands what `sha256sum` writes of each program that `rt ci` or `rt run` has left: as LLVM builds it for x86-64-v2, and as Rattle's
 own compiler does (`.by-rattle`). Other kits, and other sources, give other builds. So docs/builds.txt names both, and `compare` says that it
-compared nothing where one of them is another here; else it ends with 1 where a build differs, or is missing. Last stands checkproof, which
-c/run.py builds, behind the name of the system's compiler: it is compared where it is here, by the same compiler.
+compared nothing, and ends with 4, where one of them is another here; else it ends with 1 where a build differs, or is missing. It does too where
+the file is missing, or names no kit, no sources or no build. Last stands checkproof, which c/run.py builds, behind the name of the system's
+compiler: it is compared where it is here, by the same compiler.
 """
 
 import os
@@ -76,18 +77,26 @@ def stored():
         return []
 
 
+EQUAL, OTHER, NOTHING = 0, 1, 4
+FORM = r"kit .+\nsources [0-9a-f]{64} of [0-9]+ files\n(?:[0-9a-f]{64}  crates/\S+\n)+(?:cc .*\n[0-9a-f]{64}  c/out/checkproof\n)?"
+
+
 def compared(here, told):
-    """Whether the stored builds are those that are here, or are not of this kit and these sources."""
-    if told[:2] != here[:2]:
-        print(f"{STORED} is of another kit or of other sources: nothing is compared" if told else f"there is no {STORED}: nothing is compared")
-        return True
+    """EQUAL where the stored builds are those that are here, NOTHING where they are not of this kit and these sources, else OTHER."""
+    if not re.fullmatch(FORM, "".join(told)):
+        print(f"there is no {STORED}, or it does not name a kit, sources and builds")
+        return OTHER
+    others = [line.split(" ")[0] for line in told[:2] if line not in here]
+    if others:
+        print(f"{STORED} is of another text or kit ({', '.join(others)}): nothing is compared")
+        return NOTHING
     compiler = next((line for line in told if line.startswith("cc ")), None)
     lines = [line for line in told[2:] if line != compiler and (compiler in here or not line.endswith(f" {CHECKPROOF}\n"))]
     wrong = [line for line in lines if line not in here]
     for line in wrong:
         print(f"differs, or is not here: {line}", end="")
     print(f"{len(lines) - len(wrong)} builds are those of {STORED}, {len(wrong)} are not")
-    return bool(lines) and not wrong
+    return OTHER if wrong else EQUAL
 
 
 def main():
@@ -101,7 +110,7 @@ def main():
             sys.exit("nothing is written: no program is built here, or there is no kit")
         with open(f"{TOP}/{STORED}", "w", encoding="utf-8") as file:
             file.write(HEAD + "".join(here))
-    return 0 if word != "compare" or compared(here, stored()) else 1
+    return compared(here, stored()) if word == "compare" else 0
 
 
 if __name__ == "__main__":
