@@ -1,10 +1,11 @@
 #!/bin/sh
-# slurm.sh K RUN [WORDS..]: the same two steps as arrays of a Slurm cluster (Debian's package slurm-wlm). It waits for their end.
+# slurm.sh K RUN --program NAME [WORDS..]: the same two steps as arrays of a Slurm cluster (Debian's package slurm-wlm). It waits for their end.
 #
 # RUN is as for run.sh. What a node of the cluster loses is queued again by Slurm (--requeue), and the lines are those of run.sh.
 set -eu
 count=$1 run=$2
 shift 2
+case " $* " in *" --program"[\ =]*) ;; *) echo "slurm.sh: no verdict without a program: --program NAME says which one the nodes were to follow: tally, relay, mailbox" >&2; exit 2 ;; esac
 here=$(cd "$(dirname "$0")" && pwd)
 mkdir -p "$run/parts" "$run/counts" "$run/told" "$run/slurm"
 rm -f "$run"/told/*

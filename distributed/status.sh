@@ -1,8 +1,8 @@
 #!/bin/sh
-# status.sh RUN K k [WORDS..]: asks shard k of K, and writes the lines of its nodes to RUN/told/k; where RUN/how deals by ranges, those of all
+# status.sh RUN K k --program NAME [WORDS..]: asks shard k of K, and writes the lines of its nodes to RUN/told/k; where RUN/how deals by ranges, those of all
 # nodes. It may run twice, and anywhere.
 #
-# RUN/nodes is the directory; WORDS go to `bulwynef status`, as --program relay. Before anything is asked each store's shard k must be
+# RUN/nodes is the directory; the words behind k go to `bulwynef status`. Before anything is asked each store's shard k must be
 # there, with as many items as `split` counted: a part that is lost, or of another K, ends the task with 1.
 set -eu
 run=$1 count=$2 k=$3

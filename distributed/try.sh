@@ -57,8 +57,10 @@ done
 # ---- one process over all
 
 python3 "$here/evidence.py" "$room/evidence" "$STORES" "${NODES:-24}"
-"$BULWYNEF" status --directory "$room/evidence/nodes" "$room"/evidence/*.store > "$room/wanted" || [ $? = 3 ]
-grep -q ' exposed$' "$room/wanted" && grep -q ' suspected$' "$room/wanted"
+"$BULWYNEF" status --program tally --directory "$room/evidence/nodes" "$room"/evidence/*.store > "$room/wanted" || [ $? = 3 ]
+for word in exposed suspected trusted; do
+    grep -q " $word\$" "$room/wanted" || { echo "try.sh: the evidence has no node that is $word" >&2; exit 1; }
+done
 
 # Makes the folder of a run: the directory, and the names of all stores.
 begin() {
@@ -74,7 +76,7 @@ is_equal() {
     begin "$room/$1"
     echo "$2" > "$room/$1/how"
     status=0
-    "$here/run.sh" "$room/hosts" "$SHARDS" "$room/$1" > "$room/told" 2> "$room/errors" || status=$?
+    "$here/run.sh" "$room/hosts" "$SHARDS" "$room/$1" --program tally > "$room/told" 2> "$room/errors" || status=$?
     cmp "$room/wanted" "$room/told" || { cat "$room/errors" >&2; exit 1; }
     [ "$status" = 3 ]
     echo "equal: $(wc -l < "$room/told") nodes, dealt by $2; $(cat "$room/$1"/counts/* | awk '{ items += $2 } END { print items }') items in all parts"
@@ -94,7 +96,7 @@ begin "$run"
 ) &
 killer=$!
 status=0
-"$here/run.sh" "$room/hosts" "$SHARDS" "$run" > "$room/told" 2> "$room/errors" || status=$?
+"$here/run.sh" "$room/hosts" "$SHARDS" "$run" --program tally > "$room/told" 2> "$room/errors" || status=$?
 wait "$killer"
 sort -n "$room/wanted" | cmp - "$room/told" || { cat "$room/errors" >&2; exit 1; }
 [ "$status" = 3 ]
@@ -107,8 +109,8 @@ echo "equal: $(wc -l < "$room/told") nodes; $failed tries failed, and another ma
 part=$run/parts/1/7.1-of-$SHARDS
 # Asks shard 1, which is to be refused with these words.
 is_seen() {
-    if "$here/status.sh" "$run" "$SHARDS" 1 2> "$room/lost"; then return 1; fi
-    grep -q "$1" "$room/lost"
+    if "$here/status.sh" "$run" "$SHARDS" 1 --program tally 2> "$room/lost"; then echo "try.sh: not seen: $1" >&2; exit 1; fi
+    grep -q "$1" "$room/lost" || { cat "$room/lost" >&2; exit 1; }
 }
 rm "$part"
 is_seen 'is lost'
@@ -117,5 +119,5 @@ is_seen 'has 0 items and not'
 rm "$run/counts/7"
 is_seen 'store 7 was not split'
 "$here/split.sh" "$run" "$SHARDS" 7
-"$here/status.sh" "$run" "$SHARDS" 1
+"$here/status.sh" "$run" "$SHARDS" 1 --program tally
 echo "a lost part is seen, and a second split brings it back"

@@ -67,9 +67,9 @@ run=$room/run
 mkdir "$run"
 cp "$room/evidence/nodes" "$run/nodes"
 ls "$room"/evidence/*.store > "$run/stores"
-"$BULWYNEF" status --directory "$run/nodes" "$room"/evidence/*.store > "$room/wanted" || [ $? = 3 ]
+"$BULWYNEF" status --program tally --directory "$run/nodes" "$room"/evidence/*.store > "$room/wanted" || [ $? = 3 ]
 status=0
-"$here/slurm.sh" "$SHARDS" "$run" > "$room/told" || status=$?
+"$here/slurm.sh" "$SHARDS" "$run" --program tally > "$room/told" || status=$?
 cmp "$room/wanted" "$room/told"
 [ "$status" = 3 ]
 echo "equal: $(wc -l < "$room/told") nodes"

@@ -59,7 +59,7 @@ def explained(program, directory, store, *more):
         for name, line in (("directory", directory), ("store", store)):
             with open(f"{folder}/{name}", "wb") as file:
                 file.write(bytes.fromhex(line))
-        words = f"explain --workers 1 {' '.join(more)} --directory {folder}/directory {folder}/store"
+        words = f"explain --workers 1 --program tally {' '.join(more)} --directory {folder}/directory {folder}/store"
         timed(program, words, [], (0, 3))
 
 

@@ -68,7 +68,7 @@ def main():
                 with open(file, "wb") as it:
                     it.write(text)
             for what, command in asked.items():
-                spent, size, out = seen[name, what] = measured([words.bulwynef, *command, "--workers", "1", "--directory", nodes, path])
+                spent, size, out = seen[name, what] = measured([words.bulwynef, *command, "--workers", "1", "--program", "tally", "--directory", nodes, path])
                 print(f"{name:5} {what:7} {os.path.getsize(path) // 1024:8} KB in {spent:7.2f} s {size:8} KB {len(out):9} bytes out", flush=True)
     if words.page:
         with open(words.page, "wb") as it:

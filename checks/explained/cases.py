@@ -109,7 +109,7 @@ def proofs():
     """Each form of proof, and each way in which a statement and a segment contradict each other."""
     case = Case("proof of two statements", "proof")
     yield case.of(proof(1, case.keys.auth(1, 5, ONES), case.keys.auth(1, 5, TWOS)))
-    for name, seq in ("left out", 4), ("before the log", 0):
+    for name, seq in ("otherwise", 4), ("before the log", 0):
         case = Case(f"proof of a statement and a segment: {name}", "proof")
         case.hashes["FOURTH"] = hash_of(LOG[:4])
         yield case.of(proof(2, case.keys.auth(2, seq, ONES), case.log(2, LOG)))
@@ -128,6 +128,12 @@ def others():
     message = case.keys.message(1, 7, b"hello")
     case.hashes["QUOTED"] = entry_hash(ZEROS, 7, SEND, u32(2) + b"hello").hex()
     yield case.of(case.keys.auth(1, 7, ONES), case.log(2, begun((2, RECV, message.quote()))), demand(message))
+    case = Case("two faults")
+    signed = [case.keys.auth(2, seq, hash) for seq, hash in ((2, ONES), (9, ONES), (9, TWOS))]
+    yield case.of(*signed, case.log(2, begun((2, CHECKPOINT, u64(5)))), case.keys.audit((12, ONES)))
+    case = Case("before and behind a segment")
+    signed = [case.keys.auth(2, seq, hash) for seq, hash in ((1, ONES), (1, TWOS), (2, ONES), (9, ONES))]
+    yield case.of(*signed, case.keys.segment(2, end_of(sha256(), LOG[:2]), LOG[2:]))
     case = Case("open audits")
     case.hashes.update(THIRD=hash_of(LOG[:3]), SIXTH=hash_of(LOG))
     end = (6, end_of(sha256(), LOG))

@@ -4,11 +4,11 @@
 Each line stands in a file of its own. Several stores are explained as they are, and as the one store that `node_sim merge` makes of them: but for the
 line that names it both say the same. Of each node that the store exposes, what `node_sim prove` writes is explained as well. Then each reason of a
 deviation, each form of proof and each kind of challenge: `cases.py` makes the inputs, and `cases.txt` has by hand what is told; and stores of many
-nodes, of which `drawn.py` has the logs that a page draws. Then lines that
+nodes, of which `drawn.py` has the logs that a page draws. Then files that `bulwynef` refuses, and lines that
 `mailbox_sim explain` refuses: `bad_inputs.py` has each, made of an example, with the line that tells it.
 
-Wants bulwynef, mailbox_sim and node_sim in crates/NAME/out, which `rt ci` and `rt run` leave. `checks/explained/run.py --write` stores
-what the build by LLVM writes.
+Wants both builds of bulwynef and mailbox_sim, and node_sim, which `rt ci` leaves (builds.py). `checks/explained/run.py --write` stores what the
+build by LLVM writes.
 """
 
 import hashlib
@@ -20,14 +20,15 @@ import sys
 import tempfile
 
 sys.dont_write_bytecode = True
+TOP = os.path.dirname(os.path.dirname(os.path.dirname(os.path.abspath(__file__))))
+sys.path.append(f"{TOP}/checks")
 
-from bad_inputs import bad_inputs
+from bad_inputs import bad_files, bad_inputs
+from builds import builds_of
 from cases import cases, mails
 from drawn import drawn
 
-TOP = os.path.dirname(os.path.dirname(os.path.dirname(os.path.abspath(__file__))))
 EXAMPLES, STORED = f"{TOP}/examples", f"{TOP}/examples/explained"
-BULWYNEF = [f"{TOP}/crates/bulwynef/out/bulwynef{ending}" for ending in ("", ".by-rattle")]
 NODE_SIM = f"{TOP}/crates/node_sim/out/node_sim"
 
 failed = []
@@ -62,7 +63,7 @@ def explained(build, subject, text, page=False, more=()):
             names.append(f"{folder}/{number}")
             with open(names[-1], "wb") as it:
                 it.write(bytes.fromhex(line.decode()))
-        words = [build, "explain", *more, "--directory", names[0]]
+        words = [build, "explain", *more, *([] if subject == "directory" or "--program" in more else ["--program", "tally"]), "--directory", names[0]]
         words += {"store": names[1:], "proof": ["--proof", *names[1:]], "directory": []}[subject]
         status, out, error = run([*words, "--html", f"{folder}/page"] if page else words)
         if page and status in (0, 3):
@@ -101,7 +102,7 @@ def compare(name, subject, text, build):
     page = explained(build, subject, text, page=True)
     for ending, (status, found, error) in (".txt", told), (".html", page):
         file = f"{STORED}/{name}{ending}"
-        if "--write" in sys.argv and build == BULWYNEF[0]:
+        if "--write" in sys.argv and not build.endswith(".by-rattle"):
             with open(file, "wb") as it:
                 it.write(found)
         stored = open(file, "rb").read() if os.path.isfile(file) else None
@@ -122,13 +123,25 @@ def items_of(store):
     return found
 
 
-def refusals():
-    """The bad inputs: what is asked for, the input, and the line that tells it."""
+def example():
+    """The lines of an example, its proof, and where its items stand."""
     with open(f"{EXAMPLES}/equivocation.txt", "rb") as it:
         text = it.read()
     directory, store = text.split(b"\n")[:2]
-    proof = made(["prove", "2"], text).strip()
-    return bad_inputs(directory, store, proof, items_of(bytes.fromhex(store.decode())))
+    return directory, store, made(["prove", "2"], text).strip(), items_of(bytes.fromhex(store.decode()))
+
+
+def tells(build):
+    """Each bad file is refused by its line, to the letter, and nothing is written."""
+    with open(f"{EXAMPLES}/wrong_output.bundle", "rb") as it:
+        bundle = it.read()
+    for words, files, wanted in bad_files(*example(), bundle):
+        with tempfile.TemporaryDirectory() as folder:
+            for name, text in files.items():
+                with open(f"{folder}/{name}", "wb") as it:
+                    it.write(text)
+            done = subprocess.run([build, *words.split()], cwd=folder, stdin=subprocess.DEVNULL, capture_output=True, timeout=120)
+        hold(f"bulwynef {words}: {wanted}", (done.returncode, done.stdout, done.stderr.decode()) == (1, b"", f"{wanted}\n"), done)
 
 
 def expected():
@@ -178,9 +191,7 @@ def draws(build):
 
 
 def main():
-    builds = [build for build in BULWYNEF if os.path.isfile(build)]
-    if not builds:
-        sys.exit("crates/bulwynef/out/bulwynef is missing: rt ci and rt run leave it")
+    builds = builds_of("bulwynef")
     os.makedirs(STORED, exist_ok=True)
     for build in builds:
         names = set()
@@ -196,7 +207,8 @@ def main():
         told_of_cases(lambda subject, text, page: run([*mailbox_sim, subject, *(["--html"] if page else [])], text), "Mailbox", mails, wanted)
         hold("each case is made", told == set(wanted), set(wanted) - told)
         draws(build)
-        for subject, text, wanted in refusals():
+        tells(build)
+        for subject, text, wanted in bad_inputs(*example()):
             status, out, error = run([*mailbox_sim, subject], text)
             hold(wanted, status == 1 and not out and error.decode() == wanted + "\n", error)
             if subject != "directory":

@@ -106,15 +106,16 @@ def explained(subject, relay, data, page):
             begins_like_digits = re.match(rb"[0-9a-fA-F]{8}", text)
             with open(names[-1], "wb") as it:
                 it.write(text.hex().encode() if begins_like_digits else text)
-        program = ["--program", "relay"] if relay else []
+        program = ["--program", "relay" if relay else "tally"]
         words = ["explain", "--workers", "1", *program, "--directory", names[0]]
         words += ["--proof", names[1]] if subject == "proof" else names[1:]
         return ended(BULWYNEF, [*words, *(["--html", "-"] if page else [])], b"")
 
 
 def rows_of(text):
-    """The lines of nodes in an explanation: behind those of its basis and the heading those that are not indented."""
-    return [line for line in text.decode().split("\n")[4:] if line and not line.startswith(" ")]
+    """The lines of nodes in an explanation: behind those of its basis and the heading those that are not indented; without what is said of one of
+    which there is no item."""
+    return [line.removesuffix(" (no item)") for line in text.decode().split("\n")[4:] if line and not line.startswith(" ")]
 
 
 def items_of(data):

@@ -8,7 +8,7 @@ flipped, texts are cut, parts are repeated, dropped, moved and taken from other 
 turned. Each text is handed to status, merge, prove or check, with and without --relay, and scenarios to run, by one worker or more.
 Summaries, outlines and packs are no input of node_sim, and are left out; it meets their first bytes, which it must refuse.
 
-Each input is run twice: by both builds, that of LLVM and that of Rattle's own compiler, where both are there. A run may end with 0, with
+Each input is run twice: by both builds, that of LLVM and that of Rattle's own compiler, or by the one that is named. A run may end with 0, with
 nothing on standard error, or with 1, with no output and a refusal that is listed for the command. All else is a fault: another status, a
 signal, the end of the time, or two runs that differ. So are 99 and 95: they are listed, and no text here needs so much memory or so many
 threads. So is another refusal than the one that the formats give (answers.py), and an output that is none of the input's. What prove
@@ -16,7 +16,7 @@ writes goes to check, which must name the node, and its input to status, which m
 to merge, which must write it again.
 
 The seed is printed. Of one seed the inputs are the same, whatever the jobs. The input of a fault is written to checks/fuzz/out/, and beside it
-what came of it and how to run it again. Wants crates/node_sim/out/node_sim, which `rt ci` and `rt run` leave.
+what came of it and how to run it again. Wants both builds in crates/node_sim/out, which `rt ci` leaves (checks/builds.py).
 """
 
 import argparse
@@ -32,9 +32,11 @@ import sys
 import time
 
 sys.dont_write_bytecode = True
+sys.path.append(os.path.dirname(os.path.dirname(os.path.abspath(__file__))))
 
 import texts
 from answers import TAKEN, answers
+from builds import builds_of
 from texts import number
 
 OUT = f"{texts.TOP}/checks/fuzz/out"
@@ -397,12 +399,12 @@ def words_of():
     parser.add_argument("--runs", type=int, default=200_000, help="how many runs, two of each input (200000)")
     parser.add_argument("--seed", type=int, help="what the inputs are made from (one by chance)")
     parser.add_argument("--jobs", type=int, default=os.cpu_count(), help="how many processes run programs (one a processor)")
-    parser.add_argument("--program", action="append", help="a build of node_sim; two may be given (those that are there)")
+    parser.add_argument("--program", action="append", help="a build of node_sim; two may be given (both of the gate)")
     parser.add_argument("--memory", type=int, default=256, help="the limit of memory, in MiB, and an eighth of that of run (256)")
     parser.add_argument("--seconds", type=int, default=60, help="the limit of time of a run (60)")
     parser.add_argument("--only", type=int, help="runs this input alone, and writes it")
     options = parser.parse_args()
-    options.programs = [os.path.abspath(it) for it in options.program or BUILDS if options.program or os.path.isfile(it)]
+    options.programs = [os.path.abspath(it) for it in options.program or builds_of("node_sim")]
     if len(options.programs) == 1:
         options.programs *= 2
     if options.seed is None:
@@ -412,9 +414,6 @@ def words_of():
 
 def main():
     options = words_of()
-    if not options.programs:
-        print("no build of node_sim: rt ci or rt run makes one")
-        return 2
     print(f"fuzz: seed {options.seed}, {options.runs} runs, {options.jobs} jobs, {options.memory} MiB and {options.seconds} s each")
     for program in dict.fromkeys(options.programs):
         print(f"    {program}", flush=True)

@@ -1,7 +1,7 @@
 #!/usr/bin/env python3
 # Refuses each growth of memory of single calls in turn, and holds each run to "Memory (99) and all as it was, or the right answer".
 #
-# The program is `growths` of crates/growths, one call a scene, which `rt ci` and `rt run` leave in its folder out/. It tells
+# The program is `growths` of crates/growths, one call a scene, of which `rt ci` leaves both builds in its folder out/ (builds.py). It tells
 # refuse.c which growths are those of the call. A run in which none is refused gives a scene's right lines and counts the growths; then
 # the scene is played once for each of them. least.txt has for each scene how many growths, and how many refused with Memory, there are
 # at the least: fewer is a fault, as it would be if a compiler dropped what arms the growths. Wants gcc.
@@ -13,7 +13,11 @@ import tempfile
 from concurrent.futures import ThreadPoolExecutor
 
 TOP = os.path.dirname(os.path.dirname(os.path.dirname(os.path.abspath(__file__))))
-OUT = os.path.join(TOP, "crates", "growths", "out")
+sys.path.append(os.path.join(TOP, "checks"))
+sys.dont_write_bytecode = True
+
+from builds import builds_of
+
 LEAST = os.path.join(TOP, "checks", "growths", "least.txt")
 JOBS = 4
 SECONDS = 60
@@ -223,10 +227,7 @@ def try_program(program, library, pool, least):
 
 
 def main():
-    programs = [os.path.join(OUT, name) for name in ("growths", "growths.by-rattle")]
-    programs = [program for program in programs if os.path.exists(program)]
-    if not programs:
-        sys.exit("crates/growths/out/growths is wanted: rt ci or rt run makes it")
+    programs = builds_of("growths")
     with tempfile.TemporaryDirectory() as folder, ThreadPoolExecutor(JOBS) as pool:
         library = make_library(folder)
         least = least_counts()

@@ -1,7 +1,7 @@
 #!/usr/bin/env bash
 # Tries the edits of crates/NAME/more-edits/, which the prover must refuse as it refuses those of must-fail/, of the crates that are
 # named or of all. It works on a clone of the last commit, so a run does not meet other checks. To be run whenever the contracts of
-# a crate change; it is not part of the gate, whose time goes mostly into edits.
+# a crate change; the gate tries some at a time, by turn.py.
 #
 #   checks/more-edits/run.sh [NAME..]
 set -eu

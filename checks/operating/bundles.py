@@ -46,7 +46,7 @@ def files_of(directory, proof):
 # The words of check.py; bulwynef gets the first of two files by --directory
 ASKED = """good; nodes good; nodes.digits good; two good; two.proof good; none good; nodes none; none; .; nodes .; --program relay good; --program tally relay; relay
 node77; two node77; other; --program tally other; first; sentence; length; sum; no_directory; nodes no_directory; no_proof; digits_within; cut_off
-nodes two.proof; nodes.digits two.digits; nodes short; nodes nodes""".replace("\n", "; ").split("; ")
+--program tally nodes two.proof; --program tally nodes.digits two.digits; --program tally nodes short; --program tally nodes nodes""".replace("\n", "; ").split("; ")
 
 
 def refusal(error):
@@ -60,11 +60,9 @@ def words_of(asked):
 
 
 def second(folder, asked):
-    """What check.py answers. Of a proof in a file of its own it tells the program and the directory with --why alone, in the first three lines."""
-    is_of_files = asked[-1].endswith((".proof", ".digits"))
-    done = subprocess.run([*SECOND, *["--why"] * is_of_files, *asked], cwd=folder, stdin=subprocess.DEVNULL, capture_output=True)
-    out = b"".join(done.stdout.splitlines(True)[:3]) if is_of_files else done.stdout
-    return done.returncode, out, refusal(done.stderr)
+    """What check.py answers."""
+    done = subprocess.run([*SECOND, *asked], cwd=folder, stdin=subprocess.DEVNULL, capture_output=True)
+    return done.returncode, done.stdout, refusal(done.stderr)
 
 
 def hold_asked(hold, run, build, folder, asked, **how):
@@ -76,7 +74,7 @@ def hold_asked(hold, run, build, folder, asked, **how):
 def hold_made(hold, run, build, folder):
     """A bundle that is made, of bytes and of digits, is read by both; of what convicts nobody none is made."""
     for files in (["nodes", "two.proof"], ["nodes.digits", "two.digits"]):
-        made = run([build, "bundle", "--directory", *files, "--output", "made"], cwd=folder)
+        made = run([build, "bundle", "--program", "tally", "--directory", *files, "--output", "made"], cwd=folder)
         hold(f"bundle of {files}", made == (0, b"", b""), made)
         with open(f"{folder}/made", "rb") as it:
             text = it.read()
@@ -87,7 +85,7 @@ def hold_made(hold, run, build, folder):
         hold_asked(hold, run, build, folder, ["made"])
         os.remove(f"{folder}/made")
     for words, number in ((["nodes", "nodes"], b"41"), (["two.proof", "two.proof"], b"23"), (["nodes", "none"], b"100"), (["nodes", "good"], b"41")):
-        status, out, error = run([build, "bundle", "--directory", *words, "--output", "made"], cwd=folder)
+        status, out, error = run([build, "bundle", "--program", "tally", "--directory", *words, "--output", "made"], cwd=folder)
         is_so = (status, out, refusal(error)[0]) == (1, b"", number) and not os.path.exists(f"{folder}/made")
         hold(f"bundle of {words}", is_so, (status, error))
 
@@ -107,7 +105,7 @@ def hold_bundles(hold, run, build):
                 found = run([build, *words_of(asked.split())], cwd=folder, stdin=other)
                 hold(f"check {asked}", found == (done.returncode, done.stdout, done.stderr), (found, done))
         with open(f"{folder}/two.proof", "rb") as it:
-            found = run([build, "check", "--directory", "nodes", "-"], cwd=folder, stdin=it)
+            found = run([build, "check", "--program", "tally", "--directory", "nodes", "-"], cwd=folder, stdin=it)
         told = b"exposes 2\nprogram tally\ndirectory %s\n" % hashlib.sha256(directory).hexdigest().encode()
         hold("a proof of standard input", found == (0, told, b""), found)
         found = run([build, "check", "two.proof"], cwd=folder)

@@ -1,4 +1,5 @@
-"""Fails each call of `bulwynef` on its files in turn, and holds each run to "refused, and nothing is left" or the right answer.
+"""Fails each call of `bulwynef` on its files in turn, and holds each run to "refused, and nothing is left" or the right answer. The calls by which an
+answer gets on the disk, and to its name, must be made.
 
 failing.c, loaded before the C library, fails the call: of each kind of call the first, then the second, and so on, until a run makes no more.
 Wants gcc. The calls of LLVM's build and of the other one are the same.
@@ -9,9 +10,8 @@ import re
 import subprocess
 
 HERE = os.path.dirname(os.path.abspath(__file__))
-KINDS = ["open", "read", "write", "fsync", "mkdir", "rename"]
 # By the kind of call that fails: the refusals that may be told of it.
-REFUSED = {"open": {100, 102}, "read": {100}, "write": {102}, "fsync": {102}, "mkdir": {102}, "rename": {102}}
+REFUSED = {"open": {100, 102}, "read": {100}, "write": {102}, "fsync": {102}, "fchmod": {102}, "mkdir": {102}, "rename": {102}}
 MOST = 200
 
 
@@ -61,18 +61,21 @@ def is_refused(kind, answer):
     return status == 1 and out == b"" and bool(told) and int(told[1]) in REFUSED[kind]
 
 
-def hold_calls(hold, devices, words):
-    """Each call of each kind fails: the run is refused, and what was there stays; or it does without."""
+def hold_calls(hold, devices, words, least):
+    """Each call of each kind fails: the run is refused, and what was there stays; or it does without. Of a kind that `least` has there are so many
+    calls at the least: a build that leaves them out, as one that has no new file on the disk before it takes its name, is not right."""
     right, left, _ = devices.made(words, "none 0")
     hold(f"{words[0]} on good devices", right[0] in (0, 3), right)
-    for kind in KINDS:
+    for kind in REFUSED:
         for number in range(1, MOST):
             answer, found, was_made = devices.made(words, f"{kind} {number}")
             if not was_made:
-                is_so = (answer, found) == (right, left) and (number > 1 or kind not in ("open", "read"))
-                hold(f"{words[0]}: {kind} {number} is not made", is_so, answer)
+                hold(f"{words[0]}: {kind} {number} is not made", (answer, found) == (right, left), answer)
+                hold(f"{words[0]}: {least.get(kind, 0)} calls of {kind} are made", number > least.get(kind, 0), number - 1)
                 break
             is_so = (is_refused(kind, answer) and found == devices.files) or (answer, found) == (right, left)
+            # Behind the answer's own writes stands what is told beside it, on standard error, which may be lost.
+            is_so = is_so or (kind == "write" and number > least["write"] and (answer[:2], found) == (right[:2], left))
             hold(f"{words[0]}: {kind} {number} fails", is_so, (answer, sorted(found)))
     for number in range(1, MOST):
         answer, found, was_made = devices.made(words, f"interrupted read {number}")
@@ -87,14 +90,17 @@ def hold_devices(hold, run, build, folder, files):
     library = make_library(folder)
     os.mkdir(f"{folder}/there")
     devices = Devices(run, build, library, f"{folder}/there", {**files, "old": b"what was there"})
-    on = ["--directory", "nodes", "--workers", "2"]
-    for words in (
-        ["status", *on, "items"],
-        ["merge", *on, "--output", "new", "items", "items"],
-        ["merge", *on, "--output", "old", "items"],
-        ["prove", *on, "--output", "new", "2", "items"],
-        ["explain", *on, "--html", "new", "items"],
-        ["show", "items"],
-        ["play", "--workers", "2", "--output", "played", "scenario"],
+    on = ["--program", "tally", "--directory", "nodes", "--workers", "2"]
+    told = {"open": 2, "read": 2, "write": 1}
+    whole = {"open": 3, "read": 2, "write": 1, "fsync": 1, "rename": 1}
+    for words, least in (
+        (["status", *on, "items"], told),
+        (["merge", *on, "--output", "new", "items", "items"], whole),
+        (["merge", *on, "--output", "old", "items"], {**whole, "fchmod": 1}),
+        (["prove", *on, "--output", "new", "2", "items"], whole),
+        (["explain", *on, "--html", "new", "items"], whole),
+        (["show", "items"], {"open": 1, "read": 1, "write": 1}),
+        # Two files, each of which is on the disk before the folder takes its name.
+        (["play", "--workers", "2", "--output", "played", "scenario"], {"open": 3, "read": 1, "write": 2, "fsync": 2, "mkdir": 1, "rename": 1}),
     ):
-        hold_calls(hold, devices, words)
+        hold_calls(hold, devices, words, least)

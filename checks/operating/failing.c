@@ -90,6 +90,10 @@ int fsync(int fd) {
     return fails("fsync") ? -1 : (int)syscall(SYS_fsync, fd);
 }
 
+int fchmod(int fd, mode_t mode) {
+    return fails("fchmod") ? -1 : (int)syscall(SYS_fchmod, fd, mode);
+}
+
 int mkdir(const char *name, mode_t mode) {
     return fails("mkdir") ? -1 : (int)syscall(SYS_mkdirat, AT_FDCWD, name, mode);
 }

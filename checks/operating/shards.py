@@ -11,18 +11,20 @@ those some lines must differ. Then what is to be refused: words, files, lines, i
 """
 
 import functools
+import hashlib
 import os
 import subprocess
 import sys
 import tempfile
 
 TOP = os.path.dirname(os.path.dirname(os.path.dirname(os.path.abspath(__file__))))
-sys.path.insert(0, f"{TOP}/second_opinion")
+sys.path[:0] = [f"{TOP}/second_opinion", f"{TOP}/checks"]
 sys.dont_write_bytecode = True
 
+from builds import builds_of
 from check import Reader, quote_of, read_directory, read_item, sized, u8, u32, u64
 
-BUILDS = sys.argv[1:] or [build for build in (f"{TOP}/crates/bulwynef/out/bulwynef{ending}" for ending in ("", ".by-rattle")) if os.path.isfile(build)]
+BUILDS = sys.argv[1:] or builds_of("bulwynef")
 COUNTS = (1, 2, 3, 8, 1024)
 
 failed = []
@@ -52,6 +54,10 @@ def write(path, data):
     with open(path, "wb") as file:
         file.write(data)
     return path
+
+
+def basis_of(directory):
+    return f"program tally\ndirectory {hashlib.sha256(directory).hexdigest()}\n".encode()
 
 
 def items_of(store):
@@ -122,31 +128,31 @@ def hold_split(what, build, folder, stores, count, width=None, directory=None):
 
 def hold_status(what, build, directory, stores, parts, flags):
     """The lines of each shard, of its own store alone, are those that all stores have."""
-    status, out, _ = run(build, "status", *flags, "--directory", directory, *stores)
+    status, out, _ = run(build, "status", "--program", "tally", *flags, "--directory", directory, *stores)
     lines = out.splitlines(keepends=True)
     for k, part in enumerate(parts):
-        ending, told, error = run(build, "status", "--part", f"{k}/{len(parts)}", *flags, "--directory", directory, part)
+        ending, told, error = run(build, "status", "--part", f"{k}/{len(parts)}", "--program", "tally", *flags, "--directory", directory, part)
         wanted = b"".join(line for line in lines if int(line.split()[0]) % len(parts) == k)
-        hold(f"{what}: status of {k}/{len(parts)}", (told, error) == (wanted, b"") and ending == (3 if b" exposed\n" in told else 0), (ending, told, error))
+        hold(f"{what}: status of {k}/{len(parts)}", (told, error) == (wanted, basis_of(read(directory))) and ending == (3 if b" exposed\n" in told else 0), (ending, told, error))
     hold(f"{what}: somebody is exposed or nobody", status == (3 if b" exposed\n" in out else 0), status)
 
 
 def hold_quotes(what, build, folder, directory, stores, count):
     """Where the statements that are quoted are left out, some shard does not say what all stores say."""
     items = {item: set(read_item(item).nodes) for store in stores for item in items_of(read(store))}
-    lines = run(build, "status", "--directory", directory, *stores)[1].splitlines(keepends=True)
+    lines = run(build, "status", "--program", "tally", "--directory", directory, *stores)[1].splitlines(keepends=True)
     differ = []
     for k in range(count):
         part = write(f"{folder}/wrong", store_of(item for item, nodes in items.items() if k in {node % count for node in nodes}))
-        told = run(build, "status", "--part", f"{k}/{count}", "--directory", directory, part)[1]
+        told = run(build, "status", "--part", f"{k}/{count}", "--program", "tally", "--directory", directory, part)[1]
         differ += [k] if told != b"".join(line for line in lines if int(line.split()[0]) % count == k) else []
     hold(f"{what} in {count}: quotes that are left out", differ != [])
 
 
 def hold_combined(what, build, folder, directory, stores, parts, flags):
     """The worst of the lines of all parts are those that all stores have."""
-    status, out, _ = run(build, "status", *flags, "--directory", directory, *stores)
-    files = [write(f"{folder}/{k}.lines", run(build, "status", *flags, "--directory", directory, part)[1]) for k, part in enumerate(parts)]
+    status, out, _ = run(build, "status", "--program", "tally", *flags, "--directory", directory, *stores)
+    files = [write(f"{folder}/{k}.lines", run(build, "status", "--program", "tally", *flags, "--directory", directory, part)[1]) for k, part in enumerate(parts)]
     hold(f"{what}: combined", run(build, "combine", "--directory", directory, *files) == (status, out, b""))
 
 
@@ -204,7 +210,7 @@ def hold_faults(build, folder, directory, store):
 
 
 def hold_line_faults(build, folder, directory, store):
-    told = run(build, "status", "--directory", directory, store)[1]
+    told = run(build, "status", "--program", "tally", "--directory", directory, store)[1]
     lines = told.splitlines(keepends=True)
     good = write(f"{folder}/good", told)
     wrong = {
@@ -222,7 +228,7 @@ def hold_line_faults(build, folder, directory, store):
     hold_refused("combine: a missing file", 100, b"/none: ", build, "combine", "--directory", directory, good, f"{folder}/none")
     hold_refused("combine: no directory", 23, b"/good: ", build, "combine", "--directory", good, good)
     for word in ("3/3", "0/0", "1", "1/1025", "-1/2", "a/2", "/", ""):
-        status, out, error = run(build, "status", "--part", word, "--directory", directory, store)
+        status, out, error = run(build, "status", "--part", word, "--program", "tally", "--directory", directory, store)
         hold(f"--part {word}", (status, out) == (2, b"") and error != b"", (status, error))
     listed = ("--directory", directory)
     for words in (("--by", "store"), ("--by", "range", "--width", "0"), ("--extract",), listed, ("--by", "range", "--extract", *listed)):
@@ -231,7 +237,6 @@ def hold_line_faults(build, folder, directory, store):
 
 
 def main():
-    hold("there is a build", bool(BUILDS))
     for build in BUILDS:
         for name, (directory, *stores) in examples():
             with tempfile.TemporaryDirectory() as folder:

@@ -128,19 +128,21 @@ def hold_json(hold, run, build, folder):
         directory = f"{files}/{name.removesuffix('.store')}.dir"
         directory = directory if os.path.isfile(directory) else f"{files}/nodes.dir"
         if name.endswith(".store"):
-            words = ["--directory", directory, f"{files}/{name}"]
+            words = ["--program", "tally", "--directory", directory, f"{files}/{name}"]
             lines, document = run([build, "status", *words]), run([build, "status", "--json", *words])
             rows = [line.split() for line in lines[1].decode().splitlines()]
-            told = {"nodes": [{"node": int(node), "indication": word} for node, word in rows]}
+            basis = {"program": "tally", "directory": hashlib.sha256(read(directory)).hexdigest()}
+            told = {**basis, "nodes": [{"node": int(node), "indication": word} for node, word in rows]}
+            hold(f"status of {name} tells the same basis", lines[2].decode() == "program {program}\ndirectory {directory}\n".format(**basis) and document[2] == b"", (lines, document))
             hold(f"status --json of {name}", document[0] == lines[0] and json.loads(document[1]) == told and document[1].endswith(b"}\n"), document)
-    found = run([build, "check", "--json", "--directory", f"{files}/nodes.dir", f"{files}/wrong_output.proof"])
+    found = run([build, "check", "--json", "--program", "tally", "--directory", f"{files}/nodes.dir", f"{files}/wrong_output.proof"])
     digest = hashlib.sha256(read(f"{files}/nodes.dir")).hexdigest()
     says = {"exposes": 2, "program": "tally", "directory": digest}
     hold("check --json", found[0] == 0 and json.loads(found[1]) == says and found[1].endswith(b"}\n") and found[2] == b"", found)
     text = read(f"{files}/wrong_output.bundle")
     for what, bundle, told in (("", text, says), (" that names another node", text.replace(b"\nexposes 2\n", b"\nexposes 77\n"), {**says, "exposes": 77})):
         status, out, error = run([build, "check", "--json", write(f"{folder}/bundle", bundle)])
-        is_told = (status, error) == (0, b"") and out.endswith(b"}}\n") and json.loads(out) == {**says, "bundle": told}
+        is_told = (status, error) == (0 if told == says else 5, b"") and out.endswith(b"}}\n") and json.loads(out) == {**says, "bundle": told}
         hold(f"check --json of a bundle{what}", is_told, (status, out, error))
 
 
@@ -152,7 +154,7 @@ def hold_play(hold, run, build, folder):
     found = run([build, "play", scenario, "--output", out])
     names = ["nodes.dir", "witness.0.store", "witness.1.store"]
     hold("play", found == (0, b"", b"") and sorted(os.listdir(out)) == names, found)
-    reports = [run([build, "status", "--directory", f"{out}/nodes.dir", f"{out}/witness.{place}.store"]) for place in (0, 1)]
+    reports = [run([build, "status", "--program", "tally", "--directory", f"{out}/nodes.dir", f"{out}/witness.{place}.store"]) for place in (0, 1)]
     told = b"".join(b"witness %d\n%s" % (place, report[1]) for place, report in enumerate(reports))
     wanted = run([NODE_SIM, "run"], stdin=open(scenario, "rb"))
     is_same = read(f"{out}/witness.0.store") == read(f"{out}/witness.1.store")

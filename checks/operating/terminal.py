@@ -49,7 +49,7 @@ def make_stores(program, folder):
 
 
 def words_of(command, folder, *more):
-    return [command, "--directory", f"{folder}/nodes", "--workers", "1", *more, f"{folder}/00.store", f"{folder}/01.store"]
+    return [command, "--program", "tally", "--directory", f"{folder}/nodes", "--workers", "1", *more, f"{folder}/00.store", f"{folder}/01.store"]
 
 
 class Terminal:
@@ -123,9 +123,11 @@ def hold_no_line(program, folder):
     with Terminal() as terminal:
         terminal.say(f"clear; {shell_words(program, words_of('status', folder))} 2>{folder}/errors | tail -n 1; echo ended with $?")
         seen, _ = terminal.watch(600, ended)
-        hold("no line where standard error is a file", seen == [] and os.path.getsize(f"{folder}/errors") == 0, seen)
+        with open(f"{folder}/errors", "rb") as it:
+            told = it.read()
+        hold("no line where standard error is a file", seen == [] and re.fullmatch(rb"program tally\ndirectory [0-9a-f]{64}\n", told), (seen, told))
         examples = f"{TOP}/examples"
-        terminal.say(f"clear; {program} status --directory {examples}/nodes.dir {examples}/two_witnesses.1.store; echo ended with $?")
+        terminal.say(f"clear; {program} status --program tally --directory {examples}/nodes.dir {examples}/two_witnesses.1.store; echo ended with $?")
         seen, screen = terminal.watch(60, ended)
         hold("no line where it takes no two seconds", seen == [] and "3 trusted" in screen, screen)
     os.remove(f"{folder}/errors")

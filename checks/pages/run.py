@@ -123,7 +123,7 @@ def explained(program, text, what, *words):
             with open(name, 'wb') as out:
                 out.write(bytes.fromhex(line.decode()))
         evidence = ['--proof', names[1]] if what == 'proof' else [names[1]]
-        ran = subprocess.run([program, 'explain', '--directory', names[0], *words, *evidence], stdout=subprocess.PIPE)
+        ran = subprocess.run([program, 'explain', '--program', 'tally', '--directory', names[0], *words, *evidence], stdout=subprocess.PIPE)
     need(ran.returncode in (0, 3), program, *words, 'ended with', ran.returncode)
     return ran.stdout
 
@@ -192,7 +192,7 @@ def hold_text(name, text, facts):
     linked = set()
     for (number, indication, sentences), node in zip(nodes, shown):
         words = node['heading'].split()
-        need(words[:2] == ['Node', str(number)] and words[-1] == indication, name, node['heading'], number, indication)
+        need(words[:2] == ['Node', str(number)] and words[3] == indication, name, node['heading'], number, indication)
         need([s['text'] for s in node['sentences']] == sentences, name, [s['text'] for s in node['sentences']], sentences)
         for sentence in node['sentences']:
             for mark in sentence['marks']:

@@ -6,6 +6,8 @@
 The runtime and the allocator (`rt`, `alloc`), which each call that needs them is handed, are not counted. breadth.txt has a line for each
 function that is broader: its crate, its name, its arguments and its clauses. The script fails where the sources have others: so a broad
 function is seen when it comes. With `list` it writes what the sources have; the list is to get shorter.
+
+It fails too where a function begins as none that `HEAD` knows, by which promises.py and definitions.py find functions as well.
 """
 import re
 import sys
@@ -13,10 +15,12 @@ from pathlib import Path
 
 sys.dont_write_bytecode = True
 
+from promises import HEAD
+
 TOP = Path(__file__).resolve().parents[2]
 LISTED = Path(__file__).resolve().parent / "breadth.txt"
 MOST_ARGUMENTS, MOST_CLAUSES = 6, 8
-HEAD = re.compile(r"^(?P<indent> *)(?:pub(?:\([a-z]+\))? )?(?:final )?fn (?P<name>\w+)", re.M)
+ANY_HEAD = re.compile(r'^(?!\s*//)(?:[^"\n]|"C")*\bfn (?P<name>\w+)\s*[<(]', re.M)
 CLAUSE = re.compile(r"^\s+(?:requires|ensures) ", re.M)
 
 
@@ -64,12 +68,25 @@ def functions_of(text):
         yield match["name"], arguments_of(text[place:end]), len(CLAUSE.findall(text[end : end + body.start()]))
 
 
+def sources():
+    """Each file of code, with its crate and its text."""
+    for path in sorted((TOP / "crates").glob("*/src/**/*.rt")):
+        yield path, path.relative_to(TOP / "crates").parts[0], path.read_text(encoding="utf-8")
+
+
+def unknown_heads():
+    """The functions that begin as none that is known."""
+    for path, _, text in sources():
+        for match in ANY_HEAD.finditer(text):
+            if not HEAD.match(text, match.start()):
+                yield f"{path.relative_to(TOP)}: no script sees the function {match['name']}: promises.py does not know how it begins"
+
+
 def broad():
     """What the sources have: the arguments and clauses of each function that is too broad, by its crate and name; and how many there are in all."""
     found, count = {}, 0
-    for path in sorted((TOP / "crates").glob("*/src/**/*.rt")):
-        crate = path.relative_to(TOP / "crates").parts[0]
-        for name, arguments, clauses in functions_of(path.read_text(encoding="utf-8")):
+    for _, crate, text in sources():
+        for name, arguments, clauses in functions_of(text):
             count += 1
             if arguments > MOST_ARGUMENTS or clauses > MOST_CLAUSES:
                 known = found.get((crate, name), (0, 0))
@@ -98,7 +115,7 @@ def main():
     if sys.argv[1:] == ["list"]:
         lines = [f"{crate} {name} {arguments} {clauses}\n" for (crate, name), (arguments, clauses) in sorted(found.items())]
         LISTED.write_text("".join(lines), encoding="utf-8")
-    faults = list(faults_of(found, listed()))
+    faults = [*unknown_heads(), *faults_of(found, listed())]
     print(*faults, sep="\n", end="\n" if faults else "")
     if not faults:
         print(f"of {count} functions {len(found)} have more than six arguments or eight clauses, as listed")

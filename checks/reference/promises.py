@@ -19,7 +19,8 @@ PAGES = ["README.md", "docs/PROMISES.md"]
 SHORT = 100  # the letters of a clause that cites no definition and stands on the page itself
 MADE = TOP / "docs" / "promises"
 
-FUNCTION = re.compile(r"^(\s*)(?:pub(?:\(crate\))? )?(?:final )?(?:const )?(?:unsafe )?(?:extern \"C\" )?fn (\w+)", re.M)
+# The head of a function: its indent, whether it is public, whether C calls it, and its name. breadth.py holds that no function has another.
+HEAD = re.compile(r'^(?P<indent> *)(?P<pub>pub(?:\([a-z]+\))? )?(?:final )?(?:const )?(?:unsafe )?(?P<export>extern "C" )?fn (?P<name>\w+)', re.M)
 OWNER = re.compile(r"^(?:pub(?:\(crate\))? )?(?:unsafe )?(?:impl|trait)\b(?:<[^{]*?>)?\s*([^{]*)\{?", re.M)
 CLAUSE = re.compile(r"\b(?:ensures|requires)\s+(\w+)\s*\{")
 TYPE = re.compile(r"\b(?:struct|enum|trait|type|const|static|mod|macro_rules!) (\w+)|^\s*(\w+)(?:\(.*?\)|\s*\{.*?\})?,\s*$|^\s*pub (\w+):|\bghost (\w+)\b", re.M)
@@ -57,13 +58,13 @@ class Sources:
         for match in TYPE.finditer(text):
             self.names[crate].update(name for name in match.groups() if name)
         owners = [(match.start(), words_of(match[1])) for match in OWNER.finditer(text)]
-        found = list(FUNCTION.finditer(text))
+        found = list(HEAD.finditer(text))
         for at, match in enumerate(found):
             end = found[at + 1].start() if at + 1 < len(found) else len(text)
-            inside = [words for start, words in owners if start < match.start()] if match[1] else []
+            inside = [words for start, words in owners if start < match.start()] if match["indent"] else []
             owner = inside[-1] if inside else set()
             clauses = set(CLAUSE.findall(text[match.start() : end]))
-            self.calls[match[2]].append((crate, owner | {path.stem, path.parent.name, crate}, clauses))
+            self.calls[match["name"]].append((crate, owner | {path.stem, path.parent.name, crate}, clauses))
 
     def calls_of(self, path):
         """The calls that `a::b` names."""
@@ -197,9 +198,9 @@ class Crate:
                 owner = block
             elif line == "}":
                 owner = None
-            call = re.match(r"(\s*)(pub )?(?:final )?(?:const )?(?:unsafe )?fn (\w+)", line)
-            if call and (not call[1] or owner):
-                self.read_call(lines, at, module, owner if call[1] else None, call, words)
+            call = HEAD.match(line)
+            if call and call["pub"] in (None, "pub ") and (not call["indent"] or owner):
+                self.read_call(lines, at, module, owner if call["indent"] else None, call, words)
 
     def read_types(self, lines, module):
         for at, line in enumerate(lines):
@@ -210,15 +211,16 @@ class Crate:
     def read_call(self, lines, at, module, owner, call, words):
         trait = owner and owner["trait"]
         kind = owner and (owner["type"] or owner["named"])
-        is_open = bool(call[2]) or bool(owner and (owner["named"] or trait)) or self.is_program
+        is_open = bool(call["pub"]) or bool(owner and (owner["named"] or trait)) or self.is_program
         names = [kind, *re.findall(r"^\w+", trait or "")] if kind else []
-        if not is_open or not (any(name in self.kinds for name in names) if kind else self.lets(call[3], module)):
+        is_seen = any(name in self.kinds for name in names) if kind else call["export"] or self.lets(call["name"], module)
+        if not is_open or not is_seen:
             return
         clauses = clauses_of(head_of(lines, at))
         if (trait or self.is_program) and not any(kind == "ensures" for kind, *_ in clauses):
             return
         before = f"{kind}::" if kind else f"{module}::" if module in self.open else ""
-        path = f"{trait} for {kind}: {call[3]}" if trait else before + call[3]
+        path = f"{trait} for {kind}: {call['name']}" if trait else before + call["name"]
         cited = [(word, name, [words[found] for found in re.findall(r"[\w'-]+", text) if found in words], said, text) for word, name, text, said in clauses]
         for _, _, found, *_ in cited:
             self.words.update({name: (crate, file) for crate, file, name in found})

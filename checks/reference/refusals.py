@@ -1,9 +1,11 @@
 #!/usr/bin/env python3
-"""Holds the table of refusals in docs/FORMATS.md, that of C in c/refusals.h and the names in python/bulwynef/errors.py to the sources;
-where they differ it says so and ends with status 1. With the word `write` it writes the first two anew.
+"""Holds the table of refusals in docs/FORMATS.md, that of C in c/refusals.h and the names in python/bulwynef/errors.py and in
+second_opinion/check.py to the sources; where they differ it says so and ends with status 1. With the word `write` it writes the first two
+anew.
 
-Each enum of faults gives a variant's number and name by `number` and `name`, and a line for a person. A row has a number and a name,
-the line of the lowest crate that tells it, and the types that do. `Reason` is why a log deviates, and no refusal. Crates come as in crates.txt, lowest first.
+Each enum of faults gives a variant's number and name by `number` and `name`, and a line for a person. A program may also tell a refusal by a
+text of its own, `"refused NUMBER NAME: {file}: LINE"`. A row has a number and a name, the line of the lowest crate that tells it, and the types
+or programs that do. A number has one name. `Reason` is why a log deviates, and no refusal. Crates come as in crates.txt, lowest first.
 """
 
 import re
@@ -19,6 +21,9 @@ HEADER = TOP / "c" / "refusals.h"
 
 ARM = re.compile(r"((?:\w+::\w+(?:\(_\))?\s*\|\s*)*\w+::\w+(?:\(_\))?)\s*=>\s*(\d+|\"\w+\")")
 VARIANT = re.compile(r"(\w+)::(\w+)")
+# A refusal in a text: its number and name, places, and the line for a person
+TEXT = re.compile(r'"refused (\d+) (\w+)(?:: \{\w+\}|\{\w+\})*: ([^"{}]+)"')
+ANY_TEXT = re.compile(r"refused \d")
 LINE = re.compile(r'((?:^\s*///.*\n)*)(?:^\s*#\[error\("([^"]*)"\)\]\n)?^\s*(\w+)(?:\(\w+\))?,$', re.M)
 
 
@@ -55,7 +60,28 @@ def refusals():
                     continue
                 row = rows.setdefault((number, name), ([], lines_of(text, kind).get(variant, "")))
                 row[0].append(f"`{crate}::{kind}`")
+            for number, name, line in TEXT.findall(text):
+                row = rows.setdefault((int(number), name), ([], line))
+                row[0].append(f"`{crate}`")
     return rows
+
+
+def faults_of_texts():
+    """The texts that tell a refusal otherwise than `TEXT`."""
+    for crate in crates():
+        for path in sorted((TOP / "crates" / crate / "src").glob("**/*.rt")):
+            code = re.sub(r"^\s*//.*", "", path.read_text(encoding="utf-8"), flags=re.M)
+            if len(ANY_TEXT.findall(code)) != len(TEXT.findall(code)):
+                yield f"{path.relative_to(TOP)}: a text tells a refusal, and not as `refused NUMBER NAME: {{file}}: LINE`"
+
+
+def faults_of_numbers(rows):
+    names = {}
+    for number, name in rows:
+        names.setdefault(number, []).append(name)
+    for number, found in names.items():
+        if len(found) > 1:
+            yield f"the sources give {number} the names {' and '.join(found)}"
 
 
 def table():
@@ -81,22 +107,37 @@ def faults_of_header(wanted, write):
 
 def faults_of_python(rows):
     text = (TOP / "python" / "bulwynef" / "errors.py").read_text(encoding="utf-8")
-    found = re.findall(r'^    (\d+): \("(\w+)"', text, re.M)
+    found = [(int(number), name) for number, name in re.findall(r'^    (\d+): \("(\w+)"', text, re.M)]
+    yield from unknown("python/bulwynef/errors.py", found, rows)
+    for (number, name), (kinds, _) in rows.items():
+        if "`byte_calls::Refusal`" in kinds and (number, name) not in found:
+            yield f"python/bulwynef/errors.py: lacks {number} {name}, which calls tell"
+
+
+def faults_of_check(rows):
+    text = (TOP / "second_opinion" / "check.py").read_text(encoding="utf-8")
+    names = re.search(r'^NAMES = """(.*?)"""', text, re.M | re.S)
+    found = [(int(number), name) for number, name in re.findall(r"(\d+) (\w+)", names[1] if names else "")]
+    yield from unknown("second_opinion/check.py", found, rows)
+
+
+def unknown(place, found, rows):
+    """The refusals that the sources lack."""
     for number, name in found:
-        if (int(number), name) not in rows:
-            yield f"python/bulwynef/errors.py: the sources have no refusal {number} {name}"
+        if (number, name) not in rows:
+            yield f"{place}: the sources have no refusal {number} {name}"
     if not found:
-        yield "python/bulwynef/errors.py: no refusal is found"
+        yield f"{place}: no refusal is found"
 
 
 def main():
     write = sys.argv[1:] == ["write"]
     rows, wanted = refusals(), table()
-    faults = [*faults_of_header(header(rows), write), *faults_of_python(rows)]
+    faults = [*faults_of_texts(), *faults_of_numbers(rows), *faults_of_header(header(rows), write), *faults_of_python(rows), *faults_of_check(rows)]
     print(*faults, sep="\n", end="\n" if faults else "")
     if not Part(PAGE, "checks/reference/refusals.py").held_to(wanted, write) or faults:
         return 1
-    print(f"{PAGE} has the sources' {len(rows)} refusals, and so have C and Python")
+    print(f"{PAGE} has the sources' {len(rows)} refusals, and so have C, Python and check.py")
     return 0
 
 

@@ -12,7 +12,7 @@ import sys
 from nodes import Key, sha256, u8, u32, u64
 from transfers import container
 
-TESTS = os.path.join(os.path.dirname(os.path.abspath(__file__)), "..", "..", "crates", "witness_workers_tests", "src", "calls.rt")
+TESTS = os.path.join(os.path.dirname(os.path.abspath(__file__)), "..", "..", "crates", "thread_tests", "src", "workers", "calls.rt")
 
 
 def statement(key, byte):

@@ -13,8 +13,8 @@ from nodes import Key, sha256, u8, u32, u64
 from stores import ZEROS, Keys
 
 CRATES = os.path.join(os.path.dirname(os.path.abspath(__file__)), "..", "..", "crates")
-TRANSFER = os.path.join(CRATES, "transfer_tests", "src", "calls.rt")
-WITNESSES = os.path.join(CRATES, "witness_core_tests", "src", "spreading.rt")
+TRANSFER = os.path.join(CRATES, "witness_tests", "src", "transfers", "calls.rt")
+WITNESSES = os.path.join(CRATES, "witness_tests", "src", "worlds", "spreading.rt")
 RANDOM = bytes([9]) * 32
 
 

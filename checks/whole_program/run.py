@@ -3,7 +3,7 @@
 
 What the engine writes for an input is proved over any reader and writer. That `main` hands the real ones to it, prints a refusal and
 ends with the right status is shown here: each run names its input, its words, and what must come out. Both builds are run, that of LLVM
-and that of Rattle's own compiler, where they are there. Wants crates/node_sim/out/node_sim, and beside it mailbox_sim, which `rt ci` and `rt run` leave.
+and that of Rattle's own compiler, of node_sim, mailbox_sim and bulwynef, which `rt ci` leaves (builds.py).
 """
 
 import itertools
@@ -17,12 +17,12 @@ import threading
 import time
 
 TOP = os.path.dirname(os.path.dirname(os.path.dirname(os.path.abspath(__file__))))
-sys.path.insert(0, f"{TOP}/checks/reference")
+sys.path[:0] = [f"{TOP}/checks/reference", f"{TOP}/checks"]
 sys.dont_write_bytecode = True
 
 import transfers
+from builds import builds_of
 
-BUILDS = [f"{TOP}/crates/node_sim/out/node_sim{ending}" for ending in ("", ".by-rattle")]
 LONGEST_INPUT = 67_108_864
 # Wishes of the users of mailbox_sim, and the moments that they stand for, each with its node.
 MOMENTS = [
@@ -136,6 +136,16 @@ def beside(build, program):
     return f"{TOP}/crates/{program}/out/{program}{os.path.basename(build).removeprefix('node_sim')}"
 
 
+def under(folder, command):
+    """What `bulwynef` tells on standard error behind an answer that names neither its program nor its directory."""
+    words = command.split()
+    if words[:2] not in (["bulwynef", "status"], ["bulwynef", "prove"]) or "2>&1" in words:
+        return ""
+    with open(f"{folder}/{words[words.index('--directory') + 1]}", "rb") as file:
+        directory = transfers.sha256(file.read())
+    return f"program {words[words.index('--program') + 1]}\ndirectory {directory.hex()}\n"
+
+
 def page(build):
     """The page of examples, command by command, in a copy of their folder."""
     with tempfile.TemporaryDirectory() as folder:
@@ -147,7 +157,8 @@ def page(build):
             done = subprocess.run(["bash", "-c", "\n".join(commands)], cwd=f"{folder}/examples", env=words, capture_output=True)
             got = (done.returncode, done.stdout.decode(), done.stderr.decode())
             ends = (0, 3, 4) if "bulwynef" in commands[-1] else (0,)
-            yield f"the page of examples: {commands[-1]}", got, lambda got, want=want, ends=ends: got[0] in ends and got[1:] == (want, "")
+            told = want, "".join(under(f"{folder}/examples", command) for command in commands)
+            yield f"the page of examples: {commands[-1]}", got, lambda got, told=told, ends=ends: got[0] in ends and got[1:] == told
 
 
 def other_program(build):
@@ -290,10 +301,7 @@ def probing_loops(build):
 
 
 def main():
-    builds = [it for it in BUILDS if os.path.isfile(it)]
-    if not builds:
-        print("no build of node_sim: rt ci or rt run makes one")
-        return 2
+    builds = builds_of("node_sim")
     if shutil.which("objdump") is None:
         print("objdump, of Debian's binutils, is wanted: it shows how the build probes the stack")
         return 2

@@ -13,11 +13,11 @@ if [ ! -f "$folder/nodes" ]; then
 fi
 timed() { /usr/bin/time -f "$1: %e s, processor %U + %S s, %M KB" "${@:2}"; }
 uptime
-timed "status of four files" "$program" status --directory "$folder/nodes" --workers 4 "$folder"/0[0-3].store > "$work/half"
-timed "status of eight files" "$program" status --directory "$folder/nodes" --workers 4 "$folder"/0[0-7].store > "$work/whole"
+timed "status of four files" "$program" status --program tally --directory "$folder/nodes" --workers 4 "$folder"/0[0-3].store > "$work/half"
+timed "status of eight files" "$program" status --program tally --directory "$folder/nodes" --workers 4 "$folder"/0[0-7].store > "$work/whole"
 timed "split of eight files" "$program" split --parts 64 --output "$work/p" "$folder"/0[0-7].store > "$work/counts"
 export program folder work
 seq 0 63 > "$work/numbers"
-timed "status of 64 shards" xargs -a "$work/numbers" -P 4 -I{} sh -c '"$program" status --directory "$folder/nodes" --workers 1 --part {}/64 "$work/p.{}-of-64" > "$work/told.{}"'
+timed "status of 64 shards" xargs -a "$work/numbers" -P 4 -I{} sh -c '"$program" status --program tally --directory "$folder/nodes" --workers 1 --part {}/64 "$work/p.{}-of-64" > "$work/told.{}"'
 sort -n "$work"/told.* | cmp - <(sort -n "$work/whole")
 uptime

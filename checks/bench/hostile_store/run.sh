@@ -24,6 +24,13 @@ measure within 20000
 measure audits 50000
 measure pairs 50000
 measure messages 20000
+measure closing 40000
+measure late 40000
+measure sinking 40000
+measure early 40000
+measure alternating 20000
+measure ending 20000
+measure exposing 20000
 measure checkpoints 800
 measure timers 800
 for count in 50000 100000 200000; do "$work/hostile_store" whole "$count"; done
