@@ -3,16 +3,19 @@
 
     library.py            over the libraries that `rt ci` left, which takes minutes; where one is missing, older than its text, or of `rt lib`
                           or `rt check`, it runs `rt lib`, which proves what is missing or has changed
+    library.py --beside   beside `rt ci`, begun before it: it waits for each library that `rt ci` makes below it, and makes the static library
+                          while `rt ci` goes on. It ends with 1 where whoever began it ends first
     library.py --left     right behind `rt ci`, over what that left, however old: a library that was proved before is a link, and has its old time.
                           Where one is missing, or of `rt lib` or `rt check`, it ends with 1
 
-But for --left, a library that is younger than all that it is made of stays as it is.
+A static library that is younger than all that it is made of stays as it is.
 """
 
 import os
 import shutil
 import subprocess
 import sys
+import time
 
 TOP = os.path.dirname(os.path.dirname(os.path.abspath(__file__)))
 CRATES = f"{TOP}/crates"
@@ -55,6 +58,26 @@ def is_fresh(made, crate):
     return os.path.exists(made) and os.path.getmtime(made) > youngest_source(crate)
 
 
+def is_made_since(crate, begun):
+    """Whether `rt ci` made the library since then. rattle gives it its name once it is whole."""
+    return os.path.lexists(rlib(crate)) and os.lstat(rlib(crate)).st_ctime >= begun
+
+
+def are_awaited(crates):
+    """Waits for the libraries, as long as whoever began this is there."""
+    begun, parent = time.time(), os.getppid()
+    while not all(is_made_since(crate, begun) for crate in crates):
+        if os.getppid() != parent:
+            return False
+        time.sleep(2)
+    return True
+
+
+def is_made_over(crates):
+    """Whether the static library is younger than its text, and than the libraries as they lie there."""
+    return is_fresh(MADE, NAME) and all(os.path.getmtime(MADE) > os.lstat(rlib(crate)).st_ctime for crate in crates)
+
+
 def is_left_by_ci(crate):
     """Whether the library is there, without the stamp by which `rt lib` knows those that it made itself."""
     return os.path.isdir(rlib(crate)) and not os.path.exists(f"{CRATES}/{crate}/out/rlib/stamp")
@@ -63,7 +86,7 @@ def is_left_by_ci(crate):
 def build(of, crates):
     """The static library over the libraries as they lie there. rattle proves the crate before it compiles it."""
     kit = os.path.dirname(os.path.dirname(os.path.realpath(shutil.which("rt"))))
-    words = ["--crate-name", NAME, "src/lib.rt", "--crate-type", "staticlib", "--backend", "llvm", "--jobs", str(min(4, os.cpu_count() or 1))]
+    words = ["--crate-name", NAME, "src/lib.rt", "--crate-type", "staticlib", "--backend", "llvm", "--jobs", "1"]
     for name in of[NAME]:
         words += ["--extern", f"{name}={rlib(name) if name in of else f'{kit}/rlibs/{name}.rlib'}"]
     if "std" not in of[NAME]:
@@ -79,17 +102,19 @@ def build(of, crates):
 def main():
     of = uses()
     crates = below(NAME, of)
+    if sys.argv[1:] == ["--beside"]:
+        return build(of, crates) if are_awaited(crates) else 1
     others = [crate for crate in crates if not is_left_by_ci(crate)]
     if sys.argv[1:] == ["--left"]:
         if others:
             print(f"library.py made nothing: rt ci left no library of {' '.join(others)}")
             return 1
-        return build(of, crates)
-    if others or not all(is_fresh(rlib(crate), crate) for crate in crates):
+    elif others or not all(is_fresh(rlib(crate), crate) for crate in crates):
         return subprocess.run(["rt", "lib"], cwd=f"{CRATES}/{NAME}").returncode
-    youngest = max(os.path.getmtime(rlib(crate)) for crate in crates)
-    is_made = is_fresh(MADE, NAME) and os.path.getmtime(MADE) > youngest
-    return 0 if is_made else build(of, crates)
+    if is_made_over(crates):
+        print(f"library.py: {os.path.relpath(MADE, TOP)} is made over these libraries")
+        return 0
+    return build(of, crates)
 
 
 if __name__ == "__main__":
