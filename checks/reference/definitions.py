@@ -38,10 +38,8 @@ HEADLINE = [
     ("evidence/src/evidence.rt", ["Evidence"]),
     ("witness_core/src/running.rt", ["run"]),
     ("witness_core/src/laws.rt", ["took_members", "replies_are_one", "stops_are_one", "takers_are_equal"]),
-    (
-        "evidence_set/src/laws.rt",
-        ["sets_have_one_text", "joins_are_least_upper_bounds", "indications_are_one", "forgeries_are_unsigned", "collisions_are_of_two_texts"],
-    ),
+    ("evidence_set/src/laws.rt", ["joins_are_least_upper_bounds", "indications_are_one", "forgeries_are_unsigned", "collisions_are_of_two_texts"]),
+    ("evidence/src/laws.rt", ["sets_have_one_text"]),
     ("accuracy/src/laws.rt", ["honest_nodes_are_not_exposed", "texts_are_hashed"]),
     ("accuracy/src/exposing.rt", ["exposes"]),
 ]
@@ -63,13 +61,31 @@ class Use:
         self.here = [pair[-1] for pair in pairs] or [alias or self.path[-1]]
 
 
+def passes_on(path):
+    """Whether a file of specs/ has nothing of its own, and passes on what others have."""
+    lines = read(path) if path.is_file() else []
+    return any(line.startswith("pub use ") for line in lines) and all(not line or line.startswith(("--", "pub use ")) for line in lines)
+
+
+def origins(use):
+    """The import, or those of the files whose words a file passes on."""
+    path = CRATES / use.crate / "specs" / f"{use.path[0]}.antt"
+    if not passes_on(path):
+        return [use]
+    found = []
+    for other in uses(read(path)):
+        pairs = [f"{name} as {here}" for name, here in zip(use.names, use.here) if name in other.here]
+        found += [Use(other.crate, ".".join(other.path), ", ".join(pairs), None)] if pairs else []
+    return found
+
+
 def uses(lines):
     """The imports from crates of this repository."""
     found = []
     for line in lines:
         match = USE.match(line)
         if match and (CRATES / match[1]).is_dir():
-            found.append(Use(*match.groups()))
+            found += origins(Use(*match.groups()))
         assert match or not re.match(r"\s*(pub )?(ghost )?use Rattle\.\w+\.specs", line), line
     return found
 
@@ -77,7 +93,7 @@ def uses(lines):
 def specs_of(crate):
     """The files of specs/ but for those of private words and those that only list others."""
     names = ((path.stem, path) for path in sorted((CRATES / crate / "specs").glob("*.antt")))
-    return {name: path for name, path in names if name not in ("Lib", "within")}
+    return {name: path for name, path in names if name not in ("Lib", "within") and not passes_on(path)}
 
 
 class Sources:

@@ -7,7 +7,7 @@ use Rattle.page_text.specs.Pages.{IsPage}
 use Rattle.proofs.specs.declared.proof.Parts.{Parts}
 use Rattle.proofs.specs.Convicting.{Convicts}
 use Rattle.proofs.specs.ProofTexts.{proof_of}
-use Rattle.evidence_set.specs.Exports.{export_of}
+use Rattle.evidence.specs.Exports.{export_of}
 use Rattle.sentences.specs.declared.basis.Basis.{Basis}
 use Rattle.sentences.specs.declared.site.Input.TheVariants as kind
 use Rattle.commands.specs.declared.fault.Fault.{Fault}

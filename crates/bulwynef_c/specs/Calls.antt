@@ -14,12 +14,12 @@ use Rattle.item_forms.specs.declared.forms.Fields.{Fields}
 use Rattle.item_forms.specs.declared.forms.Fields.TheVariants as form
 use Rattle.item_forms.specs.Spelling.{Fits, spelling}
 use Rattle.lms_sign.specs.Signing.{PrivateKey}
-use Rattle.commitment.specs.declared.message.Message.{Message}
+use Rattle.item_forms.specs.Messages.{Message}
 use Rattle.commitment.specs.Keyrings.{leaves_left}
 use Rattle.commitment.specs.Nodes.{NodeState, checkpointed, rekeyed}
 use Rattle.containers.specs.CheckedItems.{checked_of}
 use Rattle.containers.specs.Container.{import_of}
-use Rattle.evidence_set.specs.Exports.{export_of, magic_of, set_text}
+use Rattle.evidence.specs.Exports.{export_of, magic_of, set_text}
 use Rattle.evidence_set.specs.Indications.{IsExposed, IsIndication}
 use Rattle.evidence_set.specs.ItemSets.{Items, IsWithin, Join, count}
 use Rattle.evidence_set.specs.declared.indication.Indication.{Indication}

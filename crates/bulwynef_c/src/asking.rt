@@ -1,7 +1,7 @@
 //! Stores of evidence behind handles: what they are asked.
 
 ghost use Rattle.std.specs.Prelude.{◌≡◌, ◌⊎◌, ⊤, IfErr, IfOk, None, Some, false, is_some, true};
-ghost use Rattle.evidence_set.specs.Exports.{export_of};
+ghost use Rattle.evidence.specs.Exports.{export_of};
 ghost use Rattle.byte_calls.specs.declared.refusal.Refusal.TheVariants.{Memory, NotExposed, OtherKind};
 ghost use Rattle.byte_calls.specs.Stores.{IsUnansweredAt};
 ghost use Rattle.bulwynef_c.specs.Calls.{ChallengeFails, ConvictsBy, Includes, Indicates, IndicationFails, ProofFails, flag, number_of};

@@ -99,7 +99,7 @@ fn tick(object: &mut Object, moment: u64, entropy: &[u8]) -> Result<(), Refusal>
 }
 
 /// `uint8_t bulwynef_node_timer(struct bulwynef_handle *node, uint64_t moment, const uint8_t *entropy, size_t entropy_len)`: the
-/// node's timer ticks. What it sends waits ([`bulwynef_node_waiting`](crate::messages::bulwynef_node_waiting)).
+/// node's timer ticks. What it sends waits ([`bulwynef_node_waiting`](crate::speaking::bulwynef_node_waiting)).
 #[unsafe(no_mangle)]
 pub extern "C" fn bulwynef_node_timer(
     alloc: Global,

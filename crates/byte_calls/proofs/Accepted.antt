@@ -8,9 +8,9 @@ use Rattle.authenticators.specs.Directory.{Listing}
 use Rattle.authenticators.specs.Statement.{TestsStatements}
 use Rattle.commitment.specs.declared.fault.NodeFault.{NodeFault}
 use Rattle.commitment.specs.declared.fault.NodeFault.TheVariants.{BadAck}
-use Rattle.commitment.specs.declared.message.Ack.{Ack}
-use Rattle.commitment.specs.declared.message.Message.{Message}
-use Rattle.commitment.specs.Messages.{is_same_message, is_valid_ack, received_hash}
+use Rattle.messages.specs.declared.message.Ack.{Ack}
+use Rattle.messages.specs.declared.message.Message.{Message}
+use Rattle.messages.specs.Messages.{is_same_message, is_valid_ack, received_hash}
 use Rattle.commitment.specs.Nodes.{NodeState, accepts, accepts_for}
 use Rattle.item_forms.specs.declared.forms.AckItem.{AckItem}
 use Rattle.evidence_item.specs.Validity.{IsValidAckItem}

@@ -9,9 +9,9 @@ use Rattle.lms_sign.specs.KeyText.{key_text}
 use Rattle.authenticators.specs.Directory.{Listing, keys_at}
 use Rattle.authenticators.specs.DirectoryText.{directory_of}
 use Rattle.replay_verifier.specs.Meaning.{Meaning}
-use Rattle.commitment.specs.declared.message.Message.{Message}
+use Rattle.messages.specs.declared.message.Message.{Message}
 use Rattle.commitment.specs.Accounts.{acknowledged}
-use Rattle.commitment.specs.Messages.{is_same_message}
+use Rattle.messages.specs.Messages.{is_same_message}
 use Rattle.commitment.specs.Nodes.{NodeState, begins_by, new_node, ticked}
 use Rattle.item_forms.specs.declared.forms.AckItem.{AckItem}
 use Rattle.item_forms.specs.declared.forms.Fields.{Fields}

@@ -14,10 +14,10 @@ use crate::refusal::Refusal;
 use authenticators::laws::node_fits;
 use authenticators::{Authenticator, NodeId};
 use challenges::{ChallengeFault, audit_challenge as demand_log, send_challenge as demand_ack};
-use commitment::Message;
 use item_forms::{AckItem, AuditChallenge, Fields, Form, Item, Segment, Statement};
 use log_chain::laws::{bytes_fit, hash_fits};
 use log_chain::{ByteString, Hash, chain_end};
+use messages::Message;
 use std::alloc::Global;
 
 // ---- statements

@@ -8,7 +8,7 @@ ghost use Rattle.proofs.specs.Convicting.{Convicts};
 ghost use Rattle.proofs.specs.ProofTexts.{proof_text};
 ghost use Rattle.evidence_item.specs.Checking.{IsChecked};
 ghost use Rattle.item_forms.specs.Spelling.{spelling};
-ghost use Rattle.evidence_set.specs.Exports.{export_of, magic_of, set_text};
+ghost use Rattle.evidence.specs.Exports.{export_of, magic_of, set_text};
 ghost use Rattle.evidence_set.specs.Indications.{IsExposed, IsIndication};
 ghost use Rattle.evidence_set.specs.ItemSets.{Items, Join, count};
 ghost use Rattle.evidence.specs.Contents.{with_items};

@@ -5,7 +5,7 @@ use Rattle.std.proofs.lemmas.Bool.{eq-eqb}
 use Rattle.std.proofs.lemmas.List.Elements.{Contains-append_cases}
 use Rattle.authenticators.specs.declared.authenticator.Authenticator.{Authenticator}
 use Rattle.authenticators.specs.Directory.{Listing}
-use Rattle.commitment.specs.declared.message.Message.{Message}
+use Rattle.messages.specs.declared.message.Message.{Message}
 use Rattle.commitment.specs.Accounts.{stamp}
 use Rattle.commitment.specs.Nodes.{NodeState}
 use Rattle.item_forms.specs.declared.forms.AuditChallenge.{AuditChallenge}

@@ -8,7 +8,7 @@ use Rattle.containers.specs.CheckedItems.{checked_of}
 use Rattle.containers.specs.Container.{CutOff, Faulty, Refusal, container_of, kept_on}
 use Rattle.containers.specs.Refusals.{Refuses}
 use Rattle.evidence.specs.Importing.{RefusedPiecesStay, fed_by, import_set}
-use Rattle.evidence_set.specs.Exports.{magic_of}
+use Rattle.evidence.specs.Exports.{magic_of}
 
 kept_text : (text t : List ℕ) (r : Result (List Fields) Refusal) → kept_on text r ≡ Ok t → text ≡ t
 kept_text text t (Ok items) e = Ok-inj {E = ImportFault} text t e

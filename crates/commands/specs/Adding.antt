@@ -1,7 +1,8 @@
 -- What reading a store's text into a store adds to it.
 use Rattle.std.specs.Prelude.{◌≡◌, ◌<◌, ◌^◌, ℕ, List, ◌++◌, Ok}
 use Rattle.item_forms.specs.declared.forms.Fields.{Fields}
-use Rattle.evidence_set.specs.Exports.{AreValid, magic_of, set_text}
+use Rattle.evidence.specs.Exports.{magic_of, set_text}
+use Rattle.evidence_set.specs.Valid.{AreValid}
 use Rattle.evidence_set.specs.ItemSets.{Items, Join, count}
 use Rattle.evidence.specs.Contents.{Contents, with_items}
 use Rattle.commands.specs.Inputs.{AreItems, store_of}

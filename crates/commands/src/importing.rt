@@ -7,7 +7,7 @@ ghost use Rattle.containers.specs.Feeding.{Feeds};
 ghost use Rattle.containers.specs.Refusals.{Refuses};
 ghost use Rattle.evidence.specs.Contents.{with_items};
 ghost use Rattle.evidence.specs.Importing.{fed_by, import_set};
-ghost use Rattle.evidence_set.specs.Exports.{magic_of, set_text};
+ghost use Rattle.evidence.specs.Exports.{magic_of, set_text};
 ghost use Rattle.evidence_set.specs.ItemSets.{Items, Join};
 
 use crate::pending::{LONGEST_STRIDE, Pending};

@@ -4,15 +4,15 @@ use Rattle.std.proofs.lemmas.List.{append-nil}
 use Rattle.log_chain.specs.History.{unless}
 use Rattle.commitment.specs.declared.fault.NodeFault.{NodeFault}
 use Rattle.commitment.specs.declared.fault.NodeFault.TheVariants.{BadAck, NumberTaken}
-use Rattle.commitment.specs.declared.message.Ack.{Ack}
-use Rattle.commitment.specs.declared.message.Heard.{Heard}
-use Rattle.commitment.specs.declared.message.Message.{Message}
+use Rattle.messages.specs.declared.message.Ack.{Ack}
+use Rattle.commitment.specs.declared.heard.Heard.{Heard}
+use Rattle.messages.specs.declared.message.Message.{Message}
 use Rattle.commitment.specs.Accounts.{Account, acknowledged, all_sent, logged, randomizer, received, sender_of, sent_next}
 use Rattle.commitment.specs.Calls.{Given, Receive, Tick, Checkpoint, Acknowledge, Rekey, after_call, first_of_three_or_old, first_or_old, or_old, some_or_old}
 use Rattle.commitment.specs.Growing.{CallsOnlyAdd, GrowsTo, OnlyAdds}
 use Rattle.commitment.specs.Keyrings.{Keyring, next_ring}
 use Rattle.commitment.specs.Limits.{room_fault}
-use Rattle.commitment.specs.Messages.{is_same_message, is_valid_ack}
+use Rattle.messages.specs.Messages.{is_same_message, is_valid_ack}
 use Rattle.commitment.specs.Nodes.{NodeState, accepts_for, begun_block, heard_of, message_fault, receipt, receives_new, receives_or, receives_unless, rekeyed_by, setting, tick, ticked}
 use Rattle.replay_verifier.specs.declared.output.Output.{Output}
 use Rattle.replay_verifier.specs.Conforming.{Act, sent_by}

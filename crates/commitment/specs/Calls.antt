@@ -1,8 +1,8 @@
 -- What a node is given by a call, and what it is after it.
 use Rattle.std.specs.Prelude.{ℕ, List, Option, Some, None, Result, Ok, Err}
 use Rattle.lms_sign.specs.Signing.{PrivateKey}
-use Rattle.commitment.specs.declared.message.Ack.{Ack}
-use Rattle.commitment.specs.declared.message.Message.{Message}
+use Rattle.messages.specs.declared.message.Ack.{Ack}
+use Rattle.messages.specs.declared.message.Message.{Message}
 use Rattle.commitment.specs.Nodes.{NodeState, accepts, checkpointed, receives, rekeyed, ticked}
 use Rattle.replay_verifier.specs.Meaning.{Meaning}
 

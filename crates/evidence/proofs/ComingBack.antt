@@ -1,6 +1,6 @@
 -- What is exported comes back.
 use Rattle.std.proofs.Common.{◌≡◌, ℕ, ◌<◌, ◌^◌, refl, sym, ap, subst, ◌∙◌}
-use Rattle.evidence_set.specs.Exports.{SetsHaveOneText, export_of, magic}
+use Rattle.evidence.specs.Exports.{SetsHaveOneText, export_of, magic}
 use Rattle.evidence_set.specs.ItemSets.{Items, Has, IsWithin, Join, JoinsAreLeastUpperBounds, SetsAsExpected, count, none}
 use Rattle.item_forms.specs.Pieces.{Piece}
 use Rattle.evidence.specs.Contents.{Contents, with_items}

@@ -19,7 +19,8 @@ use Rattle.containers.specs.CheckedItems.{checked_of, fields_of as checked_field
 use Rattle.containers.specs.Container.{CutOff, Faulty, Refusal, as_fault, container_of, fed_with, import_of, kept_on}
 use Rattle.containers.specs.Feeding.{AreItems, Feeding, Feeds, IsReadUnder, import_fed}
 use Rattle.containers.specs.Refusals.{IsBehindFront, IsOfItems, fault_at}
-use Rattle.evidence_set.specs.Exports.{IsTextOf, SetsHaveOneText, fields_of, magic, magic_of, old_magic}
+use Rattle.evidence.specs.Exports.{IsTextOf, SetsHaveOneText, magic, magic_of, old_magic}
+use Rattle.evidence_set.specs.Valid.{fields_of}
 use Rattle.evidence_set.specs.ItemSets.{pieces}
 use Rattle.containers.proofs.Staying.{faults_stay}
 use Rattle.evidence.specs.Importing.{RefusedPiecesStay, fed_by, import_set, imported_under}

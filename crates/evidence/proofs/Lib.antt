@@ -1,2 +1,3 @@
 mod ComingBack
 mod Importing
+pub mod SetTexts

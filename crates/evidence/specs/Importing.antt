@@ -7,7 +7,8 @@ use Rattle.containers.specs.declared.fault.Cause.{Cause}
 use Rattle.containers.specs.declared.fault.ImportFault.{ImportFault}
 use Rattle.containers.specs.CheckedItems.{checked_of}
 use Rattle.containers.specs.Container.{container_of, import_of, kept_on}
-use Rattle.evidence_set.specs.Exports.{AreValid, export_of, fields_of, magic_of, set_text}
+use Rattle.evidence.specs.Exports.{export_of, magic_of, set_text}
+use Rattle.evidence_set.specs.Valid.{AreValid, fields_of}
 use Rattle.evidence_set.specs.ItemSets.{Items, Join, count, listed, none}
 use Rattle.evidence.specs.Contents.{Contents, with_items}
 

@@ -1,4 +1,5 @@
 pub mod Contents
+pub mod Exports
 pub mod Importing
 pub mod Refusals
 pub mod within

@@ -6,7 +6,7 @@ ghost use Rattle.containers.specs.declared.fault.ImportFault.{ImportFault as The
 ghost use Rattle.containers.specs.CheckedItems.{checked_of};
 ghost use Rattle.containers.specs.Feeding.{Feeds};
 ghost use Rattle.containers.specs.Refusals.{IsOfItems, Refuses};
-ghost use Rattle.evidence_set.specs.Exports.{magic_of, set_text};
+ghost use Rattle.evidence.specs.Exports.{magic_of, set_text};
 ghost use Rattle.evidence_set.specs.ItemSets.{Items, Join, count};
 ghost use Rattle.evidence.specs.Contents.{with_items};
 ghost use Rattle.evidence.specs.Importing.{fed_by, imported};

@@ -7,14 +7,14 @@ ghost use Rattle.item_forms.specs.Pieces.{by_bytes};
 ghost use Rattle.evidence_item.specs.Checking.{IsChecked};
 ghost use Rattle.containers.specs.declared.fault.Cause.TheVariants as cause;
 ghost use Rattle.containers.specs.Refusals.{IsBehindFront, Refuses};
-ghost use Rattle.evidence_set.specs.Exports.{magic_of, set_text};
+ghost use Rattle.evidence.specs.Exports.{magic_of, set_text};
 ghost use Rattle.evidence_set.specs.ItemSets.{pieces, set_of};
 ghost use Rattle.evidence.specs.Importing.{import_set};
 
+use crate::laws::sets_have_one_text;
 use authenticators::Directory;
 use containers::{ImportFault, read_all};
 use evidence_item::Checked;
-use evidence_set::laws::sets_have_one_text;
 use log_chain::laws::bytes_fit;
 use replay_verifier::Program;
 use std::alloc::Global;

@@ -11,18 +11,18 @@ ghost use Rattle.containers.specs.declared.fault.ImportFault.{ImportFault as The
 ghost use Rattle.containers.specs.CheckedItems.{checked_of};
 ghost use Rattle.containers.specs.Feeding.{Feeds};
 ghost use Rattle.containers.specs.Refusals.{IsOfItems};
-ghost use Rattle.evidence_set.specs.Exports.{magic_of, set_text};
+ghost use Rattle.evidence.specs.Exports.{magic_of, set_text};
 ghost use Rattle.evidence_set.specs.ItemSets.{pieces, set_of};
 ghost use Rattle.evidence.specs.Importing.{fed_by, imported_under};
 ghost use Rattle.containers.specs.Rest.{ItemReader};
 ghost use Rattle.evidence.specs.within.Stages.{GoesOn, IsBegun, IsOpen, IsShort, IsStage, fed_of};
 
+use crate::laws::sets_have_one_text;
 use crate::set_text::magic_of;
 use arrayvec::ArrayVec;
 use authenticators::Directory;
 use containers::{Cause, ImportFault, Reading};
 use evidence_item::Checked;
-use evidence_set::laws::sets_have_one_text;
 use replay_verifier::Program;
 use std::alloc::Global;
 

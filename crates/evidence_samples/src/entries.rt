@@ -1,8 +1,8 @@
 //! Entries of logs, and the log of node 2.
 
-use commitment::Message;
 use log_chain::kind::{CHECKPOINT, INIT, RECV, TIMER};
 use log_chain::{ByteString, Entry, Hash, base_hash, chain_end};
+use messages::Message;
 use std::alloc::Global;
 use std::test::Fail;
 

@@ -3,11 +3,11 @@
 use crate::entries::{ZEROS, entries_of_log, entry, hash_in_log, receipt};
 use crate::nodes::Signer;
 use authenticators::{Authenticator, NodeId};
-use commitment::Message;
 use evidence_item::Item;
 use item_forms::Statement;
 use log_chain::kind::{CHECKPOINT, INIT};
 use log_chain::{ByteString, Entry, Hash, base_hash, chain_end};
+use messages::Message;
 use std::alloc::Global;
 use std::test::Fail;
 

@@ -8,7 +8,7 @@ use Rattle.commitment.specs.Accounts.{Stamp, stamp}
 use Rattle.item_forms.specs.declared.forms.Fields.TheVariants as form
 use Rattle.item_forms.specs.Pieces.{Piece}
 use Rattle.evidence_item.specs.Statements.{IsSigned}
-use Rattle.evidence_set.specs.Exports.{AreValid}
+use Rattle.evidence_set.specs.Valid.{AreValid}
 use Rattle.evidence_set.specs.Held.{IsHeld}
 use Rattle.evidence_set.specs.ItemSets.{Items, IsWithin, insert, none}
 

@@ -1,10 +1,10 @@
 //! A demand to acknowledge a message, and items beside it, which answer it or do not.
 
-use commitment::Message;
 use evidence_item::Item;
 use evidence_samples::{Nodes, Signer, Start, make_nodes, turned};
 use evidence_set::Indication;
 use evidence_store::{Evidence, IndexedStore, PlainStore};
+use messages::Message;
 use ref_programs::Tally;
 use std::alloc::Global;
 use std::test::Fail;

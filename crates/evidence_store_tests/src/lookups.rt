@@ -1,10 +1,10 @@
 //! Demands to acknowledge messages, beside each other: an answer closes those of its number, whatever came first.
 
 use authenticators::NodeId;
-use commitment::Message;
 use evidence_item::Item;
 use evidence_samples::{Nodes, Signer, Start, make_nodes};
 use evidence_store::{Evidence, IndexedStore, PlainStore};
+use messages::Message;
 use ref_programs::Tally;
 use std::alloc::Global;
 use std::test::Fail;

@@ -8,7 +8,7 @@ use Rattle.replay_verifier.specs.Meaning.{Meaning}
 use Rattle.page_text.specs.Pages.{IsPage}
 use Rattle.proofs.specs.Convicting.{Convicts}
 use Rattle.sha2.specs.Sha256.{sha256}
-use Rattle.evidence_set.specs.Exports.{export_of}
+use Rattle.evidence.specs.Exports.{export_of}
 use Rattle.evidence.specs.Contents.{Contents}
 use Rattle.proofs.specs.declared.proof.Parts.{Parts}
 use Rattle.sentences.specs.declared.basis.Basis.{Basis}

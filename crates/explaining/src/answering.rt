@@ -8,9 +8,9 @@ use crate::reading::{ReadStore, read_listing, read_proof, read_store};
 use crate::refusal::Refusal;
 use crate::saying::{ReadProof, listing_text, proof_text, store_text};
 use crate::words::{Request, Subject};
+use commands::Store;
 use commands::fault::Fault;
 use explanations::Voice;
-use indexed_store::IndexedStore;
 use replay_verifier::Program;
 use std::alloc::Global;
 
@@ -23,19 +23,8 @@ fn of_stores<P: Program, V: Voice>(
 ) -> Result<Vec<u8>, Refusal>
     ensures { Answers (λ text. text.items) (ExplainStores is_page followed.now.name.now P.means) input.items result }
 {
-    let read: ReadStore<IndexedStore<P>> = read_store(
-        alloc,
-        followed.program,
-        followed.name,
-        input,
-    )?;
-    let text = store_text::<P, IndexedStore<P>, V>(
-        alloc,
-        followed,
-        is_page,
-        &read.basis,
-        &read.store,
-    )?;
+    let read: ReadStore<Store<P>> = read_store(alloc, followed.program, followed.name, input)?;
+    let text = store_text::<P, Store<P>, V>(alloc, followed, is_page, &read.basis, &read.store)?;
     Ok(text)
 }
 

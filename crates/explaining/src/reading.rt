@@ -3,7 +3,8 @@
 ghost use Rattle.std.specs.Prelude.{◌≡◌, ◌<◌, ◌^◌, [], IfErr, IfOk, IsOk, MatchResult, Ok, OnOk, map};
 ghost use Rattle.outcome.specs.Outcome.{Fails, told_as};
 ghost use Rattle.authenticators.specs.DirectoryText.{directory_of};
-ghost use Rattle.evidence_set.specs.Exports.{AreValid, export_of};
+ghost use Rattle.evidence.specs.Exports.{export_of};
+ghost use Rattle.evidence_set.specs.Valid.{AreValid};
 ghost use Rattle.evidence_set.specs.ItemSets.{count};
 ghost use Rattle.proofs.specs.ProofTexts.{proof_of};
 ghost use Rattle.commands.specs.Adding.{AddsStore};

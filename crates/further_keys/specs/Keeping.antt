@@ -15,7 +15,7 @@ use Rattle.evidence_item.specs.Validity.{IsValid}
 use Rattle.proofs.specs.declared.proof.Parts.{Parts}
 use Rattle.proofs.specs.declared.proof.Parts.TheVariants as parts
 use Rattle.proofs.specs.Convicting.{Convicts}
-use Rattle.evidence_set.specs.Exports.{AreValid}
+use Rattle.evidence_set.specs.Valid.{AreValid}
 use Rattle.evidence_set.specs.Indications.{Denies, DoesNotConform, SaysTwo}
 use Rattle.evidence_set.specs.ItemSets.{Items}
 use Rattle.further_keys.specs.FurtherKeys.{HasFurtherKeys}

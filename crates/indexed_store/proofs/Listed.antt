@@ -5,8 +5,9 @@ use Rattle.std.specs.Prelude.{slice_get}
 use Rattle.std.specs.List.{Contains, flat_map}
 use Rattle.item_forms.specs.Spelling.{spelling}
 use Rattle.containers.specs.Container.{container_text}
-use Rattle.evidence_set.specs.Exports.{AreValid, export_of, magic}
-use Rattle.kept_evidence.proofs.Listed.{text_is}
+use Rattle.evidence.specs.Exports.{export_of, magic}
+use Rattle.evidence_set.specs.Valid.{AreValid}
+use Rattle.kept_evidence.proofs.Listed.{texts_are}
 use Rattle.item_forms.specs.Pieces.{Piece}
 use Rattle.evidence_item.specs.Checking.{Checked}
 use Rattle.item_forms.specs.declared.forms.Fields.{Fields}
@@ -78,7 +79,7 @@ text_of f lent items order is lends =
     (spelled f lent
     ∙ ap (map (λ (x : Piece). spelling x.fields)) (lends ∙ lent_at items order ∙ ap (flat_map named_item) is.places ∙ lent_kept is.kept)
     ∙ sym (spelled (λ (c : Checked). c.item) is.kept))
-    ∙ sym (text_is is.kept is.ascending)
+    ∙ sym (ap (container_text magic) (texts_are is.kept is.ascending))
     ∙ ap export_of (one_set is.kept items (kept_items items order is) is.covers)
 
 -- ---- lending

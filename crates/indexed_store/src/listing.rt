@@ -4,7 +4,7 @@ ghost use Rattle.std.specs.Prelude.{◌≡◌, ◌++◌, ℕ, IfOk, IfSome, OnOk
 ghost use Rattle.std.specs.List.{Contains, flat_map};
 ghost use Rattle.item_digests.specs.Digests.{digest_of};
 ghost use Rattle.evidence_item.specs.Checking.{Checked as TheChecked};
-ghost use Rattle.evidence_set.specs.Exports.{export_of};
+ghost use Rattle.evidence.specs.Exports.{export_of};
 ghost use Rattle.evidence_set.specs.ItemSets.{count, listed, set_of};
 ghost use Rattle.node_tables.specs.Places.{named_item};
 ghost use Rattle.indexed_store.specs.within.Digested.{AreDigests};

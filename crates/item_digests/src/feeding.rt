@@ -9,8 +9,8 @@ ghost use Rattle.item_forms.specs.Forms.{shown};
 ghost use Rattle.item_forms.specs.Spelling.{Fits, FitsAck, FitsAudit, FitsAuth, FitsEntry, FitsMessage, FitsSegment, FitsStatement, ack_spelling, audit_spelling, auth_spelling, entry_spelling, message_spelling, optional_spelling, segment_spelling, spelling, statement_spelling};
 ghost use Rattle.item_digests.specs.Feeding.{Feeds};
 
-use commitment::Message;
 use item_forms::{AckItem, AuditChallenge, Authenticator, Entry, Form, Hash, Segment, Statement};
+use messages::Message;
 use sha2::{Digest, Sha256};
 
 /// Hashes one byte more.

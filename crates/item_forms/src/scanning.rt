@@ -12,7 +12,7 @@ use crate::fault::DecodeFault;
 use crate::item::Item;
 use authenticators::LONGEST_SIGNATURE_TEXT;
 use log_chain::{FieldReader, LONGEST_CONTENT, MOST_ENTRIES};
-use replay_verifier::LONGEST_PAYLOAD;
+use messages::LONGEST_PAYLOAD;
 
 #[tactic(auto, using(crate::proofs::Skipped::field_lends), unfolding(crate::specs::Reading::statement_at))]
 fn skip_statement(reader: &mut FieldReader) -> Result<(), DecodeFault>

@@ -9,7 +9,7 @@ use Rattle.log_chain.specs.declared.entry.Entry.{Entry}
 use Rattle.log_chain.specs.declared.kind.TheConstants.{RECV}
 use Rattle.replay_verifier.specs.Deviation.{quoted_hash, quoted_hashes, quotes_genuinely}
 use Rattle.replay_verifier.specs.Quotes.{Quote, receipt_of, signed_hash}
-use Rattle.commitment.specs.declared.message.Message.{Message}
+use Rattle.item_forms.specs.Messages.{Message}
 use Rattle.replay_verifier.specs.Meaning.{Meaning}
 use Rattle.replay_verifier.specs.ReplayLaws.{DeviatingListsDoNotConform}
 use Rattle.item_forms.specs.declared.forms.Fields.{Fields}

@@ -5,9 +5,7 @@ use Rattle.std.specs.List.{Contains, list_all}
 use Rattle.std.proofs.lemmas.Option.{slice_get-get_or, slice_get-map, slice_get_past}
 use Rattle.item_forms.specs.Pieces.{Piece}
 use Rattle.item_forms.specs.Spelling.{spelling}
-use Rattle.containers.specs.Container.{container_text}
 use Rattle.evidence_item.specs.Checking.{Checked}
-use Rattle.evidence_set.specs.Exports.{export_of, magic}
 use Rattle.evidence_set.specs.ItemSets.{IsWithin, contains, listed, pieces, set_of}
 use Rattle.kept_evidence.specs.Kept.{IsAscending, Keeps, is_kept}
 use Rattle.kept_evidence.proofs.Added.{listed_is}
@@ -32,16 +30,14 @@ at kept n c d up inside is =
     let some : slice_get kept n ≡ Some c = slice_get-get_or kept n d inside ∙ ap Some (sym is) in
     (sym (item_is kept n up ∙ ap (option_map (λ (c : Checked). c.item)) some), sym some)
 
--- ---- the text
+-- ---- the texts
 
 texts : (kept : List Checked) → map (λ (x : Piece). spelling x.fields) (pieces kept) ≡ map (λ (c : Checked). spelling c.item.fields) kept
 texts [] = refl
 texts (c ∷ kept) = ap (λ (l : List (List ℕ)). spelling c.item.fields ∷ l) (texts kept)
 
-pub text_is : (kept : List Checked) → IsAscending kept → export_of (set_of kept) ≡ container_text magic (map (λ (c : Checked). spelling c.item.fields) kept)
-text_is kept up =
-    ap (λ (xs : List Piece). container_text magic (map (λ (x : Piece). spelling x.fields) xs)) (listed_is kept up)
-    ∙ ap (container_text magic) (texts kept)
+pub texts_are : (kept : List Checked) → IsAscending kept → map (λ (x : Piece). spelling x.fields) (listed (set_of kept)) ≡ map (λ (c : Checked). spelling c.item.fields) kept
+texts_are kept up = ap (λ (xs : List Piece). map (λ (x : Piece). spelling x.fields) xs) (listed_is kept up) ∙ texts kept
 
 -- ---- one item
 

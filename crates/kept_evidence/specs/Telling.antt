@@ -4,7 +4,7 @@ use Rattle.std.specs.List.{Contains, cons_option, list_any}
 use Rattle.log_chain.specs.declared.entry.Entry.{Entry}
 use Rattle.authenticators.specs.declared.authenticator.Authenticator.{Authenticator}
 use Rattle.authenticators.specs.StatementSet.{Conflict, NoConflictOf}
-use Rattle.commitment.specs.declared.message.Message.{Message}
+use Rattle.item_forms.specs.Messages.{Message}
 use Rattle.replay_verifier.specs.declared.verdict.Verdict.{Verdict}
 use Rattle.replay_verifier.specs.declared.verdict.Verdict.TheVariants as verdict
 use Rattle.replay_verifier.specs.Quotes.{Quote, receipt_of}

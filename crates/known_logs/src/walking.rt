@@ -3,9 +3,8 @@
 use crate::detail::Detail;
 use crate::rows::Place;
 use authenticators::{Authenticator, NodeId};
-use commitment::Message;
 use evidence_item::{Checked, Findings};
-use item_forms::{AckItem, AuditChallenge, Form, Segment, Statement};
+use item_forms::{AckItem, AuditChallenge, Form, Message, Segment, Statement};
 use log_chain::kind::{RECV, SEND};
 use log_chain::{Entry, Hash};
 use outcome::Memory;

@@ -6,7 +6,7 @@ use Rattle.std.specs.Ordering.{ordering_index}
 use Rattle.std.specs.declared.cmp.Ordering.{Ordering}
 use Rattle.std.specs.declared.cmp.Ordering.TheVariants.{Less, Equal, Greater}
 use Rattle.std.proofs.lemmas.Bool.{cases_lt}
-use Rattle.commitment.specs.declared.message.Message.{Message}
+use Rattle.item_forms.specs.Messages.{Message}
 use Rattle.item_forms.specs.Groups.{Acknowledgements, ItemGroup, group_cmp}
 use Rattle.item_forms.proofs.GroupOrders.{groups_ascend, groups_hold}
 use Rattle.authenticators.proofs.AscendingLists.{below_at}

@@ -6,7 +6,7 @@ use Rattle.std.proofs.lemmas.Bool.Decides.{Decides-eqb}
 use Rattle.std.proofs.lemmas.Option.{same_Some}
 use Rattle.item_forms.specs.declared.forms.Fields.{Fields}
 use Rattle.item_forms.specs.declared.forms.Fields.TheVariants as form
-use Rattle.commitment.specs.declared.message.Message.{Message}
+use Rattle.item_forms.specs.Messages.{Message}
 use Rattle.evidence_item.specs.declared.findings.Findings.{Findings}
 use Rattle.evidence_item.specs.Checking.{Checked, is_segment}
 use Rattle.item_forms.specs.declared.forms.AuditChallenge.{AuditChallenge}

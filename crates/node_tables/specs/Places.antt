@@ -4,7 +4,7 @@ use Rattle.std.specs.List.{Contains}
 use Rattle.std.specs.Prelude.{◌≡◌, ℕ, Bool, true, false, List, Option, Some, None, Err, slice_get, map, ◌==◌, ◌≤◌, length, if◌then◌else◌, [], ◌∷◌}
 use Rattle.std.specs.declared.cmp.Ordering.TheVariants.{Greater}
 use Rattle.std.specs.declared.cmp.Ordering.{Ordering}
-use Rattle.commitment.specs.declared.message.Message.{Message}
+use Rattle.item_forms.specs.Messages.{Message}
 use Rattle.item_forms.specs.Groups.{Acknowledgements, IsInGroup}
 use Rattle.item_forms.specs.Pieces.{Piece, by_bytes}
 use Rattle.evidence_item.specs.Checking.{Checked}

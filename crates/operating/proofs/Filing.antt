@@ -2,7 +2,7 @@
 use Rattle.std.proofs.Common.{◌≡◌, ◌≢◌, ◌+◌, ◌<◌, ◌≤◌, ◌⊎◌, ◌∙◌, ℕ, List, Option, inl, inr, sym, subst, arith}
 use Rattle.std.proofs.lemmas.Bool.{cases_lt}
 use Rattle.std.specs.Io.KnownBytes.{Appends}
-use Rattle.evidence_set.specs.Exports.{export_of}
+use Rattle.evidence.specs.Exports.{export_of}
 use Rattle.evidence_set.specs.ItemSets.{Items}
 use Rattle.shards.specs.declared.dealing.Dealing.{Dealing}
 use Rattle.commands.specs.declared.fault.Fault.{Fault}

@@ -6,7 +6,7 @@ use Rattle.authenticators.specs.Directory.{Listing}
 use Rattle.authenticators.specs.DirectoryText.{directory_text}
 use Rattle.replay_verifier.specs.Meaning.{Meaning}
 use Rattle.evidence.specs.Contents.{Contents}
-use Rattle.evidence_set.specs.Exports.{export_of}
+use Rattle.evidence.specs.Exports.{export_of}
 use Rattle.parallel_checking.specs.declared.limits.TheConstants.{MOST_WORKERS}
 use Rattle.scenario_run.specs.Witnesses.{IsWitness}
 use Rattle.scenarios.specs.Scenarios.{Script}

@@ -2,7 +2,7 @@
 use Rattle.std.specs.Prelude.{ℕ, zero, suc, ◌≡◌, ◌⊎◌, ◌<◌, List, [], ◌++◌, codes, decimal, Option}
 use Rattle.std.specs.Io.KnownBytes.{Appends}
 use Rattle.item_forms.specs.Pieces.{Piece}
-use Rattle.evidence_set.specs.Exports.{export_of}
+use Rattle.evidence.specs.Exports.{export_of}
 use Rattle.evidence_set.specs.ItemSets.{Items, count, insert_all, none}
 use Rattle.localities.specs.Parts.{part_of}
 use Rattle.shards.specs.declared.dealing.Dealing.{Dealing}

@@ -2,7 +2,7 @@
 use Rattle.std.specs.Prelude.{ℕ, ◌≡◌, ◌⊎◌, List, map, None, Option, Ok}
 use Rattle.authenticators.specs.DirectoryText.{directory_text}
 use Rattle.evidence.specs.Contents.{Contents}
-use Rattle.evidence_set.specs.Exports.{export_of}
+use Rattle.evidence.specs.Exports.{export_of}
 use Rattle.scenarios.specs.Scenarios.{Script, scenario_of}
 use Rattle.simulation.specs.Fixtures.{directory_of}
 use Rattle.commands.specs.declared.fault.Fault.{Fault}

@@ -11,7 +11,7 @@ use Rattle.authenticators.specs.Directory.{keys_at}
 use Rattle.replay_verifier.specs.Meaning.{Meaning}
 use Rattle.proofs.specs.Cases.{Case}
 use Rattle.proofs.specs.ProofTexts.{proof_text}
-use Rattle.evidence_set.specs.Exports.{export_of}
+use Rattle.evidence.specs.Exports.{export_of}
 use Rattle.evidence_set.specs.Indications.{IsExposed, IsIndication}
 use Rattle.evidence_set.specs.ItemSets.{Items}
 use Rattle.evidence_set.specs.declared.indication.Indication.{Indication}

@@ -7,7 +7,7 @@ use Rattle.containers.specs.Container.{import_of}
 use Rattle.containers.specs.DecodedItems.{decoded_of}
 use Rattle.containers.specs.Refusals as container
 use Rattle.authenticators.specs.Directory.{Listing}
-use Rattle.evidence_set.specs.Exports.{magic_of}
+use Rattle.evidence.specs.Exports.{magic_of}
 use Rattle.evidence_set.specs.ItemSets.{Items, insert_all, none}
 use Rattle.localities.specs.Shards.{in_turn}
 use Rattle.shards.specs.Extracts.{AddsQuotes}

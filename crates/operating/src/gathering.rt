@@ -2,7 +2,7 @@
 
 ghost use Rattle.std.specs.Prelude.{◌≡◌, ◌+◌, ◌<◌, ◌≤◌, ◌^◌, IfErr, IfOk, IfSome, IsSome, List, None, Ok, OnOk, Some, option_map, option_to_list, suc, ℕ};
 ghost use Rattle.authenticators.specs.DirectoryText.{directory_of};
-ghost use Rattle.evidence_set.specs.Exports.{AreValid};
+ghost use Rattle.evidence_set.specs.Valid.{AreValid};
 ghost use Rattle.evidence_set.specs.ItemSets.{count, none};
 ghost use Rattle.commands.specs.Adding.{AddsStore};
 ghost use Rattle.commands.specs.within.OwnFaults.{IsOwn};

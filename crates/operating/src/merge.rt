@@ -9,10 +9,10 @@ use crate::asking::{Answer, Ending, Gathered, Question, Reading, ask};
 use crate::files::Opener;
 use crate::refusal::Refusal;
 use crate::watching::StoreWatcher;
+use commands::Store;
 use commands::device::Sink;
 use commands::fault::Fault;
 use evidence::Evidence;
-use indexed_store::IndexedStore;
 use replay_verifier::Program;
 use std::alloc::Global;
 use std::thread::Threads;
@@ -47,7 +47,5 @@ where
     requires room { HasRoom stores (O.seen opener.old) (W.seen writer.old) }
     ensures { RanOnStores Merge reading.now.limits.most_bytes stores result (O.seen opener.old) (O.seen opener.new) W.seen writer.old writer.new }
 {
-    ask::<R, P, IndexedStore<P>, Merging, O, F, W>(
-        reading, &Merging, opener, stores, watcher, writer,
-    )
+    ask::<R, P, Store<P>, Merging, O, F, W>(reading, &Merging, opener, stores, watcher, writer)
 }

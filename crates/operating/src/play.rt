@@ -2,7 +2,7 @@
 
 ghost use Rattle.std.specs.Prelude.{◌≡◌, ◌⊎◌, ◌<◌, ◌^◌, IfErr, IfOk, List, MatchResult, None, Ok, OnOk, map, ℕ};
 ghost use Rattle.authenticators.specs.DirectoryText.{directory_text};
-ghost use Rattle.evidence_set.specs.Exports.{export_of};
+ghost use Rattle.evidence.specs.Exports.{export_of};
 ghost use Rattle.scenarios.specs.Scenarios.{Script, scenario_of};
 ghost use Rattle.commands.specs.declared.fault.Fault.TheVariants as fault;
 ghost use Rattle.commands.specs.Scenarios.{IsNone, IsOfRun};
@@ -13,9 +13,9 @@ ghost use Rattle.operating.specs.Plays.{AreLeft, RefusesPlay};
 use crate::files::{Limits, Opener};
 use crate::reading::read_said;
 use crate::refusal::Refusal;
+use commands::Store;
 use commands::fault::Fault;
 use evidence::Evidence;
-use indexed_store::IndexedStore;
 use replay_verifier::Program;
 use scenario_run::{Outcome, Scenario, Witness};
 use scenarios::ScenarioFault;
@@ -113,7 +113,7 @@ where
         Ok(scenario) => scenario,
         Err(fault) => return Err(Refusal::of_text(0, &text, fault)),
     };
-    match play_out::<H, P, IndexedStore<P>>(rt, alloc, program, &scenario, limits.workers) {
+    match play_out::<H, P, Store<P>>(rt, alloc, program, &scenario, limits.workers) {
         Ok(texts) => Ok(texts),
         Err(fault) => Err(Refusal::of_none(fault)),
     }

@@ -10,10 +10,10 @@ use crate::files::Opener;
 use crate::refusal::Refusal;
 use crate::watching::StoreWatcher;
 use authenticators::NodeId;
+use commands::Store;
 use commands::device::Sink;
 use commands::fault::Fault;
 use evidence::Evidence;
-use indexed_store::IndexedStore;
 use outcome::Memory;
 use proofs::Proof;
 use replay_verifier::Program;
@@ -73,7 +73,7 @@ where
     requires room { HasRoom stores (O.seen opener.old) (W.seen writer.old) }
     ensures { RanOnStores (Prove P.means node) reading.now.limits.most_bytes stores result (O.seen opener.old) (O.seen opener.new) W.seen writer.old writer.new }
 {
-    ask::<R, P, IndexedStore<P>, Proving, O, F, W>(
+    ask::<R, P, Store<P>, Proving, O, F, W>(
         reading,
         &Proving { node },
         opener,

@@ -5,7 +5,7 @@ ghost use Rattle.std.specs.Prelude.{◌≡◌, ◌≢◌, ◌⊎◌, ◌++◌, �
 ghost use Rattle.std.specs.Io.KnownBytes.{Appends};
 ghost use Rattle.std.specs.List.Sorted.{IsStrictlySortedBy};
 ghost use Rattle.item_forms.specs.Pieces.{Piece, by_bytes};
-ghost use Rattle.evidence_set.specs.Exports.{export_of};
+ghost use Rattle.evidence.specs.Exports.{export_of};
 ghost use Rattle.evidence_set.specs.ItemSets.{Items, count, insert_all, none};
 ghost use Rattle.shards.specs.Parts.{Decodes, part, parts_of};
 ghost use Rattle.commands.specs.declared.fault.Fault.TheVariants as fault;

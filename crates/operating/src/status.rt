@@ -15,11 +15,11 @@ use crate::standings::standings_of;
 use crate::watching::StoreWatcher;
 use answers::{Style, standings_text};
 use authenticators::NodeId;
+use commands::Store;
 use commands::device::Sink;
 use commands::fault::Fault;
 use evidence::Evidence;
 use evidence_set::Indication;
-use indexed_store::IndexedStore;
 use replay_verifier::Program;
 use std::alloc::Global;
 use std::thread::Threads;
@@ -112,7 +112,7 @@ where
     requires room { HasRoom stores (O.seen opener.old) (W.seen writer.old) }
     ensures { RanOnStores (Status reporting.now.style reporting.now.name.now reporting.now.scope P.means) reading.now.limits.most_bytes stores result (O.seen opener.old) (O.seen opener.new) W.seen writer.old writer.new }
 {
-    ask::<R, P, IndexedStore<P>, Reporting<'_>, O, F, W>(
+    ask::<R, P, Store<P>, Reporting<'_>, O, F, W>(
         reading, reporting, opener, stores, watcher, writer,
     )
 }

@@ -9,7 +9,8 @@ use Rattle.containers.specs.declared.fault.ImportFault.{ImportFault}
 use Rattle.containers.specs.CheckedItems.{checked_of, fields_of as checked_fields}
 use Rattle.containers.specs.Container.{import_of}
 use Rattle.containers.specs.Refusals.{IsBehindFront}
-use Rattle.evidence_set.specs.Exports.{IsTextOf, SetsHaveOneText, fields_of}
+use Rattle.evidence.specs.Exports.{IsTextOf, SetsHaveOneText}
+use Rattle.evidence_set.specs.Valid.{fields_of}
 use Rattle.evidence_set.specs.ItemSets.{pieces}
 
 -- the fields of checked items are those of their items

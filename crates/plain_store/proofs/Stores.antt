@@ -7,7 +7,7 @@ use Rattle.replay_verifier.specs.Meaning.{Meaning}
 use Rattle.item_forms.specs.Pieces.{Piece}
 use Rattle.evidence_item.specs.Checking.{Checked}
 use Rattle.evidence_item.specs.Validity.{IsValid}
-use Rattle.evidence_set.specs.Exports.{AreValid}
+use Rattle.evidence_set.specs.Valid.{AreValid}
 use Rattle.evidence_set.specs.ItemSets.{Items, Join, set_of}
 use Rattle.evidence.specs.Contents.{Contents, with_items}
 use Rattle.kept_evidence.specs.Kept.{AreKept, IsStore}

@@ -3,7 +3,7 @@
 ghost use Rattle.std.specs.Prelude.{◌≡◌, IfOk, option_map, slice_get};
 ghost use Rattle.item_digests.specs.Digests.{digest_of};
 ghost use Rattle.evidence_item.specs.Checking.{Checked as TheChecked};
-ghost use Rattle.evidence_set.specs.Exports.{export_of};
+ghost use Rattle.evidence.specs.Exports.{export_of};
 ghost use Rattle.evidence_set.specs.ItemSets.{count, listed, set_of};
 ghost use Rattle.kept_evidence.specs.Kept.{IsAscending};
 

@@ -5,7 +5,7 @@ use Rattle.std.proofs.lemmas.List.{append_assoc}
 use Rattle.std.proofs.lemmas.List.Elements.{Contains-append_right, Contains-get_or}
 use Rattle.authenticators.specs.Directory.{Listing}
 use Rattle.replay_verifier.specs.Meaning.{Meaning}
-use Rattle.evidence_set.specs.Exports.{export_of}
+use Rattle.evidence.specs.Exports.{export_of}
 use Rattle.evidence_set.specs.ItemSets.{Has, IsWithin, Items, JoinsAreLeastUpperBounds, SetsAsExpected, none}
 use Rattle.shared_stores.specs.declared.history.Call.{Call}
 use Rattle.shared_stores.specs.declared.history.Call.TheVariants as call

@@ -11,7 +11,7 @@ use Rattle.item_forms.specs.Pieces.{Piece, by_bytes}
 use Rattle.item_forms.specs.Spelling.{spelling}
 use Rattle.item_forms.proofs.ItemOrders.{by_bytes_exact, by_bytes_total}
 use Rattle.containers.specs.Container.{container_text}
-use Rattle.evidence_set.specs.Exports.{export_of, magic}
+use Rattle.evidence.specs.Exports.{export_of, magic}
 use Rattle.evidence_set.specs.ItemSets.{SetsAreLists, count, insert_all, listed, none}
 use Rattle.localities.specs.Parts.{part_of}
 

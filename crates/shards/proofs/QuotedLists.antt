@@ -14,7 +14,7 @@ use Rattle.item_forms.specs.declared.forms.Fields.TheVariants as form
 use Rattle.item_forms.specs.Pieces.{Piece, same_piece}
 use Rattle.evidence_item.specs.Statements.{end_of, statements_of}
 use Rattle.evidence_item.specs.Validity.{nodes_of}
-use Rattle.evidence_set.specs.Exports.{fields_of}
+use Rattle.evidence_set.specs.Valid.{fields_of}
 use Rattle.evidence_set.specs.Held.{Holds, ListsWhatIsHeld, quotes_of, statement_quoted_by}
 use Rattle.evidence_set.specs.ItemSets.{Has, SetsAreLists, SetsAsExpected, insert_all, none}
 use Rattle.evidence_set.proofs.Members.{first_member, in_flat_map, nothing, of_flat_map, only_member}

@@ -11,7 +11,7 @@ use Rattle.item_forms.specs.declared.forms.Fields.{Fields}
 use Rattle.item_forms.specs.declared.forms.Fields.TheVariants as form
 use Rattle.item_forms.specs.Pieces.{Piece}
 use Rattle.evidence_item.specs.Validity.{IsValid, nodes_of}
-use Rattle.evidence_set.specs.Exports.{AreValid}
+use Rattle.evidence_set.specs.Valid.{AreValid}
 use Rattle.evidence_set.specs.Held.{HeldStatementsAreSigned, IsHeld}
 use Rattle.evidence_set.specs.ItemSets.{Items, Has, IsWithin, Join, JoinsAreLeastUpperBounds, JoinsAsExpected, SetsAsExpected}
 use Rattle.evidence_set.proofs.Members.{first_member, later_member, only_member}

@@ -10,7 +10,7 @@ use Rattle.item_forms.specs.declared.forms.Fields.TheVariants as form
 use Rattle.item_forms.specs.Pieces.{Piece}
 use Rattle.evidence_item.specs.Validity.{nodes_of}
 use Rattle.evidence_set.specs.declared.indication.Indication.{Indication}
-use Rattle.evidence_set.specs.Exports.{AreValid}
+use Rattle.evidence_set.specs.Valid.{AreValid}
 use Rattle.evidence_set.specs.Held.{Holds}
 use Rattle.evidence_set.specs.Indications.{IsExposed, IsIndication}
 use Rattle.evidence_set.specs.ItemSets.{Items, Has, Join, none}

@@ -3,7 +3,8 @@ use Rattle.std.specs.Prelude.{ℕ, ◌≡◌, ◌+◌, ◌%◌, Bool, List, Ok}
 use Rattle.item_forms.specs.Pieces.{Piece}
 use Rattle.containers.specs.Container.{import_of}
 use Rattle.containers.specs.DecodedItems.{decoded_of}
-use Rattle.evidence_set.specs.Exports.{fields_of, magic_of}
+use Rattle.evidence.specs.Exports.{magic_of}
+use Rattle.evidence_set.specs.Valid.{fields_of}
 use Rattle.evidence_set.specs.ItemSets.{Items, insert_all, none}
 use Rattle.localities.specs.Parts.{part_of}
 use Rattle.localities.specs.Ranges.{Key, has_key, ranges_joined}

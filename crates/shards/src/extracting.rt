@@ -7,7 +7,7 @@ ghost use Rattle.authenticators.specs.declared.signature.TheConstants.{LONGEST_S
 ghost use Rattle.replay_verifier.specs.Quotes.{IsGenuine, quoted};
 ghost use Rattle.item_forms.specs.declared.forms.Fields.TheVariants as form;
 ghost use Rattle.item_forms.specs.Pieces.{by_bytes};
-ghost use Rattle.evidence_set.specs.Exports.{fields_of};
+ghost use Rattle.evidence_set.specs.Valid.{fields_of};
 ghost use Rattle.evidence_set.specs.Held.{quoted_statement};
 ghost use Rattle.evidence_set.specs.ItemSets.{insert_all, none};
 ghost use Rattle.localities.specs.Shards.{in_turn};

@@ -7,7 +7,7 @@ ghost use Rattle.containers.specs.DecodedItems.{decoded_of};
 ghost use Rattle.containers.specs.Refusals.{Refuses};
 ghost use Rattle.containers.specs.declared.fault.Cause.TheVariants as cause;
 ghost use Rattle.item_forms.specs.Pieces.{Piece, by_bytes};
-ghost use Rattle.evidence_set.specs.Exports.{magic_of};
+ghost use Rattle.evidence.specs.Exports.{magic_of};
 ghost use Rattle.evidence_set.specs.ItemSets.{insert_all, none};
 ghost use Rattle.shards.specs.Parts.{Decodes};
 

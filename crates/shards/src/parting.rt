@@ -4,7 +4,7 @@ ghost use Rattle.std.specs.Prelude.{◌≡◌, ◌==◌, ◌++◌, ◌∷◌, []
 ghost use Rattle.std.specs.List.{filter, list_any};
 ghost use Rattle.std.specs.List.Sorted.{IsStrictlySortedBy};
 ghost use Rattle.item_forms.specs.Pieces.{by_bytes};
-ghost use Rattle.evidence_set.specs.Exports.{export_of};
+ghost use Rattle.evidence.specs.Exports.{export_of};
 ghost use Rattle.evidence_set.specs.ItemSets.{count, insert_all, none};
 ghost use Rattle.shards.specs.Parts.{part, parts_joined};
 ghost use Rattle.shards.specs.within.Deals.{deal_of, goes_to, numbers_of};

@@ -7,7 +7,7 @@ use Rattle.authenticators.specs.Directory.{Listing}
 use Rattle.replay_verifier.specs.Meaning.{Meaning}
 use Rattle.item_forms.specs.Pieces.{Piece}
 use Rattle.evidence_set.specs.declared.indication.Indication.{Indication}
-use Rattle.evidence_set.specs.Exports.{export_of}
+use Rattle.evidence.specs.Exports.{export_of}
 use Rattle.evidence_set.specs.Indications.{IndicationsAreOne, IsIndication}
 use Rattle.evidence_set.specs.ItemSets.{Items, Has, IsWithin, Join, contains, count, JoinsAreLeastUpperBounds, SetsAsExpected}
 use Rattle.evidence.specs.Contents.{Contents, with_items}

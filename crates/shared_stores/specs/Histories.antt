@@ -5,7 +5,8 @@ use Rattle.authenticators.specs.Directory.{Listing, is_listed}
 use Rattle.replay_verifier.specs.Meaning.{Meaning}
 use Rattle.item_forms.specs.Pieces.{fits_code}
 use Rattle.evidence_item.specs.Validity.{IsValid}
-use Rattle.evidence_set.specs.Exports.{AreValid, export_of}
+use Rattle.evidence.specs.Exports.{export_of}
+use Rattle.evidence_set.specs.Valid.{AreValid}
 use Rattle.evidence_set.specs.Indications.{IsIndication}
 use Rattle.evidence_set.specs.ItemSets.{Items, Join, contains, count, insert}
 use Rattle.evidence.specs.Contents.{items_code}

@@ -1,8 +1,8 @@
 //! Stores that take items.
 
 use authenticators::Directory;
+use evidence::Evidence;
 use evidence_item::{Item, check_item};
-use evidence_store::Evidence;
 use ref_programs::Tally;
 use std::alloc::Global;
 use std::test::Fail;

@@ -1,8 +1,8 @@
 //! What a store says of both nodes.
 
 use authenticators::NodeId;
+use evidence::Evidence;
 use evidence_set::Indication;
-use evidence_store::Evidence;
 use ref_programs::Tally;
 use std::test::Fail;
 

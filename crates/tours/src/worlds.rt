@@ -7,8 +7,8 @@ ghost use Rattle.witness_core.specs.Answering.{IsCheckedFor};
 
 use anyhow::{Result, bail};
 use authenticators::Directory;
+use evidence::Evidence;
 use evidence_item::{Item, check_item};
-use evidence_store::Evidence;
 use replay_verifier::Program;
 use std::alloc::Global;
 use witness_core::{Event, Reply, World, run};

@@ -12,7 +12,7 @@ use Rattle.replay_verifier.specs.Meaning.{Meaning}
 use Rattle.item_forms.specs.Pieces.{Piece}
 use Rattle.evidence_item.specs.Checking.{Checked, IsChecked}
 use Rattle.evidence_item.specs.Validity.{IsValid}
-use Rattle.evidence_set.specs.Exports.{AreValid}
+use Rattle.evidence_set.specs.Valid.{AreValid}
 use Rattle.evidence_set.specs.Indications.{IsIndication}
 use Rattle.evidence_set.specs.ItemSets.{Has, Items, SetsAreLists, SetsAsExpected, none, pieces}
 use Rattle.evidence_set.specs.declared.indication.Indication.{Indication}

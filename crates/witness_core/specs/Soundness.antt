@@ -10,7 +10,7 @@ use Rattle.commitment.specs.Nodes.{Honest}
 use Rattle.evidence_set.specs.declared.indication.Indication.{Indication}
 use Rattle.evidence_set.specs.declared.indication.Indication.TheVariants.{Exposed}
 use Rattle.evidence_set.specs.Collisions.{Collision}
-use Rattle.evidence_set.specs.Exports.{AreValid}
+use Rattle.evidence_set.specs.Valid.{AreValid}
 use Rattle.evidence_set.specs.Forgeries.{Forged}
 use Rattle.evidence_set.specs.Indications.{IsIndication}
 use Rattle.evidence_set.specs.ItemSets.{Items}

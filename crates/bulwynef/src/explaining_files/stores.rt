@@ -4,7 +4,7 @@ ghost use Rattle.std.specs.Prelude.{◌≡◌, ◌<◌, ◌≤◌, IfOk, length}
 ghost use Rattle.operating.specs.GatheredFiles.{under};
 ghost use Rattle.operating.specs.Operating.{HasRoom, RanOnStores};
 ghost use Rattle.parallel_checking.specs.declared.limits.TheConstants.{MOST_WORKERS};
-ghost use Rattle.evidence_set.specs.Exports.{export_of};
+ghost use Rattle.evidence.specs.Exports.{export_of};
 ghost use Rattle.explaining.specs.Explained.{IsBasis};
 ghost use Rattle.sentences.specs.declared.site.Input.TheVariants as kind;
 ghost use Rattle.bulwynef.specs.Explained.{ExplainStores, IsBasisOfStores, fronted};

@@ -2,12 +2,12 @@
 //! that quotes a message of node 3.
 
 use authenticators::{Authenticator, NodeId};
-use commitment::Message;
 use containers::write_all;
 use evidence::MAGIC;
 use evidence_samples::{Nodes, ZEROS, make_nodes, receipt, turned};
 use item_forms::Item;
 use log_chain::ByteString;
+use messages::Message;
 use shards::{
     Dealing, MOST_SHARDS, Part, Parting, Ranges, Shards, Width, add_items, extracted, gathered,
 };

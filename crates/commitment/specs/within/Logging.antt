@@ -6,9 +6,9 @@ use Rattle.replay_verifier.specs.declared.output.Output.{Output}
 use Rattle.replay_verifier.specs.Quotes.{IsQuote}
 use Rattle.commitment.specs.declared.fault.NodeFault.{NodeFault}
 use Rattle.commitment.specs.declared.fault.NodeFault.TheVariants.{Memory}
-use Rattle.commitment.specs.declared.message.Message.{Message}
+use Rattle.messages.specs.declared.message.Message.{Message}
 use Rattle.commitment.specs.Accounts.{Account, sender_of}
-use Rattle.commitment.specs.Messages.{quote}
+use Rattle.messages.specs.Messages.{quote}
 use Rattle.commitment.specs.Nodes.{heard_of}
 
 -- The outputs of a step are so few, and each so short, that a block has them all.

@@ -6,7 +6,7 @@ use Rattle.containers.specs.declared.fault.ImportFault.{ImportFault}
 use Rattle.containers.specs.Feeding.{IsReadUnder}
 use Rattle.containers.specs.declared.fault.Cause.TheVariants as cause
 use Rattle.containers.specs.Refusals.{fault_at}
-use Rattle.evidence_set.specs.Exports.{magic, old_magic}
+use Rattle.evidence.specs.Exports.{magic, old_magic}
 use Rattle.evidence.specs.declared.stage.Stage.{Stage}
 use Rattle.evidence.specs.declared.stage.Stage.TheVariants as stage
 

@@ -6,7 +6,7 @@ ghost use Rattle.log_chain.specs.declared.entry.Entry.{Entry};
 ghost use Rattle.log_chain.specs.declared.kind.TheConstants.{RECV};
 ghost use Rattle.authenticators.specs.Directory.{Listing};
 ghost use Rattle.replay_verifier.specs.Quotes.{IsGenuine, Quote, receipt_of};
-ghost use Rattle.commitment.specs.declared.message.Message.{Message};
+ghost use Rattle.messages.specs.declared.message.Message.{Message};
 ghost use Rattle.item_forms.specs.declared.forms.AckItem.{AckItem};
 ghost use Rattle.item_forms.specs.declared.forms.Fields.TheVariants as form;
 ghost use Rattle.item_forms.specs.declared.forms.Segment.{Segment};

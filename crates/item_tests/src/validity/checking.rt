@@ -3,10 +3,10 @@
 use crate::validity::idle::Idle;
 use crate::validity::valid_items::{valid_ack, valid_auth, valid_send};
 use authenticators::{Authenticator, Directory, NodeId};
-use commitment::Message;
 use evidence_item::{Item, ItemFault, Statement, check_item};
 use evidence_samples::{Nodes, ZEROS, entry, make_nodes};
 use log_chain::{ByteString, Hash, base_hash, kind};
+use messages::Message;
 use std::alloc::Global;
 use std::test::Fail;
 

@@ -2,12 +2,12 @@
 
 use crate::items::keeping::{Kept, keep_all};
 use authenticators::NodeId;
-use commitment::Message;
 use containers::write_all;
 use evidence_item::Item;
 use item_digests::digest_of;
 use item_forms::Group;
 use kept_items::KeptItem;
+use messages::Message;
 use ref_programs::Tally;
 use std::alloc::Global;
 use std::test::*;

@@ -1,11 +1,11 @@
 //! Seven valid items: of each form one, and more segments.
 
 use authenticators::{Directory, NodeId};
-use commitment::Message;
 use evidence_item::{Item, Statement};
 use evidence_samples::{Signer, Start, ZEROS, entry, make_nodes, receipt};
 use log_chain::kind::{INIT, TIMER};
 use log_chain::{Entry, Hash, base_hash, chain_end};
+use messages::Message;
 use std::alloc::Global;
 use std::test::Fail;
 

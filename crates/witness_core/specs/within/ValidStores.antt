@@ -1,6 +1,6 @@
 -- Stores as they are in a world.
 use Rattle.evidence.specs.Contents.{Contents}
-use Rattle.evidence_set.specs.Exports.{AreValid}
+use Rattle.evidence_set.specs.Valid.{AreValid}
 
 -- What the store has is valid under its directory.
 abbrev pub HasValidItems : Contents → Type 0

@@ -1,7 +1,7 @@
 use Rattle.std.proofs.Common.{◌≡◌, List, ℕ, sym, subst, ◌∙◌}
 use Rattle.outcome.proofs.Steps.{Ok-inj}
 use Rattle.containers.specs.declared.fault.ImportFault.{ImportFault}
-use Rattle.evidence_set.specs.Exports.{magic_of, set_text}
+use Rattle.evidence.specs.Exports.{magic_of, set_text}
 use Rattle.commands.proofs.importing.import.Goals as goal
 
 pub returns-clause-joined : goal.returns-clause-joined

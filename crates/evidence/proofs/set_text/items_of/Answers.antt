@@ -1,7 +1,7 @@
 use Rattle.std.proofs.Common.{◌≡◌, List, ℕ, Ok, subst}
 use Rattle.containers.specs.CheckedItems.{checked_of, fields_of}
 use Rattle.containers.specs.Container.{import_of}
-use Rattle.evidence_set.specs.Exports.{magic_of}
+use Rattle.evidence.specs.Exports.{magic_of}
 use Rattle.evidence.proofs.Importing.{text_of_items}
 use Rattle.evidence.proofs.set_text.items_of.Goals as goal
 

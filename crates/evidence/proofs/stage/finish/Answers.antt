@@ -2,7 +2,7 @@ use Rattle.std.proofs.Common.{◌≡◌, List, ℕ, Ok, ap, subst, ◌∙◌}
 use Rattle.std.specs.List.Sorted.{IsStrictlySortedBy}
 use Rattle.containers.specs.Feeding.{AreItems, import_fed}
 use Rattle.item_forms.specs.Pieces.{by_bytes}
-use Rattle.evidence_set.specs.Exports.{magic_of, set_text}
+use Rattle.evidence.specs.Exports.{magic_of, set_text}
 use Rattle.evidence_set.specs.ItemSets.{pieces, set_of}
 use Rattle.evidence.specs.Importing.{imported_under}
 use Rattle.evidence.specs.within.Stages.{IsStage, fed_of}

@@ -1,5 +1,5 @@
 use Rattle.std.proofs.Common.{subst}
-use Rattle.commitment.specs.declared.message.Message.{Message}
+use Rattle.messages.specs.declared.message.Message.{Message}
 use Rattle.item_forms.specs.Spelling.{message_spelling}
 use Rattle.item_digests.specs.Feeding.{Feeds}
 use Rattle.item_digests.proofs.Fed.{both_fed, bytes_fed}

@@ -1,4 +1,4 @@
-use Rattle.evidence_set.specs.Exports.{export_of}
+use Rattle.evidence.specs.Exports.{export_of}
 use Rattle.operating.proofs.Plays.{grown}
 use Rattle.operating.proofs.play.stores_of.Goals as goal
 

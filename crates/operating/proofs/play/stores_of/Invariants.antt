@@ -1,5 +1,5 @@
 use Rattle.std.proofs.Common.{◌≡◌, map, take}
-use Rattle.evidence_set.specs.Exports.{export_of}
+use Rattle.evidence.specs.Exports.{export_of}
 use Rattle.operating.proofs.play.stores_of.Given as goal
 
 abbrev pub invariant-loop-witness : goal.invariant-loop-witness

@@ -5,7 +5,7 @@ use Rattle.containers.specs.declared.fault.Cause.TheVariants as cause
 use Rattle.containers.specs.Container.{import_of}
 use Rattle.containers.specs.DecodedItems.{decoded_of}
 use Rattle.containers.specs.Refusals as container
-use Rattle.evidence_set.specs.Exports.{magic_of}
+use Rattle.evidence.specs.Exports.{magic_of}
 use Rattle.shards.specs.Parts.{Decodes}
 use Rattle.commands.specs.Refusals.{of_import}
 use Rattle.commands.proofs.Refused.{cause_own}

@@ -1,4 +1,4 @@
-use Rattle.evidence_set.specs.Exports.{fields_of}
+use Rattle.evidence_set.specs.Valid.{fields_of}
 use Rattle.localities.specs.Shards.{in_turn}
 use Rattle.shards.proofs.QuotedLists.{one_entry_more}
 use Rattle.shards.proofs.extracting.add_quotes.Goals as goal

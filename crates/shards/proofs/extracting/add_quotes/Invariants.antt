@@ -1,5 +1,5 @@
 use Rattle.std.proofs.Common.{◌≡◌, ◌++◌, take}
-use Rattle.evidence_set.specs.Exports.{fields_of}
+use Rattle.evidence_set.specs.Valid.{fields_of}
 use Rattle.localities.specs.Shards.{in_turn}
 use Rattle.shards.specs.within.Quotes.{quoted_by}
 use Rattle.shards.proofs.extracting.add_quotes.Given as goal

@@ -1,7 +1,7 @@
 use Rattle.std.proofs.Common.{◌≡◌, ◌∙◌, ◌++◌, List, sym, ap, subst}
 use Rattle.std.specs.List.{flat_map}
 use Rattle.item_forms.specs.Pieces.{Piece}
-use Rattle.evidence_set.specs.Exports.{fields_of}
+use Rattle.evidence_set.specs.Valid.{fields_of}
 use Rattle.evidence_set.specs.ItemSets.{Items, insert_all, none}
 use Rattle.localities.specs.Shards.{in_turn}
 use Rattle.shards.specs.Extracts.{AddsQuotes}

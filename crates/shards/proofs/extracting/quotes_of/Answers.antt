@@ -1,4 +1,4 @@
-use Rattle.evidence_set.specs.Exports.{fields_of}
+use Rattle.evidence_set.specs.Valid.{fields_of}
 use Rattle.localities.specs.Shards.{in_turn}
 use Rattle.shards.proofs.QuotedLists.{one_item_more}
 use Rattle.shards.proofs.extracting.quotes_of.Goals as goal

@@ -1,6 +1,6 @@
 use Rattle.std.proofs.Common.{◌≡◌, take}
 use Rattle.std.specs.List.{flat_map}
-use Rattle.evidence_set.specs.Exports.{fields_of}
+use Rattle.evidence_set.specs.Valid.{fields_of}
 use Rattle.localities.specs.Shards.{in_turn}
 use Rattle.shards.specs.within.Quotes.{quoted_in}
 use Rattle.shards.proofs.extracting.quotes_of.Given as goal

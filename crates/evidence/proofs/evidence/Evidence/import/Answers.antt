@@ -1,6 +1,6 @@
 use Rattle.std.proofs.Common.{◌≡◌}
 use Rattle.evidence.specs.Contents.{with_items}
-use Rattle.evidence_set.specs.Exports.{magic_of, set_text}
+use Rattle.evidence.specs.Exports.{magic_of, set_text}
 use Rattle.evidence_set.specs.ItemSets.{Items, Join, set_of}
 use Rattle.evidence.proofs.Importing.{on_more}
 use Rattle.evidence.proofs.evidence.Evidence.import.Goals as goal

@@ -4,7 +4,7 @@ use Rattle.authenticators.specs.Directory.{Listing}
 use Rattle.evidence_item.specs.Checking.{IsChecked}
 use Rattle.evidence.specs.Contents.{with_items}
 use Rattle.evidence.specs.Importing.{Importing}
-use Rattle.evidence_set.specs.Exports.{magic_of, set_text}
+use Rattle.evidence.specs.Exports.{magic_of, set_text}
 use Rattle.evidence_set.specs.ItemSets.{Items, Join, set_of}
 use Rattle.evidence.proofs.Importing.{on_more}
 use Rattle.evidence.proofs.importer.Importer.finish.Goals as goal

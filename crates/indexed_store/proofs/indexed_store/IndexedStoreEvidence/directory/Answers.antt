@@ -1,5 +1,5 @@
 use Rattle.std.proofs.Common.{subst}
-use Rattle.evidence_set.specs.Exports.{AreValid}
+use Rattle.evidence_set.specs.Valid.{AreValid}
 use Rattle.evidence.specs.Contents.{Contents}
 use Rattle.indexed_store.proofs.Listed.{all_valid}
 use Rattle.indexed_store.proofs.indexed_store.IndexedStoreEvidence.directory.Goals as goal

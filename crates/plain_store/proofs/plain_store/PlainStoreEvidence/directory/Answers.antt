@@ -1,5 +1,5 @@
 use Rattle.std.proofs.Common.{subst}
-use Rattle.evidence_set.specs.Exports.{AreValid}
+use Rattle.evidence_set.specs.Valid.{AreValid}
 use Rattle.evidence.specs.Contents.{Contents}
 use Rattle.plain_store.proofs.Stores.{all_valid}
 use Rattle.plain_store.proofs.plain_store.PlainStoreEvidence.directory.Goals as goal

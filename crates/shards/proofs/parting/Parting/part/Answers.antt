@@ -6,7 +6,7 @@ use Rattle.std.proofs.lemmas.Simd.{map-map}
 use Rattle.item_forms.specs.Pieces.{Piece, by_bytes}
 use Rattle.item_forms.specs.Spelling.{spelling}
 use Rattle.containers.specs.Container.{container_text}
-use Rattle.evidence_set.specs.Exports.{export_of, magic}
+use Rattle.evidence.specs.Exports.{export_of, magic}
 use Rattle.evidence_set.specs.ItemSets.{count}
 use Rattle.shards.specs.Parts.{Parted, is_dealt, part}
 use Rattle.shards.specs.within.Deals.{Deal, goes_to}

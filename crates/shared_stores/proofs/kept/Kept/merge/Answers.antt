@@ -1,5 +1,5 @@
 use Rattle.std.proofs.Common.{sym, ap, ◌∙◌, subst}
-use Rattle.evidence_set.specs.Exports.{AreValid}
+use Rattle.evidence_set.specs.Valid.{AreValid}
 use Rattle.evidence_set.specs.ItemSets.{count}
 use Rattle.evidence.specs.Contents.{Contents}
 use Rattle.shared_stores.specs.declared.history.Call.TheVariants.{Merge}
