@@ -26,6 +26,8 @@ from check import Reader, quote_of, read_directory, read_item, sized, u8, u32, u
 
 BUILDS = sys.argv[1:] or builds_of("bulwynef")
 COUNTS = (1, 2, 3, 8, 1024)
+# A folder whose files are in memory, and what it is to have free: each file that bulwynef writes is synced, which on a disk takes nearly all time
+MEMORY, FREE = "/dev/shm", 1 << 30
 
 failed = []
 passed = 0
@@ -236,14 +238,23 @@ def hold_line_faults(build, folder, directory, store):
         hold(" ".join(words), (status, out) == (2, b"") and error != b"", (status, error))
 
 
+def place():
+    """Where the folders are made: in memory, where there is room, or where such folders are made."""
+    try:
+        found = os.statvfs(MEMORY)
+    except OSError:
+        return None
+    return MEMORY if found.f_bavail * found.f_frsize >= FREE else None
+
+
 def main():
     for build in BUILDS:
         for name, (directory, *stores) in examples():
-            with tempfile.TemporaryDirectory() as folder:
+            with tempfile.TemporaryDirectory(dir=place()) as folder:
                 nodes = write(f"{folder}/nodes", directory)
                 files = [write(f"{folder}/{number}.store", store) for number, store in enumerate(stores)]
                 hold_evidence(name, build, folder, nodes, files)
-        with tempfile.TemporaryDirectory() as folder:
+        with tempfile.TemporaryDirectory(dir=place()) as folder:
             subprocess.run([f"{TOP}/distributed/evidence.py", folder, "5", "9"], check=True, stdout=subprocess.DEVNULL)
             stores = [f"{folder}/00{number}.store" for number in range(5)]
             hold_evidence("nine nodes", build, folder, f"{folder}/nodes", stores)
