@@ -1,7 +1,7 @@
 #!/usr/bin/env bash
-# behind.sh: all of the gate that wants builds, over what `rt ci` left. What takes one processor runs beside the making of the static library, in
-# three rows; what measures time or starts a network runs alone, behind them. All of it runs, whatever fails; then what failed is told, and it ends
-# with 1.
+# behind.sh: all of the gate that wants builds, over what `rt ci` left. What takes one processor runs in three rows, of which the first
+# makes the static library if nobody has made it yet; what measures time or starts a network runs alone, behind them. All of it runs, whatever
+# fails; then what failed is told, and it ends with 1.
 set -u
 cd "$(dirname "$0")/.."
 room=$(mktemp -d)

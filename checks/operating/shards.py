@@ -26,7 +26,8 @@ from check import Reader, quote_of, read_directory, read_item, sized, u8, u32, u
 
 BUILDS = sys.argv[1:] or builds_of("bulwynef")
 COUNTS = (1, 2, 3, 8, 1024)
-# A folder whose files are in memory, and what it is to have free: each file that bulwynef writes is synced, which on a disk takes nearly all time
+# A folder whose files are in memory, and how many bytes it must have free. bulwynef syncs each file that it writes, and on a disk that takes nearly
+# all of the time
 MEMORY, FREE = "/dev/shm", 1 << 30
 
 failed = []
@@ -239,7 +240,7 @@ def hold_line_faults(build, folder, directory, store):
 
 
 def place():
-    """Where the folders are made: in memory, where there is room, or where such folders are made."""
+    """The folder for all that is written: in memory if there is room, else none, so that `tempfile` chooses."""
     try:
         found = os.statvfs(MEMORY)
     except OSError:

@@ -8,8 +8,8 @@
 //! - [`laws`] has what follows from the definitions.
 //!
 //! The contract of the trait speaks of the directory and of the set of items alone, in the words of `evidence_set`.
-//! `specs/Contents.antt` has what contracts see of a store, `specs/Exports.antt` the text of a set, `specs/Importing.antt` what they see of an importer, and
-//! `specs/Refusals.antt` the numbers of refusals.
+//! `specs/Contents.antt` has what contracts see of a store, `specs/Exports.antt` the text of a set, `specs/Importing.antt` what
+//! contracts see of an importer, and `specs/Refusals.antt` the numbers of refusals.
 #![tactic(auto)]
 
 pub use adding::add_all;

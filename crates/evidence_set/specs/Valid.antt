@@ -1,4 +1,4 @@
--- Sets of items that are valid under a directory.
+-- Sets of items that are valid under a directory, and the fields of items.
 use Rattle.std.specs.Prelude.{List, map}
 use Rattle.authenticators.specs.Directory.{Listing}
 use Rattle.item_forms.specs.declared.forms.Fields.{Fields}
