@@ -126,7 +126,7 @@ where
 ///
 /// The watcher is told once the first item is read, and then whenever those are that the workers were given at once.
 ///
-/// Beside the text and the items it takes memory for those that workers are given at once: about a mebibyte of texts, or one item.
+/// Beside the text and the items it takes memory for those that workers are given at once: about four mebibytes of texts, or one item.
 pub fn read_all_by<R: Threads + Sync, P: Program + Send + Sync, W: Watcher>(
     workers: &Workers<'_, R>,
     program: &P,
