@@ -4,6 +4,7 @@ mod Found
 mod Linked
 mod Made
 mod Orders
+mod PairLists
 mod Pairs
 mod Reached
 mod Spelled

@@ -2,5 +2,6 @@
 pub mod Bare
 pub mod Items
 pub mod Lent
+pub mod Pairing
 pub mod Parts
 pub mod Shared

@@ -6,6 +6,7 @@ ghost use Rattle.kept_items.specs.Keeping.{CanBeKept};
 
 use crate::handle::share_each;
 use crate::item::KeptItem;
+use crate::pair::pairs_of;
 use crate::segment::KeptSegment;
 use evidence_item::{Checked, Findings, Form};
 use kept_entries::EntryPool;
@@ -91,11 +92,13 @@ fn shared_segment<P>(
         found.hashes.as_slice(),
         found.quotes.as_slice(),
     )?;
+    let pairs = pairs_of(alloc, &handles)?;
     let sig = segment.sig.try_clone(alloc)?;
     let kept = KeptSegment::from_parts(
         segment.node,
         segment.prev,
         handles,
+        pairs,
         sig,
         checked.verdict().copied(),
     );

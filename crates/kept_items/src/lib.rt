@@ -27,6 +27,7 @@ mod link;
 mod lookup;
 mod numbers;
 mod ordering;
+mod pair;
 mod quoting;
 mod reach;
 mod said;

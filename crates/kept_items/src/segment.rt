@@ -1,6 +1,6 @@
 //! Segments whose entries are shared.
 
-ghost use Rattle.std.specs.Prelude.{◌≡◌, IfOk, Some, option_copied};
+ghost use Rattle.std.specs.Prelude.{◌≡◌, IfOk, Some, false, option_copied};
 ghost use Rattle.std.specs.Option.{option_map};
 ghost use Rattle.log_chain.specs.Chain.{hashes};
 ghost use Rattle.item_forms.specs.Pieces.{fits_prop};
@@ -14,12 +14,15 @@ ghost use Rattle.kept_items.specs.Links.{link_in};
 ghost use Rattle.kept_items.specs.Positions.{positions, shown, stated};
 ghost use Rattle.kept_items.specs.within.Parts.{fields_of, findings_in};
 ghost use Rattle.kept_items.specs.within.Lent.{whole};
+ghost use Rattle.kept_items.specs.within.Pairing.{ArePairs};
+ghost use Rattle.proofs.specs.Contradictions.{is_rising};
 
 use crate::answering::have_receipt_of;
 use crate::handle::{Handle, share_again};
 use crate::link::{Link, link_at};
 use crate::lookup::{cover, finds_pair};
 use crate::numbers::{are_rising, first_seq, last_seq};
+use crate::pair::Pair;
 use crate::quoting::{end_of, quote_at};
 use crate::reach::{Reach, low_number};
 use crate::said::Said;
@@ -41,6 +44,7 @@ pub(crate) struct KeptSegment {
     sig: ByteString,
     verdict: Option<Verdict>,
     rises: bool,
+    pairs: Vec<Pair>,
     ghost fits: { Fits (fields_of node prev handles.items sig) } by { fits_prop (fields_of node prev handles.items sig) },
 }
 
@@ -65,20 +69,22 @@ impl Model for KeptSegment {
 
     ghost view = { λ k. checked_of k.node k.prev k.handles.items k.sig k.fits k.verdict };
 
-    ghost invariant = { λ k. IsHashed k.prev k.handles.items k.rises };
+    ghost invariant = { λ k. IsHashed k.prev k.handles.items k.rises k.pairs.items };
 }
 
 impl KeptSegment {
-    /// A segment of these parts, whose entries have their hashes.
+    /// A segment of these parts, whose entries have their hashes, with the pairs of entries whose numbers do not rise.
     pub(crate) fn from_parts(
         node: NodeId,
         prev: Hash,
         handles: Vec<Handle>,
+        pairs: Vec<Pair>,
         sig: ByteString,
         verdict: Option<Verdict>,
     ) -> KeptSegment
         requires fits { Fits (fields_of node prev handles.items sig) }
         requires hashed { hashes_of handles.items ≡ hashes prev (entries_of handles.items) }
+        requires paired { is_rising (entries_of handles.items) ≡ false → ArePairs handles.items pairs.items }
         ensures fields { result.item.fields ≡ fields_of node prev handles.items sig }
         ensures verdict { result.verdict ≡ verdict }
         ensures findings { result.findings ≡ findings_in handles.items }
@@ -91,6 +97,7 @@ impl KeptSegment {
             sig,
             verdict,
             rises,
+            pairs,
         }
     }
 
@@ -185,7 +192,13 @@ impl KeptSegment {
         ensures { result ≡ answers_audit challenge.now self.now.item.fields }
     {
         self.node == challenge.node
-            && cover(challenge, self.prev, self.handles.as_slice(), self.rises)
+            && cover(
+                challenge,
+                self.prev,
+                self.handles.as_slice(),
+                self.rises,
+                self.pairs.as_slice(),
+            )
     }
 
     /// Whether it answers the challenge to acknowledge the message.
@@ -200,6 +213,7 @@ impl KeptSegment {
         ensures { IfOk result (λ k. k ≡ self.now) }
     {
         let handles = share_again(alloc, pool, self.handles.as_slice())?;
+        let pairs = self.pairs.as_slice().to_vec(alloc)?;
         let sig = self.sig.try_clone(alloc)?;
         Ok(KeptSegment {
             node: self.node,
@@ -208,6 +222,7 @@ impl KeptSegment {
             sig,
             verdict: self.verdict,
             rises: self.rises,
+            pairs,
         })
     }
 }

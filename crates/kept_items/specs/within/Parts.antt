@@ -1,5 +1,5 @@
 -- The segment that shared entries and what stands beside them make.
-use Rattle.std.specs.Prelude.{◌≡◌, ℕ, zero, suc, Bool, List, [], ◌∷◌, Option, Some}
+use Rattle.std.specs.Prelude.{◌≡◌, ℕ, zero, suc, Bool, false, List, [], ◌∷◌, Option, Some}
 use Rattle.log_chain.specs.Chain.{hashes}
 use Rattle.replay_verifier.specs.declared.verdict.Verdict.{Verdict}
 use Rattle.item_forms.specs.declared.forms.Fields.{Fields}
@@ -11,6 +11,8 @@ use Rattle.evidence_item.specs.declared.findings.Findings.{Findings}
 use Rattle.evidence_item.specs.declared.findings.Findings.TheVariants as found
 use Rattle.evidence_item.specs.Checking.{Checked}
 use Rattle.kept_entries.specs.Shared.{SharedEntry, entries_of, hashes_of}
+use Rattle.kept_items.specs.declared.pair.Pair.{Pair}
+use Rattle.kept_items.specs.within.Pairing.{ArePairs}
 use Rattle.kept_items.specs.within.Shared.{quotes_of}
 
 abbrev pub segment_of : ℕ → List ℕ → List SharedEntry → List ℕ → Segment
@@ -32,7 +34,8 @@ before prev (x ∷ xs) (suc k) = before x.hash xs k
 abbrev pub checked_of : (node : ℕ) (prev : List ℕ) (shared : List SharedEntry) (sig : List ℕ) → Fits (fields_of node prev shared sig) → Option Verdict → Checked
 checked_of node prev shared sig fits verdict = record { item = record { fields = fields_of node prev shared sig; fits = fits }; verdict = verdict; findings = findings_in shared }
 
--- The hashes are those of the entries, and whether the numbers rise is known.
-pub record IsHashed (prev : List ℕ) (shared : List SharedEntry) (rises : Bool) : Type 0 where
+-- The hashes are those of the entries, whether the numbers rise is known, and where they do not, the pairs of number and hash stand in order.
+pub record IsHashed (prev : List ℕ) (shared : List SharedEntry) (rises : Bool) (pairs : List Pair) : Type 0 where
   pub hashed : hashes_of shared ≡ hashes prev (entries_of shared)
   pub rising : rises ≡ is_rising (entries_of shared)
+  pub paired : rises ≡ false → ArePairs shared pairs
