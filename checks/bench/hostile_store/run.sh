@@ -31,6 +31,8 @@ measure early 40000
 measure alternating 20000
 measure ending 20000
 measure exposing 20000
+measure turning 20000
+measure growing 20000
 measure checkpoints 800
 measure timers 800
 for count in 50000 100000 200000; do "$work/hostile_store" whole "$count"; done

@@ -1,94 +1,92 @@
--- Segments by their least numbers, and the tops beside them.
-use Rattle.std.proofs.Common.{◌≡◌, ℕ, ◌+◌, ◌-◌, ◌<◌, ◌≤◌, max, true, false, leb, ltb, List, drop, take, length, get_or, insert, set, ap, ◌∙◌, ⊎_elim, arith}
-use Rattle.std.specs.List.{Contains}
-use Rattle.std.specs.List.Sorted.{IsPartitionPoint}
+-- Segments by their numbers, and the bounds of those that stand side by side.
+use Rattle.std.proofs.Common.{◌≡◌, ℕ, ◌+◌, ◌-◌, ◌<◌, ◌≤◌, ◌⊎◌, max, min, List, [], ◌∷◌, ◌++◌, length, take, get_or, set, ap, subst, sym, inl, inr, ⊎_elim, ◌∙◌, arith}
+use Rattle.std.proofs.Math.Seq.{take-append_seam}
 use Rattle.std.proofs.lemmas.Bool.{cases_lt}
-use Rattle.std.proofs.lemmas.Bool.Decides.{nat_tests}
-use Rattle.std.proofs.lemmas.List.{get_or-set_other, get_or-set_same}
-use Rattle.std.proofs.lemmas.List.Sorted.{IsNonDecreasingBy-insert}
-use Rattle.authenticators.proofs.AscendingLists.{in_part}
+use Rattle.std.proofs.lemmas.List.Elements.{Contains-append_left, Contains-push, Contains-push_cases}
+use Rattle.std.proofs.lemmas.List.Sorted.{Contains-permutation, IsPermutation-sym}
+use Rattle.std.proofs.lemmas.List.{get_or-set_other, get_or-set_same, get_or-take}
+use Rattle.std.specs.List.Sorted.{IsPermutation}
+use Rattle.std.specs.List.{Contains}
+use Rattle.std.specs.Prelude.{◌↔◌}
+use Rattle.node_tables.specs.declared.bounds.Bounds.{Bounds}
 use Rattle.node_tables.specs.declared.span.Span.{Span}
-use Rattle.node_tables.specs.within.Spanning.{AreTopped, AreToppedUpTo, DoNotFall}
+use Rattle.node_tables.specs.within.Spanning.{AreBoundedUpTo, IsAround, IsBound, NoneIsAround}
 
--- A span put where its least number has it.
-pub put_rises : (spans : List Span) (i : ℕ) (p : Span) → DoNotFall spans → i ≤ length spans → IsPartitionPoint (λ (q : Span). leb q.low p.low ≡ true) (λ (q : Span). leb q.low p.low ≡ false) spans i → DoNotFall (insert spans i p)
-put_rises spans i p rise inside parts = IsNonDecreasingBy-insert (λ (q : Span). q.low) spans i p rise inside
-    (λ k d lt. up_to (get_or spans k d).low p.low (parts.0 k d (omega arith) lt))
-    (λ k d le here. above (get_or spans k d).low p.low (parts.1 k d le here))
+-- The bounds of segments, and of those right before them.
+pub bound_both : (spans : List Span) (place : ℕ) (a b : Bounds) → a.count ≤ place → IsBound spans place a → IsBound spans (place - a.count) b
+    → IsBound spans place (record { count = a.count + b.count; low = min a.low b.low; last = max a.last b.last })
+bound_both spans place a b before here there = record {
+  some = omega (arith, here.some);
+  inside = omega (arith, there.inside, before);
+  low = low;
+  last = last;
+}
   where
-    up_to : (m n : ℕ) → leb m n ≡ true → m ≤ n
-    up_to m n h = grind (arith, nat_tests)
+    low : (k : ℕ) (d : Span) → k ≤ place → place < k + (a.count + b.count) → min a.low b.low ≤ (get_or spans k d).low
+    low k d le lt = ⊎_elim
+        (λ (own : place < k + a.count). let h = here.low k d le own in omega (arith, h))
+        (λ (other : k + a.count ≤ place). let h = there.low k d (omega (arith, other)) (omega (arith, other, lt, before)) in omega (arith, h))
+        (cases_lt place (k + a.count))
 
-    above : (m n : ℕ) → leb m n ≡ false → n ≤ m
-    above m n h = grind (arith, nat_tests)
+    last : (k : ℕ) (d : Span) → k ≤ place → place < k + (a.count + b.count) → (get_or spans k d).last ≤ max a.last b.last
+    last k d le lt = ⊎_elim
+        (λ (own : place < k + a.count). let h = here.last k d le own in omega (arith, h))
+        (λ (other : k + a.count ≤ place). let h = there.last k d (omega (arith, other)) (omega (arith, other, lt, before)) in omega (arith, h))
+        (cases_lt place (k + a.count))
 
-pub above : (n m : ℕ) → leb m n ≡ false → n < m
-above n m h = grind (arith, nat_tests)
+-- What stands before a place is bounded as it was, where nothing else stands there.
+pub bound_before : (xs ys : List Span) (bs cs : List Bounds) (n start : ℕ) → AreBoundedUpTo xs bs n → start ≤ n → take start ys ≡ take start xs → take start cs ≡ take start bs → AreBoundedUpTo ys cs start
+bound_before xs ys bs cs n start bounded le spans bounds k d lt = record { some = there.some; inside = there.inside; low = low; last = last }
+  where
+    alike : {X : Type 0} (us vs : List X) → take start vs ≡ take start us → (i : ℕ) (e : X) → i < start → get_or vs i e ≡ get_or us i e
+    alike us vs same i e inside = sym (get_or-take start vs i e inside) ∙ ap (λ l. get_or l i e) same ∙ get_or-take start us i e inside
 
-pub under : (m n : ℕ) → ltb m n ≡ true → m < n
-under m n h = grind (arith, nat_tests)
+    there : IsBound xs k (get_or cs k d)
+    there = subst (λ (b : Bounds). IsBound xs k b) (sym (alike bs cs bounds k d lt)) (bounded k d (omega (arith, lt, le)))
 
--- ---- those around two numbers
+    low : (i : ℕ) (e : Span) → i ≤ k → k < i + (get_or cs k d).count → (get_or cs k d).low ≤ (get_or ys i e).low
+    low i e up near = let same : (get_or ys i e).low ≡ (get_or xs i e).low = ap (λ (p : Span). p.low) (alike xs ys spans i e (omega (arith, up, lt))) in let h = there.low i e up near in omega (arith, same, h)
 
-module _ (spans : List Span) (tops : List ℕ) (topped : AreTopped spans tops) (from to start end m : ℕ) (most : m ≡ max end start)
-    (below : (k d : ℕ) → k < start → get_or tops k d < to) (behind : (k : ℕ) (d : Span) → end ≤ k → k < length spans → from < (get_or spans k d).low) where
-  pub has_around : (p : Span) → Contains spans p → p.low ≤ from → to ≤ p.last → Contains (take (m - start) (drop start spans)) p
-  has_around p (k, inside, at) low last = (in_part spans start m p).1 (k, reached, before, inside, at)
-    where
-      reached : start ≤ k
-      reached = ⊎_elim
-          (λ (lt : k < start).
-          let top = topped.upto.topped k p 0 (omega (arith, inside, topped.long)) in
-          let less = below k 0 lt in
-          let same : (get_or spans k p).last ≡ p.last = ap (λ (q : Span). q.last) at in
-          absurd (omega (arith, top, less, same, last)))
-          (λ (le : start ≤ k). le)
-          (cases_lt k start)
+    last : (i : ℕ) (e : Span) → i ≤ k → k < i + (get_or cs k d).count → (get_or ys i e).last ≤ (get_or cs k d).last
+    last i e up near = let same : (get_or ys i e).last ≡ (get_or xs i e).last = ap (λ (p : Span). p.last) (alike xs ys spans i e (omega (arith, up, lt))) in let h = there.last i e up near in omega (arith, same, h)
 
-      before : k < m
-      before = ⊎_elim
-          (λ (lt : k < end). omega (arith, lt, most))
-          (λ (le : end ≤ k).
-          let above = behind k p le inside in
-          let same : (get_or spans k p).low ≡ p.low = ap (λ (q : Span). q.low) at in
-          absurd (omega (arith, above, same, low)))
-          (cases_lt k end)
+-- One more, in any order.
+pub members_put : (xs ys : List Span) (p q : Span) → IsPermutation (xs ++ p ∷ []) ys → Contains ys q ↔ (Contains xs q ⊎ (q ≡ p))
+members_put xs ys p q moved = (
+  λ has. ⊎_elim (λ (old : Contains xs q). inl old) (λ (new : p ≡ q). inr (sym new)) (Contains-push_cases xs p q (Contains-permutation ys (xs ++ p ∷ []) q (IsPermutation-sym (xs ++ p ∷ []) ys moved) has)),
+  ⊎_elim
+      (λ (old : Contains xs q). Contains-permutation (xs ++ p ∷ []) ys q moved (Contains-append_left xs (p ∷ []) q old))
+      (λ (new : q ≡ p). subst (λ (r : Span). Contains ys r) (sym new) (Contains-permutation (xs ++ p ∷ []) ys p moved (Contains-push xs p))),
+)
 
-  pub only_around : (p : Span) → Contains (take (m - start) (drop start spans)) p → Contains spans p
-  only_around p has = let (k, lo, hi, inside, at) = (in_part spans start m p).0 has in (k, inside, at)
-
--- ---- tops
+-- What a vector holds after its elements were written over.
+pub written_over : {X : Type 0} (n : ℕ) (xs ys : List X) → n ≡ length xs → take n (xs ++ ys) ≡ xs
+written_over n xs ys e = ap (λ m. take m (xs ++ ys)) e ∙ take-append_seam xs ys
 
 -- One more is written.
-pub one_top : (spans : List Span) (tops : List ℕ) (k top higher : ℕ) → k < length tops → AreToppedUpTo spans tops k → ((i d : ℕ) → i < k → get_or tops i d ≤ top) → top ≤ higher → ((p : Span) → (get_or spans k p).last ≤ higher)
-    → AreToppedUpTo spans (set tops k higher) (k + 1) × ((i d : ℕ) → i < k + 1 → get_or (set tops k higher) i d ≤ higher)
-one_top spans tops k top higher inside topped most up reach = (record { rising = rising; topped = each }, below)
-  where
-    other : (i d : ℕ) → i < k → get_or (set tops k higher) i d ≡ get_or tops i d
-    other i d lt = get_or-set_other tops k i higher d (λ same. omega (arith, lt, same))
+pub one_bound : (spans : List Span) (bounds : List Bounds) (n : ℕ) (b : Bounds) → n < length bounds → AreBoundedUpTo spans bounds n → IsBound spans n b → AreBoundedUpTo spans (set bounds n b) (n + 1)
+one_bound spans bounds n b inside before here k d lt = ⊎_elim
+    (λ (first : k < n). subst (λ (q : Bounds). IsBound spans k q) (sym (get_or-set_other bounds n k b d (λ same. omega (arith, first, same)))) (before k d first))
+    (λ (last : n ≤ k).
+    let same : n ≡ k = omega (arith, lt, last) in
+    subst (λ m. IsBound spans m (get_or (set bounds n b) m d)) same (subst (λ (q : Bounds). IsBound spans n q) (sym (get_or-set_same bounds n b d inside)) here))
+    (cases_lt k n)
 
-    own : (i d : ℕ) → i ≡ k → get_or (set tops k higher) i d ≡ higher
-    own i d same = ap (λ n. get_or (set tops k higher) n d) same ∙ get_or-set_same tops k higher d inside
-
-    below : (i d : ℕ) → i < k + 1 → get_or (set tops k higher) i d ≤ higher
-    below i d lt = ⊎_elim
-        (λ (first : i < k). let e = other i d first in let le = most i d first in omega (arith, e, le, up))
-        (λ (last : k ≤ i). let e = own i d (omega (arith, lt, last)) in omega (arith, e))
-        (cases_lt i k)
-
-    rising : (i j d : ℕ) → i ≤ j → j < k + 1 → get_or (set tops k higher) i d ≤ get_or (set tops k higher) j d
-    rising i j d le lt = ⊎_elim
-        (λ (first : j < k). let e = other i d (omega (arith, le, first)) in let f = other j d first in let up = topped.rising i j d le first in omega (arith, e, f, up))
-        (λ (last : k ≤ j). let e = own j d (omega (arith, lt, last)) in let b = below i d (omega (arith, le, lt)) in omega (arith, e, b))
-        (cases_lt j k)
-
-    each : (i : ℕ) (p : Span) (d : ℕ) → i < k + 1 → (get_or spans i p).last ≤ get_or (set tops k higher) i d
-    each i p d lt = ⊎_elim
-        (λ (first : i < k). let e = other i d first in let up = topped.topped i p d first in omega (arith, e, up))
-        (λ (last : k ≤ i).
-        let at : i ≡ k = omega (arith, lt, last) in
-        let e = own i d at in
-        let up = reach p in
-        let same : (get_or spans i p).last ≡ (get_or spans k p).last = ap (λ n. (get_or spans n p).last) at in
-        omega (arith, e, up, same))
-        (cases_lt i k)
+-- What is passed over is not around the numbers.
+pub none_passed : (from to : ℕ) (spans : List Span) (end n before : ℕ) (b : Bounds) → 1 ≤ end → n ≤ b.count → (1 < n → b.low ≤ from → to ≤ b.last → ⊥) → IsBound spans (end - 1) b
+    → ((d : Span) → IsAround from to (get_or spans (end - 1) d) → ⊥) → NoneIsAround from to spans end before → NoneIsAround from to spans (end - n) before
+none_passed from to spans end n before b some most over bound last none k d le lt around = ⊎_elim
+    (λ (first : k < end). ⊎_elim
+    (λ (under : k < end - 1).
+    let lows = bound.low k d (omega (arith, under)) (omega (arith, under, le, most)) in
+    let lasts = bound.last k d (omega (arith, under)) (omega (arith, under, le, most)) in
+    over (omega (arith, under, le)) (omega (arith, lows, around.low)) (omega (arith, lasts, around.last)))
+    (λ (at : end - 1 ≤ k).
+    let same : k ≡ end - 1 = omega (arith, at, first, some) in
+    last d (record {
+      low = let e : (get_or spans k d).low ≡ (get_or spans (end - 1) d).low = ap (λ n. (get_or spans n d).low) same in omega (arith, e, around.low);
+      last = let e : (get_or spans k d).last ≡ (get_or spans (end - 1) d).last = ap (λ n. (get_or spans n d).last) same in omega (arith, e, around.last);
+    }))
+    (cases_lt k (end - 1)))
+    (λ (behind : end ≤ k). none k d behind lt around)
+    (cases_lt k end)

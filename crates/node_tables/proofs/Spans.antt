@@ -8,6 +8,7 @@ use Rattle.authenticators.specs.declared.authenticator.Authenticator.{Authentica
 use Rattle.evidence_item.specs.Checking.{Checked}
 use Rattle.node_tables.specs.declared.span.Span.{Span}
 use Rattle.node_tables.specs.Tables.{AreSpans, IsSpan, denies_at}
+use Rattle.node_tables.specs.within.Spanning.{IsAround, NoneIsAround}
 
 -- What holds at each place of a list holds of each element.
 pub all_hold : {X : Type 0} (P : X → Type 0) (xs : List X) → AllWithin P xs 0 (length xs) → (x : X) → Contains xs x → P x
@@ -20,23 +21,32 @@ one_more P xs n all here k d lo lt = ⊎_elim
     (λ le. let at : k ≡ n = omega (arith, lt, le) in subst (λ m. P (get_or xs m d)) (sym at) (here d))
     (cases_lt k n)
 
--- A statement above the reach of a segment does not contradict it, nor does one below.
-unreached : (items : List Checked) (j : ℕ) (a : Authenticator) (p : Span) (b : Bool) → IsSpan items j p → denies_at items a p.item ≡ b → (a.seq ≤ p.last → denies_at items a p.item ≡ false) → denies_at items a p.item ≡ false
-unreached items j a p true is e within = within (is.reach a e).1
-unreached items j a p false is e within = e
-
-module _ (items : List Checked) (j : ℕ) (a : Authenticator) (spans : List Span) (n : ℕ) (e : Span) (all : AreSpans items j spans) (inside : n < length spans) where
-  pub not_denied : (a.seq ≤ (get_or spans n e).last → denies_at items a (get_or spans n e).item ≡ false) → (d : Span) → denies_at items a (get_or spans n d).item ≡ false
-  not_denied within d =
-      let p = get_or spans n e in
-      let h = unreached items j a p (denies_at items a p.item) (all p (Contains-get_or spans n e inside)) refl within in
-      subst (λ (q : Span). denies_at items a q.item ≡ false) (get_or_default spans n e d inside) h
-
--- One that is not among those around its number is not contradicted.
-pub none_outside : (items : List Checked) (j : ℕ) (a : Authenticator) (spans near : List Span) → AreSpans items j spans → ((p : Span) → Contains spans p → p.low ≤ a.seq + 2 → a.seq ≤ p.last → Contains near p)
-    → AllWithin (λ (p : Span). denies_at items a p.item ≡ false) near 0 (length near) → (p : Span) → Contains spans p → denies_at items a p.item ≡ false
-none_outside items j a spans near all has none p here = by_case (denies_at items a p.item) refl
+-- A segment that is not around the statement's number is not contradicted.
+pub not_around : (items : List Checked) (j : ℕ) (a : Authenticator) (p : Span) (from : ℕ) → IsSpan items j p → (p.low ≤ a.seq + 2 → p.low ≤ from) → (IsAround from a.seq p → ⊥) → denies_at items a p.item ≡ false
+not_around items j a p from is near none = by_case (denies_at items a p.item) refl
   where
     by_case : (b : Bool) → denies_at items a p.item ≡ b → denies_at items a p.item ≡ false
-    by_case true e = let w = (all p here).reach a e in all_hold (λ (q : Span). denies_at items a q.item ≡ false) near none p (has p here w.0 w.1)
+    by_case true e = let w = is.reach a e in absurd (none (record { low = near w.0; last = w.1 }))
     by_case false e = e
+
+-- The segments from a place on are not contradicted, if that there is not, and none behind it up to those of before is around.
+pub undenied_from : (items : List Checked) (j : ℕ) (a : Authenticator) (spans : List Span) (from place before : ℕ) → AreSpans items j spans → ((p : Span) → IsSpan items j p → p.low ≤ a.seq + 2 → p.low ≤ from)
+    → ((d : Span) → denies_at items a (get_or spans place d).item ≡ false) → NoneIsAround from a.seq spans (place + 1) before
+    → ((k : ℕ) (d : Span) → before ≤ k → k < length spans → denies_at items a (get_or spans k d).item ≡ false)
+    → (k : ℕ) (d : Span) → place ≤ k → k < length spans → denies_at items a (get_or spans k d).item ≡ false
+undenied_from items j a spans from place before all near here none behind k d le inside = ⊎_elim
+    (λ (lt : k < before). ⊎_elim
+    (λ (above : place < k). let is = all (get_or spans k d) (Contains-get_or spans k d inside) in not_around items j a (get_or spans k d) from is (near (get_or spans k d) is) (none k d (omega (arith, above)) lt))
+    (λ (at : k ≤ place). let same : place ≡ k = omega (arith, at, le) in subst (λ n. denies_at items a (get_or spans n d).item ≡ false) same (here d))
+    (cases_lt place k))
+    (λ (from_before : before ≤ k). behind k d from_before inside)
+    (cases_lt k before)
+
+-- None is, where none up to those of before is around.
+pub all_undenied : (items : List Checked) (j : ℕ) (a : Authenticator) (spans : List Span) (from before : ℕ) → AreSpans items j spans → ((p : Span) → IsSpan items j p → p.low ≤ a.seq + 2 → p.low ≤ from)
+    → NoneIsAround from a.seq spans 0 before → ((k : ℕ) (d : Span) → before ≤ k → k < length spans → denies_at items a (get_or spans k d).item ≡ false)
+    → (p : Span) → Contains spans p → denies_at items a p.item ≡ false
+all_undenied items j a spans from before all near none behind p (k, inside, at) = subst (λ (q : Span). denies_at items a q.item ≡ false) at (⊎_elim
+    (λ (lt : k < before). let is = all (get_or spans k p) (Contains-get_or spans k p inside) in not_around items j a (get_or spans k p) from is (near (get_or spans k p) is) (none k p (omega arith) lt))
+    (λ (from_before : before ≤ k). behind k p from_before inside)
+    (cases_lt k before))

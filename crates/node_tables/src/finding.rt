@@ -10,7 +10,6 @@ ghost use Rattle.node_tables.specs.within.Bringing.{AreUndenied, BringsNothing, 
 
 use crate::exposure::ExposingPlaces;
 use crate::row::{Row, said_at};
-use crate::span::Span;
 use crate::span_list::SpanList;
 use authenticators::NodeId;
 use kept_items::{KeptItem, Said};
@@ -131,17 +130,6 @@ fn is_denied_at<P>(items: &[KeptItem<P>], place: u32, said: &Said<'_>) -> bool
     }
 }
 
-/// Whether the statement's number is not above those that can contradict the segment, and the statement does.
-fn is_reached<P>(items: &[KeptItem<P>], span: &Span, said: &Said<'_>) -> bool
-    ensures yes { result ≡ true → denies_at items.now (shown said.now) span.now.item ≡ true }
-    ensures no { result ≡ false → (said.now.seq ≤ span.now.last) → denies_at items.now (shown said.now) span.now.item ≡ false }
-{
-    if said.seq > span.last {
-        return false;
-    }
-    is_denied_at(items, span.item, said)
-}
-
 /// The place of a segment that the statement contradicts. It looks at those that a statement of its number can contradict.
 fn denied_by<P>(
     items: &[KeptItem<P>],
@@ -153,11 +141,14 @@ fn denied_by<P>(
     ensures none { IfNone result ((p : TheSpan) → Contains spans.now.items p → denies_at items.now (shown said.now) p.item ≡ false) }
     ensures some { IfSome result (λ i. (p : TheSpan) × Contains spans.now.items p × (p.item ≡ i) × (denies_at items.now (shown said.now) i ≡ true)) }
 {
-    let near = spans.around(said.seq.saturating_add(2), said.seq);
-    for span in near {
-        if is_reached(items, span, said) {
-            return Some(span.item);
+    let all = spans.as_slice();
+    let from = said.seq.saturating_add(2);
+    let mut before = all.len();
+    while let Some(place) = spans.around(from, said.seq, before) {
+        if is_denied_at(items, all[place].item, said) {
+            return Some(all[place].item);
         }
+        before = place;
     }
     None
 }

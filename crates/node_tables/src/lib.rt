@@ -33,6 +33,7 @@ mod answering;
 mod asking;
 mod auditing;
 mod bodies;
+mod bounds;
 mod closing;
 mod edge;
 mod exposure;

@@ -1,35 +1,39 @@
 //! Segments by their numbers.
 
-ghost use Rattle.std.specs.Prelude.{◌≡◌, ◌↔◌, ◌⊎◌, ◌+◌, ◌≤◌, ◌<◌, [], ℕ, OnOk, length, slice_index_or, vec_capacity, vec_len};
-ghost use Rattle.std.specs.List.{Contains, insert};
-ghost use Rattle.std.specs.List.Sorted.{IsNonDecreasingBy};
+ghost use Rattle.std.specs.Prelude.{◌≡◌, ◌↔◌, ◌⊎◌, ◌+◌, ◌≤◌, ◌<◌, [], ℕ, IfNone, IfSome, OnOk, false, length, slice_index_or, take, true, vec_capacity, vec_len};
+ghost use Rattle.std.specs.List.{Contains};
+ghost use Rattle.std.specs.List.Sorted.{IsPermutation};
 ghost use Rattle.node_tables.specs.declared.span.Span.{Span as TheSpan};
-ghost use Rattle.node_tables.specs.within.Spanning.{AreTopped, AreToppedUpTo, DoNotFall, IsLonger};
+ghost use Rattle.node_tables.specs.within.Spanning.{AreBounded, IsAround, IsLonger, NoneIsAround};
 
+use crate::bounds::{Bounds, bound_from, joined};
 use crate::span::Span;
 use outcome::Memory;
 use std::alloc::Global;
 use std::marker::Model;
 
-/// Segments by their least numbers. Beside each stands the greatest number of any up to it, so that a look for those that hold a number
-/// begins behind all that end below it. A contract sees the segments, and for how many more room was made.
+/// Segments in runs, one behind the other. Each run is longer than the next, and has its segments by their least numbers: of n there are
+/// log n runs at most, and one segment more joins the last ones that are as long as what stands behind them, as a binary counter
+/// carries. Beside each segment stand the bounds of it and of those before it in its run, as far as a look that goes back can pass over
+/// them. So a put costs O(log^2 n) amortised, and a look O(log^2 n) for each segment that it finds, in whatever order they came. A
+/// contract sees the segments, and for how many more room was made.
 #[derive(Drop)]
 pub struct SpanList {
     spans: Vec<Span>,
-    tops: Vec<u64>,
+    bounds: Vec<Bounds>,
 }
 
 impl Model for SpanList {
     ghost use Rattle.std.specs.Prelude.{min, ◌-◌, vec_capacity, vec_len};
     ghost use Rattle.tiered_vec.specs.Tiers.{Tiered};
     ghost use Rattle.node_tables.specs.declared.span.Span.{Span as TheSpan};
-    ghost use Rattle.node_tables.specs.within.Spanning.{AreTopped};
+    ghost use Rattle.node_tables.specs.within.Spanning.{AreBounded};
 
     ghost Value = { Tiered TheSpan };
 
-    ghost view = { λ s. record { items = s.spans.items; room = min (vec_capacity s.spans - vec_len s.spans) (vec_capacity s.tops - vec_len s.tops) } };
+    ghost view = { λ s. record { items = s.spans.items; room = min (vec_capacity s.spans - vec_len s.spans) (vec_capacity s.bounds - vec_len s.bounds) } };
 
-    ghost invariant = { λ s. AreTopped s.spans.items s.tops.items };
+    ghost invariant = { λ s. AreBounded s.spans.items s.bounds.items };
 }
 
 impl SpanList {
@@ -39,11 +43,11 @@ impl SpanList {
     {
         SpanList {
             spans: Vec::new(alloc),
-            tops: Vec::new(alloc),
+            bounds: Vec::new(alloc),
         }
     }
 
-    /// All of them, by their least numbers.
+    /// All of them, in no order.
     pub(crate) fn as_slice(&self) -> &[Span]
         ensures { result.now ≡ self.now.items }
     {
@@ -57,99 +61,98 @@ impl SpanList {
         ensures room { OnOk result (more ≤ self.new.room) }
     {
         self.spans.reserve(more)?;
-        self.tops.reserve(more)?;
+        self.bounds.reserve(more)?;
         Ok(())
     }
 
-    /// Puts one where its least number has it, behind those of the same one. There is room for it.
+    /// Puts one. There is room for it.
     pub(crate) fn put(&mut self, span: Span)
         requires { 1 ≤ self.old.room }
         ensures members { (q : TheSpan) → Contains self.new.items q ↔ (Contains self.old.items q ⊎ (q ≡ span)) }
         ensures room { self.old.room ≤ self.new.room + 1 }
     {
-        put(&mut self.spans, &mut self.tops, span);
+        put(&mut self.spans, &mut self.bounds, span);
     }
 
-    /// A part of them that has each one from whose least number to whose greatest the two numbers lie.
-    pub(crate) fn around(&self, from: u64, to: u64) -> &[Span]
-        ensures has { (p : TheSpan) → Contains self.now.items p → p.low ≤ from → to ≤ p.last → Contains result.now p }
-        ensures only { (p : TheSpan) → Contains result.now p → Contains self.now.items p }
+    /// The place of the last one before a place from whose least number to whose greatest both numbers lie.
+    pub(crate) fn around(&self, from: u64, to: u64, before: usize) -> Option<usize>
+        requires { before ≤ length self.now.items }
+        ensures none { IfNone result (NoneIsAround from to self.now.items 0 before) }
+        ensures some { IfSome result (λ k. (k < before) × ((d : TheSpan) → IsAround from to (slice_index_or self.now.items k d)) × NoneIsAround from to self.now.items (k + 1) before) }
     {
-        let start = first_up_to(&self.tops, to);
-        let end = behind_low(&self.spans, from);
-        &self.spans[start..end.max(start)]
+        last_around(&self.spans, &self.bounds, from, to, before)
     }
 }
 
-/// Puts one where its least number has it, and writes the tops. There is room for it.
-fn put(spans: &mut Vec<Span>, tops: &mut Vec<u64>, span: Span)
-    requires topped { AreTopped spans.old.items tops.old.items }
+/// Whether both numbers lie from the least number of the segment to its greatest.
+fn is_around(span: &Span, from: u64, to: u64) -> bool
+    ensures yes { result ≡ true → IsAround from to span.now }
+    ensures no { result ≡ false → IsAround from to span.now → ⊥ }
+{
+    span.low <= from && to <= span.last
+}
+
+/// How many segments can be passed over that stand up to some place: all that the bounds are of, if none of these can be around the
+/// numbers, and else the one at the place.
+fn passed(bounds: &Bounds, from: u64, to: u64) -> usize
+    requires { 1 ≤ bounds.now.count }
+    ensures some { 1 ≤ result }
+    ensures most { result ≤ bounds.now.count }
+    ensures over { 1 < result → (bounds.now.low ≤ from → to ≤ bounds.now.last → ⊥) }
+{
+    if bounds.low <= from && to <= bounds.last {
+        return 1;
+    }
+    bounds.count
+}
+
+/// The place of the last segment before a place from whose least number to whose greatest both numbers lie.
+fn last_around(
+    spans: &[Span],
+    bounds: &[Bounds],
+    from: u64,
+    to: u64,
+    before: usize,
+) -> Option<usize>
+    requires bounded { AreBounded spans.now bounds.now }
+    requires inside { before ≤ length spans.now }
+    ensures none { IfNone result (NoneIsAround from to spans.now 0 before) }
+    ensures some { IfSome result (λ k. (k < before) × ((d : TheSpan) → IsAround from to (slice_index_or spans.now k d)) × NoneIsAround from to spans.now (k + 1) before) }
+{
+    let mut end = before;
+    while end > 0 {
+        if is_around(&spans[end - 1], from, to) {
+            return Some(end - 1);
+        }
+        end -= passed(&bounds[end - 1], from, to);
+    }
+    None
+}
+
+/// Sorts the segments from a place on by their least numbers.
+fn sort_from(spans: &mut [Span], start: usize)
+    requires { start ≤ length spans.old }
+    ensures before { take start spans.new ≡ take start spans.old }
+    ensures same { IsPermutation spans.old spans.new }
+{
+    spans[start..].sort_unstable_by_key(|span| span.low);
+}
+
+/// Puts a segment behind the others, lays the last run anew, and writes its bounds. There is room for it.
+fn put(spans: &mut Vec<Span>, bounds: &mut Vec<Bounds>, span: Span)
+    requires bounded { AreBounded spans.old.items bounds.old.items }
     requires room { vec_len spans.old < vec_capacity spans.old }
-    requires tops_room { vec_len tops.old < vec_capacity tops.old }
-    ensures topped { AreTopped spans.new.items tops.new.items }
+    requires bounds_room { vec_len bounds.old < vec_capacity bounds.old }
+    ensures bounded { AreBounded spans.new.items bounds.new.items }
     ensures members { (q : TheSpan) → Contains spans.new.items q ↔ (Contains spans.old.items q ⊎ (q ≡ span)) }
     ensures longer { IsLonger spans.old spans.new }
-    ensures tops_longer { IsLonger tops.old tops.new }
+    ensures bounds_longer { IsLonger bounds.old bounds.new }
 {
-    let place = put_span(spans, span);
-    tops.push_reserved(0);
-    lift(tops, spans, place);
-}
-
-/// The place of the first that reaches the number, or the end.
-fn first_up_to(tops: &[u64], number: u64) -> usize
-    requires { IsNonDecreasingBy (λ n. n) tops.now }
-    ensures inside { result ≤ length tops.now }
-    ensures below { (k d : ℕ) → k < result → slice_index_or tops.now k d < number }
-{
-    tops.partition_point(|top| *top < number)
-}
-
-/// The place behind those whose least number is at most this one.
-fn behind_low(spans: &[Span], number: u64) -> usize
-    requires { DoNotFall spans.now }
-    ensures inside { result ≤ length spans.now }
-    ensures behind { (k : ℕ) (d : TheSpan) → result ≤ k → k < length spans.now → number < (slice_index_or spans.now k d).low }
-{
-    spans.partition_point(|span| span.low <= number)
-}
-
-/// Puts a span where its least number has it, behind those of the same one, and answers where that is. There is room for it.
-fn put_span(spans: &mut Vec<Span>, span: Span) -> usize
-    requires by_low { DoNotFall spans.old.items }
-    requires room { vec_len spans.old < vec_capacity spans.old }
-    ensures by_low { DoNotFall spans.new.items }
-    ensures place { result ≤ vec_len spans.old }
-    ensures items { spans.new.items ≡ insert spans.old.items result span }
-    ensures longer { IsLonger spans.old spans.new }
-{
-    let place = spans.partition_point(|other| other.low <= span.low);
-    let _ = spans.insert(place, span);
-    place
-}
-
-/// The greatest of the first ones, which do not fall.
-fn top_before(tops: &[u64], place: usize) -> u64
-    requires inside { place ≤ length tops.now }
-    requires rising { (i j d : ℕ) → i ≤ j → j < place → slice_index_or tops.now i d ≤ slice_index_or tops.now j d }
-    ensures { (k d : ℕ) → k < place → slice_index_or tops.now k d ≤ result }
-{
-    if place == 0 {
-        return 0;
-    }
-    tops[place - 1]
-}
-
-/// Writes from a place on the greatest number of any up to each.
-fn lift(tops: &mut [u64], spans: &[Span], place: usize)
-    requires long { length tops.old ≡ length spans.now }
-    requires inside { place ≤ length tops.old }
-    requires before { AreToppedUpTo spans.now tops.old place }
-    ensures { AreToppedUpTo spans.now tops.new (length tops.new) }
-{
-    let mut top = top_before(tops, place);
-    for k in place..tops.len() {
-        top = top.max(spans[k].last);
-        tops[k] = top;
-    }
+    let place = spans.len();
+    spans.push_reserved(span);
+    let run = joined(spans, bounds, place);
+    bounds.push_reserved(run);
+    let start = place + 1 - run.count;
+    sort_from(spans, start);
+    bound_from(bounds, spans, start);
 }

@@ -1,9 +1,14 @@
-use Rattle.std.proofs.Common.{◌≡◌, false}
-use Rattle.std.specs.List.{AllWithin}
+use Rattle.std.proofs.Common.{◌≡◌, ◌≤◌, ◌<◌, ℕ, false, get_or, length}
 use Rattle.node_tables.specs.declared.span.Span.{Span}
 use Rattle.kept_items.specs.Positions.{shown}
 use Rattle.node_tables.specs.Tables.{denies_at}
 use Rattle.node_tables.proofs.finding.denied_by.Given as goal
 
-abbrev pub invariant-loop-span : goal.invariant-loop-span
-invariant-loop-span g l = AllWithin (λ (p : Span). denies_at l.items (shown l.said) p.item ≡ false) l.near 0 l.span-index
+abbrev pub invariant-loop-place : goal.invariant-loop-place
+invariant-loop-place g l = record {
+  inside : l.before ≤ length l.all;
+  none : (k : ℕ) (d : Span) → l.before ≤ k → k < length l.all → denies_at l.items (shown l.said) (get_or l.all k d).item ≡ false;
+}
+
+abbrev pub decreases-loop-place : goal.decreases-loop-place
+decreases-loop-place g l = l.before
