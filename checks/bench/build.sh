@@ -9,9 +9,21 @@ name=$2
 shift 2
 cd "$(dirname "$0")"
 mkdir -p "$work/crates/$name/src" "$work/crates/$name/specs"
-for crate in "$@"; do
+# The crates of the repository among some words, and what they stand on.
+with_below() {
+  for crate in "$@"; do
+    [ -e "../../crates/$crate" ] || continue
+    echo "$crate"
+    sed -n "s/^$crate: *//p" ../../crates.txt | tr ' ' '\n'
+  done | sort -u | tr '\n' ' '
+}
+all="$*"
+while more=$(with_below $all) && [ "$more" != "$all" ]; do all=$more; done
+for crate in $all; do
+  [ -e "../../crates/$crate" ] || continue
   [ -e "$work/crates/$crate" ] && continue
-  cp -r "../../crates/$crate" "$work/crates/$crate"
+  mkdir "$work/crates/$crate"
+  find "../../crates/$crate" -mindepth 1 -maxdepth 1 ! -name out -exec cp -r -t "$work/crates/$crate" {} +
   grep "^$crate:" ../../crates.txt >> "$work/crates.txt"
 done
 echo "$name: $*" >> "$work/crates.txt"
