@@ -8,5 +8,6 @@ pub mod OrderedChains
 pub mod OpenChains
 pub mod SeedChains
 pub mod Paths
+pub mod SideBySide
 pub mod SignedTexts
 pub mod Lengths

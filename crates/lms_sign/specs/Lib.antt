@@ -5,5 +5,6 @@ pub mod MerkleTree
 pub mod LmsSignature
 pub mod KeyText
 pub mod Signing
+pub mod SignedMessages
 pub mod Refusals
 pub mod within

@@ -1,2 +1,3 @@
 pub mod TreeNodes
 pub mod OpenChains
+pub mod Eights

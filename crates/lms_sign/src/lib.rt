@@ -8,7 +8,9 @@
 #![tactic(auto)]
 
 pub use key::{KeyFault, PublicKey};
+pub use many::verify_all;
 pub use secret_key::{MakeFault, SecretKey, SignFault};
+pub use signed::Signed;
 pub use types::{LONGEST_SIGNATURE, LmsType, OtsType};
 pub use verification::verify;
 
@@ -20,10 +22,14 @@ mod coefficients;
 mod key;
 pub mod laws;
 mod making;
+mod many;
 mod open_chain;
+mod risings;
 mod secret_key;
 mod seed_chains;
+mod side_by_side;
 mod signature_text;
+mod signed;
 mod stretches;
 mod text;
 mod tree;

@@ -1,10 +1,11 @@
 //! Chains that are being run (RFC 8554, section 4.3).
 
-ghost use Rattle.std.specs.Prelude.{◌≡◌, ℕ, [], ◌<◌, length, slice_index_or};
+ghost use Rattle.std.specs.Prelude.{◌≡◌, ℕ, List, [], ◌+◌, ◌*◌, ◌<◌, ◌≤◌, ◌++◌, length, take, slice_index_or};
 ghost use Rattle.lms_sign.specs.declared.open_chain.OpenChain.{OpenChain};
 ghost use Rattle.lms_sign.specs.OneTimeSignature.{chain_place};
+ghost use Rattle.lms_sign.specs.Signing.{joined};
 
-use crate::text::put;
+use crate::text::{put, put_hash};
 
 /// A chain that is being run: what each of its texts begins with, the number of its next step, the steps that it has
 /// left, and its value.
@@ -24,7 +25,7 @@ pub(crate) const NO_CHAIN: OpenChain = OpenChain {
     value: [0; 32],
 };
 
-/// What each text of chain `i` of leaf `q` begins with.
+/// What each text of chain `i` of leaf `q` begins with. Texts of other kinds have a mark in the place of `i`.
 pub(crate) fn chain_place(id: &[u8; 16], q: u32, i: u16) -> [u8; 22]
     ensures { result ≡ chain_place id.now q i }
 {
@@ -43,5 +44,16 @@ pub(crate) fn write_values(chains: &[OpenChain], values: &mut [[u8; 32]])
 {
     for i in 0..chains.len() {
         values[i] = chains[i].value;
+    }
+}
+
+/// Writes the chains' values into a text in a row, from a place on.
+pub(crate) fn put_values(out: &mut [u8], place: usize, chains: &[OpenChain])
+    requires { place + 32 * length chains.now ≤ length out.old }
+    ensures { (f : ℕ → List ℕ) → ((i : ℕ) (d : OpenChain) → i < length chains.now → (slice_index_or chains.now i d).value ≡ f i)
+        → take (place + 32 * length chains.now) out.new ≡ take place out.old ++ joined f (length chains.now) }
+{
+    for i in 0..chains.len() {
+        put_hash(out, place + 32 * i, &chains[i].value);
     }
 }
