@@ -44,7 +44,7 @@ fn absorb(w: &mut [u32x8; 64], state: [u32x8; 8], block: [u32x8; 16]) -> [u32x8;
     ensures { (j : ℕ) (b : List ℕ) → j < 8 → IsBlock b (lane j block)
         → lane j result ≡ compress (lane j state) b }
 {
-    compress(w, state, block)
+    compress::<false>(w, state, block)
 }
 
 // The hash values after the first `count` blocks of each text.
