@@ -1,43 +1,12 @@
 //! A file as the journal sees it: what a read returns, and what a crash may leave.
 
-ghost use Rattle.std.specs.Prelude.{◌≡◌, ◌≤◌, List, ℕ, length, take, IfOk, OnOk};
-ghost use Rattle.journal.specs.declared.device.DeviceError.TheVariants.{Memory};
+ghost use Rattle.std.specs.Prelude.{◌≡◌, ◌≤◌, List, ℕ, length, take, IfOk, OnErr, OnOk};
 ghost use Rattle.journal.specs.Device.{Only, Follows, Torn, Cut, Holds, Elapses, HasCause};
 
-use std::alloc::{AllocError, AllocFailed, Global};
-use thiserror::Error;
+use crate::fault::DeviceFault;
+use std::alloc::Global;
 
-/// Why a call on a device, or on a journal, was not done.
-#[derive(Clone, Copy, Debug, PartialEq, Eq, Error)]
-pub enum DeviceError {
-    /// A growth of memory was refused.
-    #[error("memory ran out")]
-    Memory,
-    /// The file or its disk failed.
-    #[error("the file failed")]
-    Failed,
-    /// The journal has no room for further texts.
-    #[error("the journal is full")]
-    Full,
-}
-
-impl From<AllocError> for DeviceError {
-    ghost from_gives = { λ _ e. e ≡ Memory };
-
-    fn from(_: AllocError) -> Self {
-        DeviceError::Memory
-    }
-}
-
-impl<T: Drop> From<AllocFailed<T>> for DeviceError {
-    ghost from_gives = { λ _ e. e ≡ Memory };
-
-    fn from(_: AllocFailed<T>) -> Self {
-        DeviceError::Memory
-    }
-}
-
-/// One file, and what a crash does to it. Whatever was not synced may be there after a crash, or not, or in part.
+/// One file, and what a crash does to it. What was not synced may be there after a crash, or not, or in part.
 pub trait Device {
     /// The bytes that a read returns.
     ghost seen: { Self → List ℕ };
@@ -55,31 +24,34 @@ pub trait Device {
     ghost faults: { Self → ℕ };
 
     /// All the bytes.
-    fn read(&mut self, alloc: Global) -> Result<Vec<u8>, DeviceError>
+    fn read(&mut self, alloc: Global) -> Result<Vec<u8>, DeviceFault>
         ensures bytes { IfOk result (λ bytes. bytes.items ≡ seen self.old) }
         ensures seen { seen self.new ≡ seen self.old }
         ensures crash { (c : List ℕ) → may_leave self.new c → may_leave self.old c }
         ensures time { Elapses (moment self.old) (moment self.new) (left_since self.old) (left_since self.new) (may_leave self.new) }
         ensures cause { HasCause (faults self.old) (faults self.new) result };
 
-    /// Writes over what is there, and past the end. Until a sync, a crash may leave any bytes in the range.
-    fn write_at(&mut self, at: usize, bytes: &[u8]) -> Result<(), DeviceError>
+    /// Writes over what is there, and past the end. Until a sync, a crash may leave any bytes in the range. Where it fails, any bytes
+    /// may stand there too.
+    fn write_at(&mut self, at: usize, bytes: &[u8]) -> Result<(), DeviceFault>
         requires { at ≤ length (seen self.old) }
         ensures written { OnOk result (Holds (seen self.old) at bytes.now (seen self.new)) }
+        ensures torn { OnErr result (Torn at (length bytes.now) (seen self.old) (seen self.new)) }
         ensures crash { Follows (Torn at (length bytes.now)) (may_leave self.old) (may_leave self.new) }
         ensures time { Elapses (moment self.old) (moment self.new) (left_since self.old) (left_since self.new) (may_leave self.new) }
         ensures cause { HasCause (faults self.old) (faults self.new) result };
 
-    /// Cuts the file to a length.
-    fn cut(&mut self, len: usize) -> Result<(), DeviceError>
+    /// Cuts the file to a length. Where it fails, the length may be any between.
+    fn cut(&mut self, len: usize) -> Result<(), DeviceFault>
         requires { len ≤ length (seen self.old) }
         ensures cut { OnOk result (seen self.new ≡ take len (seen self.old)) }
+        ensures not_cut { OnErr result (Cut len (seen self.old) (seen self.new)) }
         ensures crash { Follows (Cut len) (may_leave self.old) (may_leave self.new) }
         ensures time { Elapses (moment self.old) (moment self.new) (left_since self.old) (left_since self.new) (may_leave self.new) }
         ensures cause { HasCause (faults self.old) (faults self.new) result };
 
     /// After it, a crash leaves what a read returns.
-    fn sync(&mut self) -> Result<(), DeviceError>
+    fn sync(&mut self) -> Result<(), DeviceFault>
         ensures durable { OnOk result (Only (seen self.old) (may_leave self.new)) }
         ensures seen { seen self.new ≡ seen self.old }
         ensures crash { (c : List ℕ) → may_leave self.new c → may_leave self.old c }
@@ -91,4 +63,7 @@ pub trait Device {
 
     /// Since this moment there is no other.
     ghost only_now: { (file : Self) (c : List ℕ) → left_since file (moment file) c → may_leave file c };
+
+    /// A crash may leave what a read returns: no call makes the outcomes of a crash none.
+    ghost seen_may_stay: { (file : Self) → may_leave file (seen file) };
 }

@@ -1,15 +1,20 @@
-//! A journal: texts on a file, each of them on the disk before it is acknowledged.
+//! A journal of texts: a group of texts is on the disk before it is acknowledged, and after a crash it is there whole or not at all.
 //!
-//! - [`Journal`] adds a text behind those that are there; [`recover`] reads a file that a crash may have left, and repairs its end.
-//! - [`Device`] is a file as the journal sees it, and [`Memory`] one in memory.
-//!
-//! `specs/Journal.antt` says for which texts a file stands, `specs/Device.antt` what calls do to a file and what a crash may leave.
+//! - [`Journal`] adds groups of texts behind those that are there; [`recover`] reads a file that a crash may have left, and repairs its end.
+//! - [`next_text`] gives the texts of what was read, one by one.
+//! - [`Device`] is a file as the journal sees it, and [`MemoryFile`] one in memory.
 #![tactic(auto)]
 
+mod blocks;
 mod device;
+mod fault;
 mod journal;
-mod memory;
+mod memory_file;
+mod recovery;
 
-pub use device::{Device, DeviceError};
-pub use journal::{Journal, next_text, recover};
-pub use memory::Memory;
+pub use blocks::{MOST_GROUP, next_text};
+pub use device::Device;
+pub use fault::{AppendFault, DeviceFault, OpenFault};
+pub use journal::{Journal, Refused};
+pub use memory_file::MemoryFile;
+pub use recovery::recover;

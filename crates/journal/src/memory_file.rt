@@ -1,28 +1,29 @@
 //! A file in memory. Each call is done at once, so a crash leaves what is there. It keeps each past content.
 
-ghost use Rattle.std.specs.Prelude.{◌≡◌, ◌⊎◌, [], ◌∷◌, ◌++◌, length, drop, OnOk, OnErr};
+ghost use Rattle.std.specs.Prelude.{◌≡◌, ◌⊎◌, [], ◌∷◌, ◌++◌, length, drop, refl, OnOk, OnErr};
 ghost use Rattle.std.proofs.Common.{inl};
 ghost use Rattle.journal.specs.Past.{HadBeen, only_bytes};
 
-use crate::{Device, DeviceError};
+use crate::device::Device;
+use crate::fault::DeviceFault;
 use std::alloc::{AllocError, Global};
 
 /// A file in memory, for tests: what it had at each moment is kept beside it.
 #[derive(Drop)]
-pub struct Memory {
+pub struct MemoryFile {
     alloc: Global,
     bytes: Vec<u8>,
     past: Vec<Vec<u8>>,
 }
 
-impl Memory {
-    ghost use Rattle.journal.specs.Memory.{memory_bytes};
+impl MemoryFile {
+    ghost use Rattle.journal.specs.MemoryFile.{bytes_of};
 
     /// A file with these bytes, all of them on the disk.
     pub fn new(alloc: Global, bytes: Vec<u8>) -> Self
-        ensures { memory_bytes result ≡ bytes.items }
+        ensures { bytes_of result ≡ bytes.items }
     {
-        Memory {
+        MemoryFile {
             alloc,
             bytes,
             past: Vec::new(alloc),
@@ -31,7 +32,7 @@ impl Memory {
 
     /// What the file has now.
     pub fn bytes(&self) -> &[u8]
-        ensures { result.now ≡ memory_bytes self.now }
+        ensures { result.now ≡ bytes_of self.now }
     {
         &self.bytes
     }
@@ -54,7 +55,7 @@ fn replace(
     Ok(())
 }
 
-impl Device for Memory {
+impl Device for MemoryFile {
     ghost seen = { λ m. m.bytes.items };
 
     ghost may_leave = { λ m c. c ≡ m.bytes.items };
@@ -69,11 +70,13 @@ impl Device for Memory {
 
     ghost only_now = { λ m c left. only_bytes m.past.items m.bytes.items c left };
 
-    fn read(&mut self, alloc: Global) -> Result<Vec<u8>, DeviceError> {
+    ghost seen_may_stay = { λ m. refl };
+
+    fn read(&mut self, alloc: Global) -> Result<Vec<u8>, DeviceFault> {
         Ok(self.bytes.to_vec(alloc)?)
     }
 
-    fn write_at(&mut self, at: usize, bytes: &[u8]) -> Result<(), DeviceError> {
+    fn write_at(&mut self, at: usize, bytes: &[u8]) -> Result<(), DeviceFault> {
         let mut next = self.bytes[..at].to_vec(self.alloc)?;
         next.extend_from_slice(bytes)?;
         if bytes.len() < self.bytes.len() - at {
@@ -82,12 +85,12 @@ impl Device for Memory {
         Ok(replace(self.alloc, &mut self.bytes, &mut self.past, next)?)
     }
 
-    fn cut(&mut self, len: usize) -> Result<(), DeviceError> {
+    fn cut(&mut self, len: usize) -> Result<(), DeviceFault> {
         let next = self.bytes[..len].to_vec(self.alloc)?;
         Ok(replace(self.alloc, &mut self.bytes, &mut self.past, next)?)
     }
 
-    fn sync(&mut self) -> Result<(), DeviceError> {
+    fn sync(&mut self) -> Result<(), DeviceFault> {
         Ok(())
     }
 }

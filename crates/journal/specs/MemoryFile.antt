@@ -1,0 +1,7 @@
+-- What a file in memory has.
+use Rattle.std.specs.Prelude.{ℕ, List}
+use Rattle.journal.specs.declared.memory_file.MemoryFile.{MemoryFile}
+
+-- Its bytes.
+abbrev pub bytes_of : MemoryFile → List ℕ
+bytes_of file = file.bytes.items

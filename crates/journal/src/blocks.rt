@@ -1,0 +1,93 @@
+//! Blocks: how texts stand in a file, and how they are found there.
+
+ghost use Rattle.std.specs.Prelude.{◌≡◌, ◌+◌, ◌<◌, ◌≤◌, ◌^◌, ◌++◌, ◌∷◌, [], length, vec_len, None, IfOk, IfSome, OnOk, nat_le};
+ghost use Rattle.journal.specs.Journal.{recovered, covered, ends_closed, block_of, blocks_of, size_of, texts_of};
+
+use std::alloc::{AllocError, Global};
+
+/// The longest group: its blocks take at most so many bytes.
+pub const MOST_GROUP: usize = 8_388_608;
+
+/// What a block takes beside its text.
+const HEAD: usize = 9;
+
+/// An open gate. Every byte but 0 is one, so it stays open while one of its bits is left.
+const OPEN: u8 = 255;
+
+/// Whether the blocks of the texts make a group, and no more than one.
+pub(crate) fn fits(texts: &[Vec<u8>]) -> bool
+    ensures { result ≡ nat_le (size_of (texts_of texts.now)) MOST_GROUP }
+{
+    let mut room = MOST_GROUP;
+    for text in texts {
+        if room < HEAD || room - HEAD < text.len() {
+            return false;
+        }
+        room = room - HEAD - text.len();
+    }
+    true
+}
+
+/// The open blocks of the texts, and the closed gate behind them.
+pub(crate) fn group_of(alloc: Global, texts: &[Vec<u8>]) -> Result<Vec<u8>, AllocError>
+    requires { size_of (texts_of texts.now) ≤ MOST_GROUP }
+    ensures { IfOk result (λ v. v.items ≡ blocks_of (texts_of texts.now) ++ 0 ∷ []) }
+{
+    let mut bytes = Vec::new(alloc);
+    for text in texts {
+        put_block(&mut bytes, text)?;
+    }
+    bytes.push(0)?;
+    Ok(bytes)
+}
+
+/// Puts the open block of a text behind the bytes.
+fn put_block(bytes: &mut Vec<u8>, text: &[u8]) -> Result<(), AllocError>
+    requires { length text.now < 2 ^ 32 }
+    ensures { OnOk result (bytes.new.items ≡ bytes.old.items ++ block_of text.now) }
+{
+    let size = text.len() as u32;
+    bytes.push(OPEN)?;
+    bytes.extend_from_slice(&size.to_be_bytes())?;
+    bytes.extend_from_slice(&(u32::MAX - size).to_be_bytes())?;
+    bytes.extend_from_slice(text)?;
+    Ok(())
+}
+
+/// The first text of a file, and the file behind its block; none where no block counts there.
+pub fn next_text(bytes: &[u8]) -> Option<(&[u8], &[u8])>
+    ensures some { IfSome result (λ r. recovered bytes.now ≡ r.0.now ∷ recovered r.1.now) }
+    ensures shorter { IfSome result (λ r. length r.1.now + 9 + length r.0.now ≡ length bytes.now) }
+    ensures none { result ≡ None → recovered bytes.now ≡ [] }
+{
+    if let [gate, a, b, c, d, e, f, g, h, rest @ ..] = bytes {
+        let size = u32::from_be_bytes([*a, *b, *c, *d]) as usize;
+        let lack = u32::from_be_bytes([*e, *f, *g, *h]) as usize;
+        if *gate != 0 && size + lack == u32::MAX as usize && size <= rest.len() {
+            return Some((&rest[..size], &rest[size..]));
+        }
+    }
+    None
+}
+
+/// How many bytes the blocks take for which the bytes stand.
+pub(crate) fn covered_len(bytes: &[u8]) -> usize
+    ensures covered { result ≡ covered bytes.now }
+    ensures within { result ≤ length bytes.now }
+{
+    let mut rest = bytes;
+    while let Some((_, behind)) = next_text(rest) {
+        rest = behind;
+    }
+    bytes.len() - rest.len()
+}
+
+/// Whether the bytes are a closed gate and at most a group behind it.
+pub(crate) fn is_closed_end(bytes: &[u8]) -> bool
+    ensures { result ≡ ends_closed bytes.now }
+{
+    match bytes {
+        [gate, behind @ ..] => *gate == 0 && behind.len() <= MOST_GROUP,
+        [] => false,
+    }
+}
