@@ -1,5 +1,5 @@
 -- Journals whose gate is closed: what a stopped append leaves, and a repair.
-use Rattle.std.proofs.Common.{◌≡◌, ℕ, ◌+◌, ◌≤◌, ◌<◌, ◌^◌, List, length, take, sym, ◌∙◌, ap, subst, arith}
+use Rattle.std.proofs.Common.{◌≡◌, ℕ, ◌+◌, ◌≤◌, ◌<◌, ◌^◌, List, length, length-take, take, sym, ◌∙◌, ap, subst, arith}
 use Rattle.journal.specs.Device.{Torn, Cut, Follows, Only, LeavesOnly}
 use Rattle.journal.specs.Journal.{recovered, covered, IsSameToGate, IsClosed, IsSettled}
 use Rattle.journal.specs.declared.blocks.TheConstants.{MOST_GROUP}
@@ -11,14 +11,15 @@ use Rattle.journal.proofs.Gate.{Gated, gated_recovered, gated_covered, gated_dro
 pub torn_each : (end n : ℕ) (file : List ℕ) (old new : List ℕ → Type 0) → length file ≡ end + 1 → n ≤ MOST_GROUP → Only file old → Follows (Torn (end + 1) n) old new → (c : List ℕ) → new c → IsSameToGate end file c
 torn_each end n file old new long few only follows c left =
     let from = follows c left in
-    torn_same end n file c (omega (arith, long)) few (subst (λ d. Torn (end + 1) n d c) (only from.0 from.1) from.2)
+    torn_same end n file c long few (subst (λ d. Torn (end + 1) n d c) (only from.0 from.1) from.2)
 
 -- each outcome of a cut behind it
-pub cut_each : (end : ℕ) (file : List ℕ) (old new : List ℕ → Type 0) → ((c : List ℕ) → old c → IsSameToGate end file c) → Follows (Cut (end + 1)) old new → (c : List ℕ) → new c → IsSameToGate end file c
-cut_each end file old new each follows c left =
+pub cut_each : (end : ℕ) (file : List ℕ) (old new : List ℕ → Type 0) → end + 1 ≤ length file → ((c : List ℕ) → old c → IsSameToGate end file c) → Follows (Cut (end + 1)) old new → (c : List ℕ) → new c → IsSameToGate end file c
+cut_each end file old new le each follows c left =
     let from = follows c left in
     let was = each from.0 from.1 in
-    record { front = cut_front (end + 1) from.0 c from.2 ∙ was.front; behind = omega (arith, was.behind, cut_shorter (end + 1) from.0 c from.2) }
+    let long : end + 1 ≤ length from.0 = omega (arith, le, ap length was.front, length-take (end + 1) from.0, length-take (end + 1) file) in
+    record { front = cut_front (end + 1) from.0 c long from.2 ∙ was.front; behind = omega (arith, was.behind, cut_shorter (end + 1) from.0 c from.2) }
 
 module _ {D : Type 0} (seen : D → List ℕ) (may_leave : D → List ℕ → Type 0) (end : ℕ) (file : List ℕ) (ends : end ≡ covered file) (small : end < 2 ^ 63) (gated : Gated (recovered file) end file) where
   abbrev journal_at : D → Journal D

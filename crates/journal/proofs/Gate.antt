@@ -1,5 +1,5 @@
 -- Files that have a closed gate behind their blocks.
-use Rattle.std.proofs.Common.{◌≡◌, ℕ, ◌+◌, ◌≤◌, List, [], ◌∷◌, ◌++◌, length, take, drop, refl, sym, ◌∙◌, ap, arith, append_assoc, length-append, length-take, take-append-drop, Bool, true, false}
+use Rattle.std.proofs.Common.{◌≡◌, ℕ, ◌+◌, ◌≤◌, min, List, [], ◌∷◌, ◌++◌, length, take, drop, refl, sym, ◌∙◌, ap, arith, append_assoc, length-append, length-take, take-append-drop, Bool, true, false}
 use Rattle.std.proofs.lemmas.List.{append-nil, take_at, drop_at, take_all, drop_all, take-take}
 use Rattle.std.proofs.lemmas.Bool.{le-leb}
 use Rattle.std.specs.Prelude.{◌||◌, nat_le}
@@ -37,6 +37,9 @@ module _ (texts : List (List ℕ)) (end : ℕ) (file : List ℕ) (gated : Gated 
 
   pub gated_length : length file ≡ end + 1 + length gated.behind
   gated_length = omega (arith, ap length gated.is, length-append gated.front (0 ∷ gated.behind), gated.size)
+
+  pub gated_reaches : end + 1 ≤ length file
+  gated_reaches = omega (arith, gated_length)
 
   pub gated_take : take (end + 1) file ≡ gated.front ++ 0 ∷ []
   gated_take =
@@ -102,13 +105,19 @@ at_rest texts end file gated long =
 
 -- ---- what the calls leave of it
 
+-- what stands before a write
+pub torn_front : (at n : ℕ) (old new : List ℕ) → at ≤ length old → Torn at n old new → take at new ≡ take at old
+torn_front at n old new le torn =
+    let whole : min at (length old) ≡ at = omega (arith, le) in
+    ap (λ (k : ℕ). take k new) (sym whole) ∙ torn.before ∙ ap (λ (k : ℕ). take k old) whole
+
 -- a write behind the gate that is cut short
-pub torn_same : (end n : ℕ) (file other : List ℕ) → length file ≤ end + 1 → n ≤ MOST_GROUP → Torn (end + 1) n file other → IsSameToGate end file other
-torn_same end n file other long few torn = record { front = torn.before; behind = omega (arith, long, few, torn.no_longer) }
+pub torn_same : (end n : ℕ) (file other : List ℕ) → length file ≡ end + 1 → n ≤ MOST_GROUP → Torn (end + 1) n file other → IsSameToGate end file other
+torn_same end n file other long few torn = record { front = torn_front (end + 1) n file other (omega (arith, long)) torn; behind = omega (arith, long, few, torn.no_longer) }
 
 -- a cut behind it that may not be done
-pub cut_front : (at : ℕ) (file other : List ℕ) → Cut at file other → take at other ≡ take at file
-cut_front at file other cut = ap (λ (l : List ℕ). take at l) (sym cut.front) ∙ take-take at (length other) file cut.no_shorter
+pub cut_front : (at : ℕ) (file other : List ℕ) → at ≤ length file → Cut at file other → take at other ≡ take at file
+cut_front at file other le cut = ap (λ (l : List ℕ). take at l) (sym cut.front) ∙ take-take at (length other) file (omega (arith, le, cut.no_shorter))
 
 pub cut_shorter : (at : ℕ) (file other : List ℕ) → Cut at file other → length other ≤ length file
 cut_shorter at file other cut = omega (arith, ap length cut.front, length-take (length other) file)

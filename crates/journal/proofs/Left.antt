@@ -7,7 +7,7 @@ use Rattle.journal.specs.Device.{Cut, Follows, Only}
 use Rattle.journal.specs.Journal.{recovered, covered, ends_closed, can_be_left, StandsFor, IsAlike, IsSameToGate}
 use Rattle.journal.specs.declared.blocks.TheConstants.{MOST_GROUP}
 use Rattle.journal.proofs.Spelled.{parts, spelled_closed}
-use Rattle.journal.proofs.Gate.{Gated, gated_of, gated_drop, gated_length, gated_take, gated_then, parted}
+use Rattle.journal.proofs.Gate.{Gated, gated_of, gated_drop, gated_length, gated_reaches, gated_take, gated_then, parted}
 use Rattle.journal.proofs.Closed.{cut_each}
 
 second_of : (x y : Bool) → (x || y) ≡ true → x ≡ false → y ≡ true
@@ -52,7 +52,7 @@ left_of file end ends left long =
 pub cut_stands : (file : List ℕ) (end : ℕ) (old new : List ℕ → Type 0) → Left file end → Only file old → Follows (Cut (end + 1)) old new → (c : List ℕ) → new c → StandsFor (recovered file) c
 cut_stands file end old new left only follows c now =
     let same : IsSameToGate end file file = record { front = refl; behind = left.most } in
-    gated_then (recovered file) end file c left.gated (cut_each end file old new (λ d was. subst (IsSameToGate end file) (sym (only d was)) same) follows c now)
+    gated_then (recovered file) end file c left.gated (cut_each end file old new (gated_reaches _ _ _ left.gated) (λ d was. subst (IsSameToGate end file) (sym (only d was)) same) follows c now)
 
 pub cut_is : (file new : List ℕ) (end : ℕ) → Left file end → new ≡ take (end + 1) file → new ≡ take end file ++ 0 ∷ []
 cut_is file new end left is =

@@ -6,7 +6,7 @@ use Rattle.journal.specs.Device.{Holds, Torn, Follows, Only}
 use Rattle.journal.specs.Journal.{recovered, covered, IsBeforeOrAfter, IsAtRest}
 use Rattle.journal.specs.declared.blocks.TheConstants.{MOST_GROUP}
 use Rattle.journal.proofs.Spelled.{Spells, Parts, parts, spelled_more, any_gate}
-use Rattle.journal.proofs.Gate.{Gated, parted, gated_stands, gated_length, rests, length-rests}
+use Rattle.journal.proofs.Gate.{torn_front, Gated, parted, gated_stands, gated_length, rests, length-rests}
 
 -- ---- a group
 
@@ -87,7 +87,7 @@ module _ (file group : List ℕ) (end : ℕ) (ends : end ≡ covered file) (stag
       let gate = get_or c end 0 in
       let back : drop (end + 1) c ≡ drop 1 group = torn.after ∙ dropped in
       let tail : drop end c ≡ gate ∷ drop 1 group = drop_more c end 0 (omega (arith, torn.no_shorter, length-any 0 file file_is, long)) ∙ ap (λ (l : List ℕ). gate ∷ l) back in
-      let front : take end c ≡ p.front = torn.before ∙ ap (λ (l : List ℕ). take end l) file_is ∙ take_at p.front (0 ∷ drop 1 group) end size in
+      let front : take end c ≡ p.front = torn_front end 1 file c (omega (arith, length-any 0 file file_is)) torn ∙ ap (λ (l : List ℕ). take end l) file_is ∙ take_at p.front (0 ∷ drop 1 group) end size in
       any_outcome gate c (sym (take-append-drop end c) ∙ ap (λ (l : List ℕ). l ++ drop end c) front ∙ ap (λ (l : List ℕ). p.front ++ l) tail)
     where
       dropped : drop (end + 1) file ≡ drop 1 group

@@ -9,6 +9,7 @@ mod blocks;
 mod device;
 mod fault;
 mod journal;
+pub mod laws;
 mod memory_file;
 mod recovery;
 

@@ -2,7 +2,7 @@ use Rattle.std.proofs.Common.{◌≡◌, ℕ, ◌+◌, List, length, take, sym, 
 use Rattle.std.proofs.lemmas.List.{take-take, length-take-le}
 use Rattle.journal.specs.Journal.{recovered, StandsFor}
 use Rattle.journal.proofs.Closed.{cut_each, closed_at, same_at, settled_at, started_at}
-use Rattle.journal.proofs.Gate.{Gated, gated_of, gated_length, gated_then, cut_front}
+use Rattle.journal.proofs.Gate.{Gated, gated_of, gated_length, gated_reaches, gated_then, cut_front}
 use Rattle.journal.proofs.Moments.{goes_on}
 use Rattle.journal.proofs.journal.Journal.repair.Goals as goal
 
@@ -21,15 +21,15 @@ returns-in_err-cut-clause-same g c =
     let s = c.requires in
     let end = c.args.self.now.end in
     let file = g.D.Device.seen c.args.self.now.device in
-    same_at g.D.Device.seen g.D.Device.may_leave end file s.end s.small (gated_of file end s.end s.gate) c.cut.new.self (cut_front (end + 1) file _ c.in_err-cut.ensures.not_cut)
+    same_at g.D.Device.seen g.D.Device.may_leave end file s.end s.small (gated_of file end s.end s.gate) c.cut.new.self (cut_front (end + 1) file _ (gated_reaches _ _ _ (gated_of file end s.end s.gate)) c.in_err-cut.ensures.not_cut)
 
 pub returns-in_err-cut-clause-closed : goal.returns-in_err-cut-clause-closed
 returns-in_err-cut-clause-closed g c =
     let s = c.requires in
     let end = c.args.self.now.end in
     let file = g.D.Device.seen c.args.self.now.device in
-    closed_at g.D.Device.seen g.D.Device.may_leave end file s.end s.small (gated_of file end s.end s.gate) c.cut.new.self (cut_front (end + 1) file _ c.in_err-cut.ensures.not_cut)
-    (cut_each end file _ _ s.each c.cut.ensures.crash)
+    closed_at g.D.Device.seen g.D.Device.may_leave end file s.end s.small (gated_of file end s.end s.gate) c.cut.new.self (cut_front (end + 1) file _ (gated_reaches _ _ _ (gated_of file end s.end s.gate)) c.in_err-cut.ensures.not_cut)
+    (cut_each end file _ _ (gated_reaches _ _ _ (gated_of file end s.end s.gate)) s.each c.cut.ensures.crash)
 
 pub returns-in_err-cut-clause-any_moment : goal.returns-in_err-cut-clause-any_moment
 returns-in_err-cut-clause-any_moment g c =
@@ -40,7 +40,7 @@ returns-in_err-cut-clause-any_moment g c =
     let gated = gated_of file end s.end s.gate in
     let P = StandsFor (recovered file) in
     let start = started_at g.D.Device.moment g.D.Device.left_since g.D.Device.may_leave g.met.D.Device.only_now old P (λ f now. gated_then (recovered file) end file f gated (s.each f now)) in
-    goes_on g.D.Device.moment g.D.Device.left_since old old c.cut.new.self P _ start c.cut.ensures.time (λ f now. gated_then (recovered file) end file f gated (cut_each end file _ _ s.each c.cut.ensures.crash f now))
+    goes_on g.D.Device.moment g.D.Device.left_since old old c.cut.new.self P _ start c.cut.ensures.time (λ f now. gated_then (recovered file) end file f gated (cut_each end file _ _ (gated_reaches _ _ _ (gated_of file end s.end s.gate)) s.each c.cut.ensures.crash f now))
 
 pub returns-in_err-sync-clause-same : goal.returns-in_err-sync-clause-same
 returns-in_err-sync-clause-same g c =
@@ -57,7 +57,7 @@ returns-in_err-sync-clause-closed g c =
     let file = g.D.Device.seen c.args.self.now.device in
     let is = c.sync.ensures.seen ∙ c.in_ok-cut.ensures.cut in
     closed_at g.D.Device.seen g.D.Device.may_leave end file s.end s.small (gated_of file end s.end s.gate) c.sync.new.self (front_is file _ (end + 1) is)
-    (λ f now. cut_each end file _ _ s.each c.cut.ensures.crash f (c.sync.ensures.crash f now))
+    (λ f now. cut_each end file _ _ (gated_reaches _ _ _ (gated_of file end s.end s.gate)) s.each c.cut.ensures.crash f (c.sync.ensures.crash f now))
 
 pub returns-in_err-sync-clause-any_moment : goal.returns-in_err-sync-clause-any_moment
 returns-in_err-sync-clause-any_moment g c =
@@ -67,7 +67,7 @@ returns-in_err-sync-clause-any_moment g c =
     let file = g.D.Device.seen old in
     let gated = gated_of file end s.end s.gate in
     let P = StandsFor (recovered file) in
-    let each : (f : List ℕ) → g.D.Device.may_leave c.cut.new.self f → P f = λ f now. gated_then (recovered file) end file f gated (cut_each end file _ _ s.each c.cut.ensures.crash f now) in
+    let each : (f : List ℕ) → g.D.Device.may_leave c.cut.new.self f → P f = λ f now. gated_then (recovered file) end file f gated (cut_each end file _ _ (gated_reaches _ _ _ (gated_of file end s.end s.gate)) s.each c.cut.ensures.crash f now) in
     let start = started_at g.D.Device.moment g.D.Device.left_since g.D.Device.may_leave g.met.D.Device.only_now old P (λ f now. gated_then (recovered file) end file f gated (s.each f now)) in
     let cut = goes_on g.D.Device.moment g.D.Device.left_since old old c.cut.new.self P _ start c.cut.ensures.time each in
     goes_on g.D.Device.moment g.D.Device.left_since old c.cut.new.self c.sync.new.self P _ cut c.sync.ensures.time (λ f now. each f (c.sync.ensures.crash f now))
@@ -98,7 +98,7 @@ returns-clause-any_moment g c =
     let file = g.D.Device.seen old in
     let gated = gated_of file end s.end s.gate in
     let P = StandsFor (recovered file) in
-    let each : (f : List ℕ) → g.D.Device.may_leave c.cut.new.self f → P f = λ f now. gated_then (recovered file) end file f gated (cut_each end file _ _ s.each c.cut.ensures.crash f now) in
+    let each : (f : List ℕ) → g.D.Device.may_leave c.cut.new.self f → P f = λ f now. gated_then (recovered file) end file f gated (cut_each end file _ _ (gated_reaches _ _ _ (gated_of file end s.end s.gate)) s.each c.cut.ensures.crash f now) in
     let start = started_at g.D.Device.moment g.D.Device.left_since g.D.Device.may_leave g.met.D.Device.only_now old P (λ f now. gated_then (recovered file) end file f gated (s.each f now)) in
     let cut = goes_on g.D.Device.moment g.D.Device.left_since old old c.cut.new.self P _ start c.cut.ensures.time each in
     goes_on g.D.Device.moment g.D.Device.left_since old c.cut.new.self c.sync.new.self P _ cut c.sync.ensures.time (λ f now. each f (c.sync.ensures.crash f now))
@@ -110,4 +110,4 @@ returns-clause-closed g c =
     let file = g.D.Device.seen c.args.self.now.device in
     let is = c.sync.ensures.seen ∙ c.in_ok-cut.ensures.cut in
     closed_at g.D.Device.seen g.D.Device.may_leave end file s.end s.small (gated_of file end s.end s.gate) c.sync.new.self (front_is file _ (end + 1) is)
-    (λ f now. cut_each end file _ _ s.each c.cut.ensures.crash f (c.sync.ensures.crash f now))
+    (λ f now. cut_each end file _ _ (gated_reaches _ _ _ (gated_of file end s.end s.gate)) s.each c.cut.ensures.crash f (c.sync.ensures.crash f now))

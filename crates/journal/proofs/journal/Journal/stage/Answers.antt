@@ -4,7 +4,7 @@ use Rattle.std.proofs.Common.{append_assoc, take-append-drop}
 use Rattle.journal.specs.Journal.{recovered, StandsFor}
 use Rattle.journal.specs.declared.blocks.TheConstants.{MOST_GROUP}
 use Rattle.journal.proofs.Closed.{torn_each, closed_at, same_at, started_at}
-use Rattle.journal.proofs.Gate.{rests, length-rests, gated_then, written_behind, behind_same}
+use Rattle.journal.proofs.Gate.{torn_front, rests, length-rests, gated_then, written_behind, behind_same}
 use Rattle.journal.proofs.Moments.{goes_on}
 use Rattle.journal.proofs.journal.Journal.stage.Goals as goal
 
@@ -35,14 +35,15 @@ returns-in_err-write_at-clause-closed g c =
     let few = rest_few c.args.group.now c.requires.size.1 in
     let long = length-rests file end s.end s.rest in
     let each = torn_each end _ file _ _ long few s.durable c.write_at.ensures.crash in
-    closed_at g.D.Device.seen g.D.Device.may_leave end file s.end s.small (rests file end s.end s.rest) c.write_at.new.self c.in_err-write_at.ensures.torn.before each
+    closed_at g.D.Device.seen g.D.Device.may_leave end file s.end s.small (rests file end s.end s.rest) c.write_at.new.self (torn_front (end + 1) _ file _ (omega (arith, long)) c.in_err-write_at.ensures.torn) each
 
 pub returns-in_err-write_at-clause-same : goal.returns-in_err-write_at-clause-same
 returns-in_err-write_at-clause-same g c =
     let s = c.requires.settled in
     let end = c.args.self.now.end in
     let file = g.D.Device.seen c.args.self.now.device in
-    (refl, same_at g.D.Device.seen g.D.Device.may_leave end file s.end s.small (rests file end s.end s.rest) c.write_at.new.self c.in_err-write_at.ensures.torn.before)
+    let long = length-rests file end s.end s.rest in
+    (refl, same_at g.D.Device.seen g.D.Device.may_leave end file s.end s.small (rests file end s.end s.rest) c.write_at.new.self (torn_front (end + 1) _ file _ (omega (arith, long)) c.in_err-write_at.ensures.torn))
 
 pub returns-in_err-write_at-clause-any_moment : goal.returns-in_err-write_at-clause-any_moment
 returns-in_err-write_at-clause-any_moment g c =
