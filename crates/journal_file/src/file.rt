@@ -166,7 +166,7 @@ impl Device for FileDevice {
     fn cut(&mut self, len: usize) -> Result<(), DeviceFault> {
         self.is_unread = false;
         if !self.may_cut(len) {
-            self.record.note(&[FAILED, 0], &[]);
+            self.record.note(&[NOT_CUT, len as u64], &[]);
             return Err(DeviceFault::Failed);
         }
         match self.file.set_len(len as u64) {
