@@ -1,15 +1,15 @@
 -- An open gate with no block that counts is damage.
-use Rattle.std.proofs.Common.{◌≡◌, ◌≢◌, ℕ, ◌+◌, ◌≤◌, ◌<◌, List, [], ◌∷◌, ◌++◌, length, drop, refl, sym, ◌∙◌, ap, subst, arith, length-append, Bool, true, false}
-use Rattle.std.specs.Prelude.{not, ◌==◌, ◌&&◌, ◌||◌, nat_le}
+use Rattle.std.proofs.Common.{◌≡◌, ℕ, ◌+◌, List, [], ◌∷◌, ◌++◌, length, drop, refl, sym, ◌∙◌, ap, subst, arith, length-append}
+use Rattle.std.specs.Prelude.{not, ◌==◌, ◌&&◌, nat_le}
 use Rattle.std.proofs.lemmas.Bool.{and_left, and_right, or_from, lt-leb, ne_eqb}
-use Rattle.std.proofs.lemmas.List.{append-nil, drop_at, take_all}
-use Rattle.journal.specs.Journal.{number_of, counts, recovered, covered, size_of, ends_closed, can_be_left}
+use Rattle.std.proofs.lemmas.List.{append-nil, drop_at}
+use Rattle.journal.specs.Journal.{recovered, covered, size_of, ends_closed}
 use Rattle.journal.specs.Damage.{OpenGatesHaveBlocks, LostBitsAreSeen}
 use Rattle.journal.specs.declared.blocks.TheConstants.{MOST_GROUP}
-use Rattle.journal.proofs.Spelled.{Head, laid, Parts, Spells, parts, first_not, length-spelled, spelled_then}
+use Rattle.journal.proofs.Spelled.{Head, laid, Spells, parts, first_not, length-spelled, spelled_then}
 
 -- what takes all of its bytes is spelled by them
-whole : (front : List ℕ) → covered front ≡ length front → Spells (recovered front) front
+pub whole : (front : List ℕ) → covered front ≡ length front → Spells (recovered front) front
 whole front is =
     let p = parts front in
     let size = length-spelled (recovered front) p.front p.spelled in

@@ -5,3 +5,7 @@ use Rattle.journal.specs.declared.memory_file.MemoryFile.{MemoryFile}
 -- Its bytes.
 abbrev pub bytes_of : MemoryFile → List ℕ
 bytes_of file = file.bytes.items
+
+-- How many of them have been read.
+abbrev pub read_of : MemoryFile → ℕ
+read_of file = file.read

@@ -1,7 +1,7 @@
-//! Blocks: how texts stand in a file, and how they are found there.
+//! Blocks: how texts stand in a file.
 
 ghost use Rattle.std.specs.Prelude.{◌≡◌, ◌+◌, ◌<◌, ◌≤◌, ◌^◌, ◌++◌, ◌∷◌, [], length, vec_len, None, IfOk, IfSome, OnOk, nat_le};
-ghost use Rattle.journal.specs.Journal.{recovered, covered, ends_closed, block_of, blocks_of, size_of, texts_of};
+ghost use Rattle.journal.specs.Journal.{ends_closed, block_of, blocks_of, size_of, texts_of};
 
 use std::alloc::{AllocError, Global};
 
@@ -9,7 +9,7 @@ use std::alloc::{AllocError, Global};
 pub const MOST_GROUP: usize = 8_388_608;
 
 /// What a block takes beside its text.
-const HEAD: usize = 9;
+pub(crate) const HEAD: usize = 9;
 
 /// An open gate. Every byte but 0 is one, so it stays open while one of its bits is left.
 const OPEN: u8 = 255;
@@ -52,34 +52,6 @@ fn put_block(bytes: &mut Vec<u8>, text: &[u8]) -> Result<(), AllocError>
     bytes.extend_from_slice(&(u32::MAX - size).to_be_bytes())?;
     bytes.extend_from_slice(text)?;
     Ok(())
-}
-
-/// The first text of a file, and the file behind its block; none where no block counts there.
-pub fn next_text(bytes: &[u8]) -> Option<(&[u8], &[u8])>
-    ensures some { IfSome result (λ r. recovered bytes.now ≡ r.0.now ∷ recovered r.1.now) }
-    ensures shorter { IfSome result (λ r. length r.1.now + 9 + length r.0.now ≡ length bytes.now) }
-    ensures none { result ≡ None → recovered bytes.now ≡ [] }
-{
-    if let [gate, a, b, c, d, e, f, g, h, rest @ ..] = bytes {
-        let size = u32::from_be_bytes([*a, *b, *c, *d]) as usize;
-        let lack = u32::from_be_bytes([*e, *f, *g, *h]) as usize;
-        if *gate != 0 && size + lack == u32::MAX as usize && size <= rest.len() {
-            return Some((&rest[..size], &rest[size..]));
-        }
-    }
-    None
-}
-
-/// How many bytes the blocks take for which the bytes stand.
-pub(crate) fn covered_len(bytes: &[u8]) -> usize
-    ensures covered { result ≡ covered bytes.now }
-    ensures within { result ≤ length bytes.now }
-{
-    let mut rest = bytes;
-    while let Some((_, behind)) = next_text(rest) {
-        rest = behind;
-    }
-    bytes.len() - rest.len()
 }
 
 /// Whether the bytes are a closed gate and at most a group behind it.

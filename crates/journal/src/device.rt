@@ -1,6 +1,6 @@
 //! A file as the journal sees it: what a read returns, and what a crash may leave.
 
-ghost use Rattle.std.specs.Prelude.{◌≡◌, ◌≤◌, List, ℕ, length, take, IfOk, OnErr, OnOk};
+ghost use Rattle.std.specs.Prelude.{◌≡◌, ◌≤◌, ◌<◌, ◌^◌, ◌++◌, List, ℕ, length, take, IfOk, OnErr, OnOk};
 ghost use Rattle.journal.specs.Device.{Only, Follows, Torn, Cut, Holds, Elapses, HasCause};
 
 use crate::fault::DeviceFault;
@@ -8,7 +8,10 @@ use std::alloc::Global;
 
 /// One file, and what a crash does to it. What was not synced may be there after a crash, or not, or in part.
 pub trait Device {
-    /// The bytes that a read returns.
+    /// What has been read, from the file's beginning on.
+    ghost found: { Self → List ℕ };
+
+    /// The bytes that a read of all would return.
     ghost seen: { Self → List ℕ };
 
     /// What a crash at this moment may leave.
@@ -23,12 +26,13 @@ pub trait Device {
     /// How often the disk has failed.
     ghost faults: { Self → ℕ };
 
-    /// All the bytes.
-    fn read(&mut self, alloc: Global) -> Result<Vec<u8>, DeviceFault>
-        ensures bytes { IfOk result (λ bytes. bytes.items ≡ seen self.old) }
-        ensures seen { seen self.new ≡ seen self.old }
-        ensures crash { (c : List ℕ) → may_leave self.new c → may_leave self.old c }
-        ensures time { Elapses (moment self.old) (moment self.new) (left_since self.old) (left_since self.new) (may_leave self.new) }
+    /// Reads on, behind what has been read: so many bytes, or fewer, but then the end of the file is reached. Once it is, what was found
+    /// is all that there is, and it is on the disk. Nothing is written before.
+    fn read(&mut self, alloc: Global, most: usize) -> Result<Vec<u8>, DeviceFault>
+        ensures found { IfOk result (λ v. found self.new ≡ found self.old ++ v.items) }
+        ensures most { IfOk result (λ v. length v.items ≤ most) }
+        ensures end { IfOk result (λ v. length v.items < most → (found self.new ≡ seen self.new) × Only (seen self.new) (may_leave self.new)) }
+        ensures small { OnOk result (length (found self.new) < 2 ^ 63) }
         ensures cause { HasCause (faults self.old) (faults self.new) result };
 
     /// Writes over what is there, and past the end. Until a sync, a crash may leave any bytes in the range. Where it fails, any bytes
@@ -64,6 +68,6 @@ pub trait Device {
     /// Since this moment there is no other.
     ghost only_now: { (file : Self) (c : List ℕ) → left_since file (moment file) c → may_leave file c };
 
-    /// A crash may leave what a read returns: no call makes the outcomes of a crash none.
+    /// A crash may leave what a read would return: no call makes the outcomes of a crash none.
     ghost seen_may_stay: { (file : Self) → may_leave file (seen file) };
 }

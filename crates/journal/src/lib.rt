@@ -11,11 +11,12 @@ mod fault;
 mod journal;
 pub mod laws;
 mod memory_file;
+mod reading;
 mod recovery;
 
-pub use blocks::{MOST_GROUP, next_text};
+pub use blocks::MOST_GROUP;
 pub use device::Device;
 pub use fault::{AppendFault, DeviceFault, OpenFault};
-pub use journal::{Journal, Refused};
+pub use journal::Journal;
 pub use memory_file::MemoryFile;
-pub use recovery::recover;
+pub use reading::{Reading, Refused};

@@ -1,6 +1,6 @@
 //! A file in memory. Each call is done at once, so a crash leaves what is there. It keeps each past content.
 
-ghost use Rattle.std.specs.Prelude.{◌≡◌, ◌⊎◌, [], ◌∷◌, ◌++◌, length, drop, refl, OnOk, OnErr};
+ghost use Rattle.std.specs.Prelude.{◌≡◌, ◌⊎◌, [], ◌∷◌, ◌++◌, length, min, take, drop, refl, OnOk, OnErr};
 ghost use Rattle.std.proofs.Common.{inl};
 ghost use Rattle.journal.specs.Past.{HadBeen, only_bytes};
 
@@ -14,19 +14,23 @@ pub struct MemoryFile {
     alloc: Global,
     bytes: Vec<u8>,
     past: Vec<Vec<u8>>,
+    /// How many bytes have been read.
+    read: usize,
 }
 
 impl MemoryFile {
-    ghost use Rattle.journal.specs.MemoryFile.{bytes_of};
+    ghost use Rattle.journal.specs.MemoryFile.{bytes_of, read_of};
 
     /// A file with these bytes, all of them on the disk.
     pub fn new(alloc: Global, bytes: Vec<u8>) -> Self
-        ensures { bytes_of result ≡ bytes.items }
+        ensures bytes { bytes_of result ≡ bytes.items }
+        ensures unread { read_of result ≡ 0 }
     {
         MemoryFile {
             alloc,
             bytes,
             past: Vec::new(alloc),
+            read: 0,
         }
     }
 
@@ -36,6 +40,13 @@ impl MemoryFile {
     {
         &self.bytes
     }
+}
+
+/// The lesser of two numbers.
+fn least(a: usize, b: usize) -> usize
+    ensures { result ≡ min a b }
+{
+    if a < b { a } else { b }
 }
 
 /// Puts other bytes in the place of those that are there, which it keeps.
@@ -56,6 +67,8 @@ fn replace(
 }
 
 impl Device for MemoryFile {
+    ghost found = { λ m. take m.read m.bytes.items };
+
     ghost seen = { λ m. m.bytes.items };
 
     ghost may_leave = { λ m c. c ≡ m.bytes.items };
@@ -72,8 +85,12 @@ impl Device for MemoryFile {
 
     ghost seen_may_stay = { λ m. refl };
 
-    fn read(&mut self, alloc: Global) -> Result<Vec<u8>, DeviceFault> {
-        Ok(self.bytes.to_vec(alloc)?)
+    fn read(&mut self, alloc: Global, most: usize) -> Result<Vec<u8>, DeviceFault> {
+        let at = least(self.read, self.bytes.len());
+        let end = at + least(most, self.bytes.len() - at);
+        let piece = self.bytes[at..end].to_vec(alloc)?;
+        self.read = end;
+        Ok(piece)
     }
 
     fn write_at(&mut self, at: usize, bytes: &[u8]) -> Result<(), DeviceFault> {

@@ -1,16 +1,15 @@
 //! The file: each call on it is noted with its answer.
 
-ghost use Rattle.std.specs.Prelude.{◌≡◌, ℕ, List, length, true, IfOk};
-ghost use Rattle.journal.specs.Device.{Only};
-ghost use Rattle.journal_file.specs.Events.{seen_after, leaves_after};
+ghost use Rattle.std.specs.Prelude.{◌≡◌, ◌<◌, ◌≤◌, ◌^◌, [], length, true, IfOk};
+ghost use Rattle.journal_file.specs.Events.{seen_after};
 
 use crate::record::Record;
 use journal::{Device, DeviceFault};
 use std::alloc::Global;
 use std::fs::{File, OpenOptions};
+use std::io;
 use std::os::fd::AsRawFd;
 use std::os::unix::fs::{FileExt, OpenOptionsExt};
-use std::{io, mem};
 
 const FOUND: u64 = 0;
 
@@ -31,14 +30,18 @@ const FAILED: u64 = 6;
 pub struct FileDevice {
     file: File,
     record: Record,
-    /// What the file had when it was opened, until it is read.
-    found: Vec<u8>,
-    is_unread: bool,
+    /// How many bytes the file had when it was opened, and how many of them were read.
+    len: usize,
+    read: usize,
+    /// Nothing was written yet.
+    is_reading: bool,
     /// Where a write or a cut failed: from there on what the file has is not known, and only a cut that takes that away is made.
     unknown_from: Option<usize>,
     /// A sync has failed: what was written may be lost with no further error, so nothing more is asked of the file.
     has_failed: bool,
-    ghost same: { is_unread ≡ true → found.items ≡ seen_after record.events },
+    ghost within: { read ≤ len },
+    ghost small: { len < 2 ^ 63 },
+    ghost size: { is_reading ≡ true → length (seen_after record.events) ≡ read },
 }
 
 /// Opens the file, or makes it, and locks it. It and its folder are synced, and the kernel's copies of its pages are dropped: an earlier
@@ -74,43 +77,59 @@ fn sync_folder(rt: &HostRuntime, path: &str) -> io::Result<()> {
     Ok(())
 }
 
-/// All bytes of the file.
-fn bytes_of(alloc: Global, file: &File) -> io::Result<Vec<u8>> {
-    let len = file.metadata()?.len() as usize;
-    let mut bytes = vec![in alloc; 0u8; len]?;
-    file.read_exact_at(&mut bytes, 0)?;
-    Ok(bytes)
+/// The lesser of two numbers.
+fn least(a: usize, b: usize) -> usize
+    ensures least { (result ≤ a) × (result ≤ b) }
+    ensures one { a < b → result ≡ a }
+    ensures other { b ≤ a → result ≡ b }
+{
+    if a < b { a } else { b }
+}
+
+/// How long the file is.
+fn len_of(file: &File) -> io::Result<usize>
+    ensures { IfOk result (λ n. n < 2 ^ 63) }
+{
+    let len = file.metadata()?.len();
+    if len >= 1 << 63 {
+        return Err(io::Error::from(io::ErrorKind::FileTooLarge));
+    }
+    Ok(len as usize)
 }
 
 impl FileDevice {
-    ghost use Rattle.journal.specs.Device.{Only};
-
-    /// Opens the file, or makes it, and reads it. What is read is taken to be on the disk, since the file was synced first. The error
-    /// is `WouldBlock` where another process has the file.
+    /// Opens the file, or makes it. What is read of it is taken to be on the disk, since the file is synced first. The error is
+    /// `WouldBlock` where another process has the file.
     pub fn open(rt: &HostRuntime, path: &str) -> io::Result<FileDevice>
-        ensures { IfOk result (λ d. Only (seen_after d.record.events) (leaves_after d.record.events)) }
+        ensures { IfOk result (λ d. seen_after d.record.events ≡ []) }
     {
         let file = open_synced(rt, path)?;
-        let found = bytes_of(rt.alloc(), &file)?;
-        let mut record = Record::new();
-        record.note(&[FOUND, 0], &found);
+        let len = len_of(&file)?;
         Ok(FileDevice {
             file,
-            record,
-            found,
-            is_unread: true,
+            record: Record::new(),
+            len,
+            read: 0,
+            is_reading: true,
             unknown_from: None,
             has_failed: false,
         })
     }
 
-    /// Whether a cut to this length may be made: no sync has failed, and the cut takes away what is not known.
+    /// Whether a write may be made: all was read, no call has failed whose effect isn't known.
+    fn may_write(&self) -> bool {
+        let all = !self.is_reading || self.read == self.len;
+        all && !self.has_failed && self.unknown_from.is_none()
+    }
+
+    /// Whether a cut to this length may be made: all was read, no sync has failed, and the cut takes away what is not known.
     fn may_cut(&self, len: usize) -> bool {
         let known = match self.unknown_from {
             Some(from) => len <= from,
             None => true,
         };
-        known && !self.has_failed
+        let all = !self.is_reading || self.read == self.len;
+        all && known && !self.has_failed
     }
 }
 
@@ -118,6 +137,8 @@ impl Device for FileDevice {
     ghost use Rattle.std.specs.Prelude.{length};
     ghost use Rattle.journal_file.specs.Events.{seen_after, leaves_after, left_after, faults_after};
     ghost use Rattle.journal_file.specs.Laws.{counts_now as counts, only_now as only, seen_stays};
+
+    ghost found = { λ f. seen_after f.record.events };
 
     ghost seen = { λ f. seen_after f.record.events };
 
@@ -135,21 +156,32 @@ impl Device for FileDevice {
 
     ghost seen_may_stay = { λ f. seen_stays f.record.events };
 
-    fn read(&mut self, alloc: Global) -> Result<Vec<u8>, DeviceFault> {
-        if !self.is_unread {
+    fn read(&mut self, alloc: Global, most: usize) -> Result<Vec<u8>, DeviceFault> {
+        if !self.is_reading {
             self.record.note(&[FAILED, 0], &[]);
             return Err(DeviceFault::Failed);
         }
-        self.is_unread = false;
-        Ok(mem::replace(&mut self.found, Vec::new(alloc)))
+        let want = least(most, self.len - self.read);
+        let mut piece = vec![in alloc; 0u8; want]?;
+        if self
+            .file
+            .read_exact_at(&mut piece, self.read as u64)
+            .is_err()
+        {
+            self.record.note(&[FAILED, 0], &[]);
+            return Err(DeviceFault::Failed);
+        }
+        self.record.note(&[FOUND, self.read as u64], &piece);
+        self.read += want;
+        Ok(piece)
     }
 
     fn write_at(&mut self, at: usize, bytes: &[u8]) -> Result<(), DeviceFault> {
-        self.is_unread = false;
-        if self.has_failed || self.unknown_from.is_some() {
+        if !self.may_write() {
             self.record.note(&[FAILED, 0], &[]);
             return Err(DeviceFault::Failed);
         }
+        self.is_reading = false;
         match self.file.write_all_at(bytes, at as u64) {
             Ok(()) => {
                 self.record.note(&[WRITTEN, at as u64], bytes);
@@ -164,11 +196,11 @@ impl Device for FileDevice {
     }
 
     fn cut(&mut self, len: usize) -> Result<(), DeviceFault> {
-        self.is_unread = false;
         if !self.may_cut(len) {
             self.record.note(&[NOT_CUT, len as u64], &[]);
             return Err(DeviceFault::Failed);
         }
+        self.is_reading = false;
         match self.file.set_len(len as u64) {
             Ok(()) => {
                 self.unknown_from = None;
@@ -184,11 +216,11 @@ impl Device for FileDevice {
     }
 
     fn sync(&mut self) -> Result<(), DeviceFault> {
-        self.is_unread = false;
-        if self.has_failed || self.unknown_from.is_some() {
+        if !self.may_write() {
             self.record.note(&[FAILED, 0], &[]);
             return Err(DeviceFault::Failed);
         }
+        self.is_reading = false;
         match self.file.sync_data() {
             Ok(()) => {
                 self.record.note(&[SYNCED, 0], &[]);
