@@ -94,11 +94,11 @@ impl<D: Device> Reading<D> {
         }
     }
 
-    /// Its device.
-    pub fn device(&self) -> &D
-        ensures { result.now ≡ self.now.device }
+    /// Gives the device back, unread as far as it is.
+    pub fn into_device(self) -> D
+        ensures { result ≡ self.device }
     {
-        &self.device
+        self.device
     }
 
     /// The text behind the head of an open block.
