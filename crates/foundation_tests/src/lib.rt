@@ -2,6 +2,8 @@
 #![tactic(auto)]
 
 #[cfg(test)]
+mod journals;
+#[cfg(test)]
 mod logs;
 #[cfg(test)]
 mod numbers;
