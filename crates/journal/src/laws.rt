@@ -2,8 +2,8 @@
 
 ghost use Rattle.journal.specs.Damage.{LostBitsAreSeen, OpenGatesHaveBlocks};
 
-/// A file is damaged where an open gate has no block behind it that counts. So an end that a crash tore is never one that a lost bit
-/// made of a block, and nothing behind such a block is cut off.
+/// A file is damaged where an open gate has no block behind it that counts. So a block of which a length lost a bit never looks like an
+/// end that a crash tore, and nothing behind it is cut off.
 pub fn open_gates_have_blocks()
     ensures { OpenGatesHaveBlocks }
 {}
