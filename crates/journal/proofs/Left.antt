@@ -4,7 +4,7 @@ use Rattle.std.specs.Prelude.{◌==◌, ◌||◌, nat_le}
 use Rattle.std.proofs.lemmas.Bool.{and_parts, leb-true, lt-leb, eqb-true}
 use Rattle.std.proofs.lemmas.List.{take_at}
 use Rattle.journal.specs.Device.{Cut, Follows, Only}
-use Rattle.journal.specs.Journal.{recovered, covered, ends_closed, can_be_left, StandsFor, IsAlike, IsSameToGate}
+use Rattle.journal.specs.Journal.{recovered, covered, ends_closed, can_be_left, StandsFor, IsSameToGate}
 use Rattle.journal.specs.declared.blocks.TheConstants.{MOST_GROUP}
 use Rattle.journal.proofs.Spelled.{parts, spelled_closed}
 use Rattle.journal.proofs.Gate.{Gated, gated_of, gated_drop, gated_length, gated_reaches, gated_take, gated_then, parted}
@@ -59,13 +59,3 @@ cut_is file new end left is =
     let g = left.gated in
     let front : take end file ≡ g.front = ap (λ (l : List ℕ). take end l) g.is ∙ take_at g.front (0 ∷ g.behind) end g.size in
     is ∙ gated_take (recovered file) end file g ∙ ap (λ (l : List ℕ). l ++ 0 ∷ []) (sym front)
-
--- the blocks and a closed gate stand for what the file stands for
-pub front_stands : (file : List ℕ) (end : ℕ) → end ≡ covered file → recovered (take end file ++ 0 ∷ []) ≡ recovered file
-front_stands file end ends =
-    let p = parts file in
-    let front : take end file ≡ p.front = ap (λ (l : List ℕ). take end l) p.split ∙ take_at p.front p.end end (parted file end p ends) in
-    ap (λ (l : List ℕ). recovered (l ++ 0 ∷ [])) front ∙ spelled_closed (recovered file) p.front [] p.spelled
-
-pub alike : (file : List ℕ) → can_be_left file ≡ true → (c : List ℕ) → StandsFor (recovered file) c → IsAlike file c
-alike file left c stands = (stands.0, stands.1 ∙ sym left)
