@@ -1,10 +1,10 @@
 -- An open gate with no block that counts is damage.
-use Rattle.std.proofs.Common.{◌≡◌, ℕ, ◌+◌, List, [], ◌∷◌, ◌++◌, length, drop, refl, sym, ◌∙◌, ap, subst, arith, length-append}
+use Rattle.std.proofs.Common.{◌≡◌, ℕ, ◌+◌, List, [], ◌∷◌, ◌++◌, length, drop, refl, sym, ◌∙◌, ap, subst, arith, length-append, inl, inr, Bool, true, false}
 use Rattle.std.specs.Prelude.{not, ◌==◌, ◌&&◌, nat_le}
 use Rattle.std.proofs.lemmas.Bool.{and_left, and_right, or_from, lt-leb, ne_eqb}
 use Rattle.std.proofs.lemmas.List.{append-nil, drop_at}
-use Rattle.journal.specs.Journal.{recovered, covered, size_of, ends_closed}
-use Rattle.journal.specs.Damage.{OpenGatesHaveBlocks, LostBitsAreSeen}
+use Rattle.journal.specs.Journal.{recovered, covered, size_of, ends_closed, can_be_left}
+use Rattle.journal.specs.Damage.{OpenGatesHaveBlocks, LostBitsAreSeen, LeftFilesAreRead}
 use Rattle.journal.specs.declared.blocks.TheConstants.{MOST_GROUP}
 use Rattle.journal.proofs.Spelled.{Head, laid, Spells, parts, first_not, length-spelled, spelled_then}
 
@@ -34,3 +34,11 @@ open_gates front behind gate a b c d e f g h is is_open not_so =
 pub lost_bits : LostBitsAreSeen
 lost_bits gate size lack behind fewer =
     and_right (not (gate == 0)) ((size + lack == 4294967295) && nat_le size behind) (and_left (size + lack == 4294967295) (nat_le size behind) (ne_eqb (size + lack) 4294967295 (λ same. absurd (omega (arith, same, fewer)))))
+
+differ : (b : Bool) → b ≡ true → b ≡ false → ⊥
+differ true is not_so = cc not_so
+differ false is not_so = cc is
+
+pub left_read : LeftFilesAreRead
+left_read file found behind seen left is all (inl damaged) = differ (can_be_left file) left (ap can_be_left (sym is) ∙ damaged behind)
+left_read file found behind seen left is all (inr damaged) = differ (can_be_left file) left (ap can_be_left (sym (all damaged.0)) ∙ damaged.1)

@@ -6,8 +6,7 @@ use Rattle.std.proofs.lemmas.List.{take_at}
 use Rattle.journal.specs.Device.{Cut, Follows, Only}
 use Rattle.journal.specs.Journal.{recovered, covered, ends_closed, can_be_left, StandsFor, IsSameToGate}
 use Rattle.journal.specs.declared.blocks.TheConstants.{MOST_GROUP}
-use Rattle.journal.proofs.Spelled.{parts, spelled_closed}
-use Rattle.journal.proofs.Gate.{Gated, gated_of, gated_drop, gated_length, gated_reaches, gated_take, gated_then, parted}
+use Rattle.journal.proofs.Gate.{Gated, gated_of, gated_drop, gated_length, gated_reaches, gated_take, gated_then}
 use Rattle.journal.proofs.Closed.{cut_each}
 
 second_of : (x y : Bool) → (x || y) ≡ true → x ≡ false → y ≡ true

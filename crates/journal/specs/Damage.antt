@@ -1,6 +1,7 @@
--- Files that no crash leaves.
-use Rattle.std.specs.Prelude.{◌≡◌, ◌≢◌, ℕ, ◌+◌, ◌<◌, List, ◌∷◌, ◌++◌, length, false}
+-- Files that no crash leaves, and files that one can leave.
+use Rattle.std.specs.Prelude.{◌≡◌, ◌≢◌, ℕ, ◌+◌, ◌<◌, List, ◌∷◌, ◌++◌, length, true, false}
 use Rattle.journal.specs.Journal.{number_of, covered, counts, can_be_left}
+use Rattle.journal.specs.Reading.{IsDamaged}
 
 -- Behind whole blocks an open gate and the two numbers behind it, with a block that doesn't count: no crash leaves that.
 abbrev pub OpenGatesHaveBlocks : Type 0
@@ -12,3 +13,8 @@ OpenGatesHaveBlocks =
 -- A block doesn't count whose length and its lack don't agree. Bits that are lost from either make the sum smaller, never greater.
 abbrev pub LostBitsAreSeen : Type 0
 LostBitsAreSeen = (gate size lack behind : ℕ) → size + lack < 4294967295 → counts gate size lack behind ≡ false
+
+-- Where a crash can leave a file, what was found of it is not damaged, nor is all of it.
+abbrev pub LeftFilesAreRead : Type 0
+LeftFilesAreRead =
+    (file found behind seen : List ℕ) → can_be_left file ≡ true → found ++ behind ≡ file → (found ≡ seen → seen ≡ file) → IsDamaged found seen → ⊥

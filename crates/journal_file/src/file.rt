@@ -1,6 +1,6 @@
 //! The file: each call on it is noted with its answer.
 
-ghost use Rattle.std.specs.Prelude.{◌≡◌, ◌<◌, ◌≤◌, ◌^◌, [], length, true, IfOk};
+ghost use Rattle.std.specs.Prelude.{◌≡◌, ◌<◌, ◌≤◌, ◌^◌, [], length, true, false, None, IfOk, IfSome};
 ghost use Rattle.journal_file.specs.Events.{seen_after};
 
 use crate::record::Record;
@@ -117,13 +117,21 @@ impl FileDevice {
     }
 
     /// Whether a write may be made: all was read, no call has failed whose effect isn't known.
-    fn may_write(&self) -> bool {
+    fn may_write(&self) -> bool
+        ensures all { result ≡ true → self.now.is_reading ≡ true → self.now.read ≡ self.now.len }
+        ensures sound { result ≡ true → self.now.has_failed ≡ false }
+        ensures known { result ≡ true → self.now.unknown_from ≡ None }
+    {
         let all = !self.is_reading || self.read == self.len;
         all && !self.has_failed && self.unknown_from.is_none()
     }
 
     /// Whether a cut to this length may be made: all was read, no sync has failed, and the cut takes away what is not known.
-    fn may_cut(&self, len: usize) -> bool {
+    fn may_cut(&self, len: usize) -> bool
+        ensures all { result ≡ true → self.now.is_reading ≡ true → self.now.read ≡ self.now.len }
+        ensures sound { result ≡ true → self.now.has_failed ≡ false }
+        ensures known { result ≡ true → IfSome self.now.unknown_from (λ from. len ≤ from) }
+    {
         let known = match self.unknown_from {
             Some(from) => len <= from,
             None => true,
