@@ -23,9 +23,10 @@ sums() {
     second_opinion/sums.py compare || [ $? = 4 ]
 }
 
+builds="crates/bulwynef/out/bulwynef crates/bulwynef/out/bulwynef.by-rattle"
 in_turn "c/library.py --left" > "$room/1" 2>&1 &
 in_turn "checks/operating/run.py" "checks/growths/run.py" > "$room/2" 2>&1 &
-in_turn "checks/whole_program/run.py" "checks/operating/shards.py" "checks/explained/run.py" > "$room/3" 2>&1 &
+in_turn "checks/whole_program/run.py" "checks/operating/shards.py" "checks/explained/run.py" "second_opinion/forms.py $builds" > "$room/3" 2>&1 &
 wait
 cat "$room"/[123]
 in_turn "c/run.py --sanitize" "python/run.py" "checks/more-edits/turn.py" sums
