@@ -64,30 +64,43 @@ static int value_of(uint8_t digit) {
     return -1;
 }
 
-static int is_line(const struct text *text) {
-    for (size_t i = 0; i < text->len && i < 8; i++)
-        if (value_of(text->at[i]) < 0 && text->at[i] != '\n') return 0;
+/* Whether a file is digits, as it is where its first eight bytes are. */
+static int is_spelled(const struct text *text) {
+    for (size_t i = 0; i < 8; i++)
+        if (i >= text->len || value_of(text->at[i]) < 0) return 0;
     return 1;
 }
 
-/* Replaces a line of digits by the bytes that they spell. A line feed may end it; a second line is one too many. */
+/* Whether a line has another byte than digits, or an odd number of them. */
+static int is_bad(const uint8_t *line, size_t len) {
+    for (size_t i = 0; i < len; i++)
+        if (value_of(line[i]) < 0) return 1;
+    return len % 2 != 0;
+}
+
+/* Why lines are no line of digits, in the order of FORMATS: a second line that is blank, or a third one; a bad line; a second line, where
+ * one text is to stand. */
+static unsigned fault_of(const uint8_t *lines, size_t len) {
+    const uint8_t *feed = memchr(lines, '\n', len);
+    if (feed == NULL) return is_bad(lines, len) ? BAD_HEX : 0;
+    size_t first = (size_t)(feed - lines), second = len - first - 1;
+    if (second == 0 || memchr(feed + 1, '\n', second) != NULL) return LINE_COUNT;
+    return is_bad(lines, first) || is_bad(feed + 1, second) ? BAD_HEX : LINE_COUNT;
+}
+
+/* Replaces a line of digits by the bytes that they spell; or tells why not. A line feed may end it. */
 static unsigned decode(struct text *text) {
-    size_t len = text->len;
-    if (len > 0 && text->at[len - 1] == '\n') len--;
-    if (memchr(text->at, '\n', len) != NULL) return LINE_COUNT;
-    if (len % 2 != 0) return BAD_HEX;
-    for (size_t i = 0; i < len / 2; i++) {
-        int high = value_of(text->at[2 * i]), low = value_of(text->at[2 * i + 1]);
-        if (high < 0 || low < 0) return BAD_HEX;
-        text->at[i] = (uint8_t)(high * 16 + low);
-    }
+    size_t len = text->len - (text->at[text->len - 1] == '\n');
+    unsigned fault = fault_of(text->at, len);
+    if (fault != 0) return fault;
     text->len = len / 2;
+    for (size_t i = 0; i < text->len; i++) text->at[i] = (uint8_t)(value_of(text->at[2 * i]) * 16 + value_of(text->at[2 * i + 1]));
     return 0;
 }
 
 static unsigned text_of(const char *path, struct text *text) {
     unsigned fault = read_file(path, text);
-    return fault == 0 && is_line(text) ? decode(text) : fault;
+    return fault == 0 && is_spelled(text) ? decode(text) : fault;
 }
 
 struct program { const char *word; uint8_t number; };

@@ -1,7 +1,7 @@
 #!/usr/bin/env python3
 """Builds the test of libbulwynef.a as C11 and as C++, and runs it: the scene and the refusals of c/test.c, each allocation refused in turn,
 and the evidence of examples/ beside what second_opinion/check.py says of it and what is stored in examples/explained. Runs c/example.c as
-both. Builds checkproof as one static file, c/out/checkproof, and holds it to the same.
+both. Builds checkproof as one static file, c/out/checkproof, and holds it to the same, and to second_opinion/forms.txt on files of each form.
 
     run.py                     wants crates/bulwynef_c/out/libbulwynef_c.a, which c/library.py makes
     run.py --cases FOLDER      also each case N of a folder with N.args, N.stdin, N.stdout and N.status
@@ -20,6 +20,11 @@ import subprocess
 import sys
 
 TOP = os.path.dirname(os.path.dirname(os.path.abspath(__file__)))
+sys.path.insert(0, f"{TOP}/second_opinion")
+sys.dont_write_bytecode = True
+
+import forms
+
 HERE = f"{TOP}/c"
 OUT = f"{HERE}/out"
 BUILT = f"{TOP}/crates/bulwynef_c/out/libbulwynef_c.a"
@@ -35,6 +40,8 @@ The proof exposes node 2 by two statements.
 """
 SECOND = [sys.executable, f"{TOP}/second_opinion/check.py", "--program", "tally"]
 NAMED = "--program NAME says which program the nodes were to follow: tally, relay, mailbox"
+# The words by which checkproof reads a file as a directory and as a proof, by the columns of forms.txt
+PLACES = {"C": "--program tally FILE proof", "P": "--program tally nodes FILE"}
 WARNINGS = ["-Wall", "-Wextra", "-Werror"]
 # How many words each command has beside --relay
 COUNTS = {"status": 1, "merge": 1, "check": 1, "prove": 2}
@@ -106,13 +113,17 @@ def checkproof():
     return program
 
 
+def write(name, data):
+    with open(f"{OUT}/{name}", "wb") as file:
+        file.write(data)
+
+
 def files_of(test, name):
     """The directory of an example and a proof of its node 2 as files, in digits and in bytes."""
     text = read(f"{TOP}/examples/{name}.txt")
     for kind, line in (("directory", text.split("\n")[0]), ("proof", said([test, "prove", "2"], text)[1].strip())):
         for ending, told in ((".txt", line.encode() + b"\n"), ("", bytes.fromhex(line))):
-            with open(f"{OUT}/{kind}{ending}", "wb") as file:
-                file.write(told)
+            write(f"{kind}{ending}", told)
     return [[f"{OUT}/directory{ending}", f"{OUT}/proof{ending}"] for ending in (".txt", "")]
 
 
@@ -133,6 +144,19 @@ def differs_on_checkproof(test, program):
     for name, words in (("no program", []), ("no such program", ["--program", "other"]), ("an empty name", ["--program", ""])):
         status, text, error = said([program, *words, *good], "")
         told.append((name, (status, text, error.splitlines()[:1]), (2, "", [NAMED])))
+    return [f"checkproof, {name}: {one!r} and not {other!r}" for name, one, other in told if one != other]
+
+
+def differs_on_forms(program):
+    """What checkproof says of a file of each form otherwise than the table. It names the file where its form is refused, and else none."""
+    texts, told = forms.Texts(), []
+    for name, data in texts.files().items():
+        write(name, data)
+    for form, place, word in forms.rows():
+        if place in PLACES:
+            write("file", forms.forms_of(texts, texts.in_place(place))[form])
+            (status, text), wanted = forms.said_by(program, OUT, PLACES[place]), forms.wanted_of(texts, place, word)
+            told.append((f"{form} ({place})", (status, text.removesuffix(": file")), (wanted[0], wanted[1].removesuffix(": file"))))
     return [f"checkproof, {name}: {one!r} and not {other!r}" for name, one, other in told if one != other]
 
 
@@ -182,7 +206,8 @@ def main():
         runs.append(["valgrind", "--quiet", "--leak-check=full", "--error-exitcode=9", program, "self"])
     wrong = sum(subprocess.run(run).returncode != 0 for run in runs)
     told = [*differs_in_example("example", ["cc", "-std=c11"]), *differs_in_example("example_cpp", ["g++", "-x", "c++"])]
-    told += differs_on_checkproof(program, checkproof())
+    proving = checkproof()
+    told += [*differs_on_checkproof(program, proving), *differs_on_forms(proving)]
     for line in [*told, *(line for name in EXAMPLES for line in differs_on_example(program, name))]:
         print(line)
         wrong += 1

@@ -153,9 +153,9 @@ def wanted_of(texts, place, word):
 
 
 def refusal_of(text):
-    """The number and the name of a refusal, and the file of which it is told."""
+    """The number and the name of a refusal, and the file of which it is told, if one is."""
     found = re.match(r"(refused \d+ \w+)(?:: (\w+))?", text)
-    return f"{found[1]}: {found[2]}" if found else text
+    return ": ".join(filter(None, found.groups())) if found else text
 
 
 def said_by_check(files, words):
