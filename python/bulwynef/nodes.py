@@ -52,7 +52,7 @@ class Node(Opened):
     """A node that follows its program, logs what comes and goes, and signs it. It does not outlive its process: its keys must not sign
     in another one, and a child that is forked off is refused it."""
 
-    def __init__(self, directory: bytes, me: int, key: Key, program: Program = Program.TALLY, first_seq: int = 1) -> None:
+    def __init__(self, directory: bytes, me: int, key: Key, program: Program, first_seq: int = 1) -> None:
         super().__init__()
         with self._mine() as at:
             call("node_new", program, directory, len(directory), me, first_seq, *key.words(), at)

@@ -2,11 +2,16 @@
 
 import os
 
-from bulwynef import Key, Node, directory
+from bulwynef import Key, Node, Program, directory
 
 TOP = os.path.dirname(os.path.dirname(os.path.dirname(os.path.abspath(__file__))))
 KEYS = {n: Key(bytes(15) + bytes([n]), bytes(31) + bytes([n])) for n in (1, 2)}
 LISTED = directory({n: [key.public()] for n, key in KEYS.items()})
+
+
+def node_of(me, first_seq=1):
+    """A node of Tally."""
+    return Node(LISTED, me, KEYS[me], Program.TALLY, first_seq)
 
 
 def first_message(node):
@@ -15,7 +20,7 @@ def first_message(node):
 
 def exchanged():
     """A message of node 1, the acknowledgement of node 2, and one of a second node 2 by the same key."""
-    with Node(LISTED, 1, KEYS[1]) as one, Node(LISTED, 2, KEYS[2]) as two, Node(LISTED, 2, KEYS[2]) as liar:
+    with node_of(1) as one, node_of(2) as two, node_of(2) as liar:
         one.timer(5)
         message = first_message(one)
         ack = two.answer(message)

@@ -89,7 +89,7 @@ def test_stores_exchange_what_they_have(listed):
 
 
 def test_a_segment_answers_an_audit(listed):
-    with Node(listed, 1, KEYS[1]) as one, Node(listed, 2, KEYS[2]) as two, Store(listed, Program.TALLY) as store:
+    with Node(listed, 1, KEYS[1], Program.TALLY) as one, Node(listed, 2, KEYS[2], Program.TALLY) as two, Store(listed, Program.TALLY) as store:
         one.timer(5)
         message = first_message(one)
         audit = audit_challenge(statements_of(message)[0])
@@ -102,10 +102,11 @@ def test_a_segment_answers_an_audit(listed):
             assert refused.value.number == number
 
 
-def test_a_verdict_is_of_a_program_that_is_named(listed):
-    for judge in (Store, lambda listed: check_proof(listed, b"\3"), lambda listed: explain_proof(listed, b"\3")):
+def test_a_program_is_named(listed):
+    unnamed = (Store, lambda listed: Node(listed, 1, KEYS[1]), lambda listed: check_proof(listed, b"\3"), lambda listed: explain_proof(listed, b"\3"))
+    for call in unnamed:
         with pytest.raises(TypeError):
-            judge(listed)
+            call(listed)
     for program in Program:
         with Store(listed, program) as store:
             assert store.explain().startswith(basis_of(program.name.lower(), listed))
@@ -124,7 +125,7 @@ def entries_of(log):
 
 
 def test_a_node_shows_its_log(listed):
-    with Node(listed, 1, KEYS[1], first_seq=7) as one:
+    with Node(listed, 1, KEYS[1], Program.TALLY, first_seq=7) as one:
         one.timer(5)
         one.checkpoint()
         ticked, total = (5).to_bytes(8, "big"), bytes(8)
@@ -136,7 +137,7 @@ def test_a_node_shows_its_log(listed):
 def test_a_node_goes_over_to_its_next_key():
     keys = [Key(bytes(15) + bytes([n]), bytes(31) + bytes([n])) for n in (8, 9)]
     text = directory({1: [key.public() for key in keys], 2: [KEYS[2].public()]})
-    with Node(text, 1, keys[0]) as one, Store(text, Program.TALLY) as store:
+    with Node(text, 1, keys[0], Program.TALLY) as one, Store(text, Program.TALLY) as store:
         assert one.remaining() == 32
         one.timer(1)
         assert one.remaining() == 31 and one.checkpoint() == 4
@@ -154,10 +155,10 @@ def test_refusals_have_number_name_and_sentence(listed):
         Store(listed[:-1], Program.TALLY)
     assert (refused.value.number, refused.value.name) == (24, "Truncated") and refused.value.sentence.endswith(".")
     with pytest.raises(Refusal) as refused:
-        Node(listed, 3, KEYS[1])
+        Node(listed, 3, KEYS[1], Program.TALLY)
     assert refused.value.number == 30
     with pytest.raises(Refusal) as refused:
-        Node(listed, 2, KEYS[1])
+        Node(listed, 2, KEYS[1], Program.TALLY)
     assert refused.value.number == 31
 
 

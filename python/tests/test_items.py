@@ -3,9 +3,9 @@
 import hashlib
 
 import pytest
-from scene import KEYS, LISTED, exchanged, first_message
+from scene import KEYS, LISTED, exchanged, first_message, node_of
 
-from bulwynef import Indication, Node, Program, Refusal, Store, audit_challenge, check_proof, directory, send_challenge, statement_of, statements_of
+from bulwynef import Indication, Program, Refusal, Store, audit_challenge, check_proof, directory, send_challenge, statement_of, statements_of
 
 SEND, RECV = 2, 3
 
@@ -57,7 +57,7 @@ def segment_of(node, challenge):
 
 
 def test_each_item_has_its_statements():
-    with Node(LISTED, 1, KEYS[1]) as one, Node(LISTED, 2, KEYS[2]) as two:
+    with node_of(1) as one, node_of(2) as two:
         one.timer(5), one.timer(6)
         messages = [one.message(seq) for seq in one.waiting()]
         ack = two.answer(messages[0])
@@ -77,7 +77,7 @@ def test_each_item_has_its_statements():
 
 def test_challenges_are_those_of_the_formats():
     message, ack, lie = exchanged()
-    with Node(LISTED, 1, KEYS[1]) as one:
+    with node_of(1) as one:
         one.timer(5), one.timer(6)
         first, last = (statements_of(one.message(seq))[0] for seq in one.waiting())
     assert audit_challenge(last) == audit_challenge(last, b"") == audit(last)
@@ -94,7 +94,7 @@ def test_challenges_are_those_of_the_formats():
 
 def test_who_forks_at_two_numbers_is_exposed_by_an_audit():
     """Two logs of node 2 by one key, of which nothing is signed under one number in both: only the log itself shows it."""
-    with Node(LISTED, 1, KEYS[1]) as one, Node(LISTED, 2, KEYS[2]) as two, Node(LISTED, 2, KEYS[2], first_seq=2) as liar:
+    with node_of(1) as one, node_of(2) as two, node_of(2, first_seq=2) as liar:
         one.timer(5), one.timer(6)
         first, second = (one.message(seq) for seq in one.waiting())
         two.answer(first)
@@ -110,7 +110,7 @@ def test_who_forks_at_two_numbers_is_exposed_by_an_audit():
 
 def test_an_acknowledgement_is_accepted_where_a_store_takes_it():
     """One bit of an acknowledgement is turned, in each field and every few bytes: nothing is accepted, and the message waits."""
-    with Node(LISTED, 1, KEYS[1]) as one, Node(LISTED, 2, KEYS[2]) as two, Store(LISTED, Program.TALLY) as store:
+    with node_of(1) as one, node_of(2) as two, Store(LISTED, Program.TALLY) as store:
         one.timer(5)
         ack = two.answer(first_message(one))
         waiting = one.waiting()
@@ -125,7 +125,7 @@ def test_an_acknowledgement_is_accepted_where_a_store_takes_it():
 
 def test_an_acknowledgement_of_another_message_is_refused():
     """A second node 1 by the same key sends something else under the same number; its acknowledgement is valid, and not of what was sent."""
-    with Node(LISTED, 1, KEYS[1]) as one, Node(LISTED, 1, KEYS[1]) as other, Node(LISTED, 2, KEYS[2]) as two:
+    with node_of(1) as one, node_of(1) as other, node_of(2) as two:
         one.timer(5), other.timer(6)
         assert one.waiting() == other.waiting()
         ack = two.answer(first_message(other))

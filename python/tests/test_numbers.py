@@ -16,10 +16,10 @@ NUMBERS = {
     "explain_proof program": (U8, 1, lambda n, at: explain_proof(LISTED, b"", n)),
     "Store program": (U8, 1, lambda n, at: Store(LISTED, n).close()),
     "Node program": (U8, 1, lambda n, at: Node(LISTED, 1, KEYS[1], n).close()),
-    "Node me": (U32, 1, lambda n, at: Node(LISTED, n, KEYS[1]).close()),
-    "Node first_seq": (U64, 1, lambda n, at: Node(LISTED, 1, KEYS[1], first_seq=n).close()),
-    "Node key's LMS type": (U32, 5, lambda n, at: Node(LISTED, 1, KEYS[1]._replace(lms_type=n)).close()),
-    "Node key's LM-OTS type": (U32, 4, lambda n, at: Node(LISTED, 1, KEYS[1]._replace(ots_type=n)).close()),
+    "Node me": (U32, 1, lambda n, at: Node(LISTED, n, KEYS[1], Program.TALLY).close()),
+    "Node first_seq": (U64, 1, lambda n, at: Node(LISTED, 1, KEYS[1], Program.TALLY, first_seq=n).close()),
+    "Node key's LMS type": (U32, 5, lambda n, at: Node(LISTED, 1, KEYS[1]._replace(lms_type=n), Program.TALLY).close()),
+    "Node key's LM-OTS type": (U32, 4, lambda n, at: Node(LISTED, 1, KEYS[1]._replace(ots_type=n), Program.TALLY).close()),
     "Key.public LMS type": (U32, 5, lambda n, at: KEYS[1]._replace(lms_type=n).public()),
     "Key.public LM-OTS type": (U32, 4, lambda n, at: KEYS[1]._replace(ots_type=n).public()),
     "Key.new LMS type": (U32, 5, lambda n, at: Key.new(n).public()),
@@ -38,7 +38,7 @@ NUMBERS = {
 
 @pytest.fixture
 def at():
-    with Store(LISTED, Program.TALLY) as store, Node(LISTED, 1, KEYS[1]) as node:
+    with Store(LISTED, Program.TALLY) as store, Node(LISTED, 1, KEYS[1], Program.TALLY) as node:
         node.timer(5)
         yield {"store": store, "node": node, "item": first_message(node)}
 

@@ -5,7 +5,7 @@ import signal
 import threading
 
 import pytest
-from scene import KEYS, LISTED, exchanged, first_message
+from scene import KEYS, LISTED, exchanged, first_message, node_of
 
 from bulwynef import Key, Node, Program, Refusal, Store
 
@@ -65,7 +65,7 @@ def at_once(*calls):
 
 
 def test_threads_share_a_node():
-    with Node(LISTED, 1, KEYS[1]) as one:
+    with node_of(1) as one:
         assert at_once(*[lambda: [one.timer(9) for _ in range(4)]] * 6, lambda: [one.history() for _ in range(40)]) == []
         assert one.remaining() == 32 - 24 and len(set(one.waiting())) == 24
 
@@ -121,7 +121,7 @@ def refused(calls, it):
 def test_a_child_is_refused_each_call_on_its_parent_s_handles():
     for kind, calls in ((Node, NODE_CALLS), (Store, STORE_CALLS)):
         assert set(calls) == {name for name in vars(kind) if not name.startswith("_")}
-    with Node(LISTED, 1, KEYS[1]) as one, Store(LISTED, Program.TALLY) as store:
+    with node_of(1) as one, Store(LISTED, Program.TALLY) as store:
         one.timer(5)
         log, leaves = one.history(), one.remaining()
         assert in_a_child(lambda: refused(NODE_CALLS, one)) == str(list(NODE_CALLS))
@@ -144,7 +144,7 @@ def test_a_parent_s_store_is_not_merged_into_one_of_a_child():
 
 
 def test_a_child_opens_handles_of_its_own_and_closes_none_of_its_parent():
-    with Node(LISTED, 1, KEYS[1]) as one, Store(LISTED, Program.TALLY) as store:
+    with node_of(1) as one, Store(LISTED, Program.TALLY) as store:
 
         def works():
             one.close(), store.close()
@@ -157,7 +157,7 @@ def test_a_child_opens_handles_of_its_own_and_closes_none_of_its_parent():
 
 
 def test_a_child_does_not_wait_for_a_thread_that_it_lacks():
-    with Node(LISTED, 1, KEYS[1]) as one:
+    with node_of(1) as one:
         with one._mine():
             taken = threading.Thread(target=lambda: None)
             taken.start(), taken.join()
@@ -173,5 +173,5 @@ def test_a_key_shows_no_seed():
     for shown in (repr(key), str(key), f"{key}", f"{key!r}", f"{[key]}", f"{ {1: key} }", "%r" % (key,)):
         assert "seedseed" not in shown and key.seed.hex() not in shown and repr(key.key_id) in shown
     with pytest.raises(Refusal) as raised:
-        Node(LISTED, 1, key)
+        Node(LISTED, 1, key, Program.TALLY)
     assert "seedseed" not in str(raised.value) and key == Key(bytes(range(16)), b"seed" * 8)
