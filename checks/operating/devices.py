@@ -7,12 +7,15 @@ Wants gcc. The calls of LLVM's build and of the other one are the same.
 
 import os
 import re
+import stat
 import subprocess
 
 HERE = os.path.dirname(os.path.abspath(__file__))
-# By the kind of call that fails: the refusals that may be told of it.
-REFUSED = {"open": {100, 102}, "read": {100}, "write": {102}, "fsync": {102}, "fchmod": {102}, "mkdir": {102}, "rename": {102}}
+# By the kind of call that fails: the refusals that may be told of it. Without an owner it is done.
+REFUSED = {"open": {100, 102}, "read": {100}, "write": {102}, "fsync": {102}, "fchown": set(), "fchmod": {102}, "mkdir": {102}, "rename": {102}}
 MOST = 200
+# The mode of each file before a run
+MODE = 0o664
 
 
 def make_library(folder):
@@ -34,6 +37,7 @@ class Devices:
         for name, data in self.files.items():
             with open(f"{self.folder}/{name}", "wb") as it:
                 it.write(data)
+            os.chmod(f"{self.folder}/{name}", MODE)
 
     def made(self, words, fails):
         """What the program answers, what stands in the folder behind it, and whether the call was made that fails."""
@@ -86,6 +90,14 @@ def hold_calls(hold, devices, words, least):
     hold(f"{words[0]} by pieces of seven bytes", (answer, found) == (right, left), answer)
 
 
+def hold_mode(hold, devices, words):
+    """A file that replaces another has its mode; where neither the owner nor the group can be given to it, what the old group might do nobody may."""
+    for fails, mode in (("none 0", MODE), ("fchown 1", MODE), ("fchown 0", MODE & 0o707)):
+        answer, _, _ = devices.made([*words, "--output", "old", "items"], fails)
+        found = stat.S_IMODE(os.stat(f"{devices.folder}/old").st_mode)
+        hold(f"{words[0]}: the mode where it fails at {fails}", answer[0] == 0 and found == mode, (answer, oct(found)))
+
+
 def hold_devices(hold, run, build, folder, files):
     library = make_library(folder)
     os.mkdir(f"{folder}/there")
@@ -96,7 +108,7 @@ def hold_devices(hold, run, build, folder, files):
     for words, least in (
         (["status", *on, "items"], told),
         (["merge", *on, "--output", "new", "items", "items"], whole),
-        (["merge", *on, "--output", "old", "items"], {**whole, "fchmod": 1}),
+        (["merge", *on, "--output", "old", "items"], {**whole, "fchown": 1, "fchmod": 1}),
         (["prove", *on, "--output", "new", "2", "items"], whole),
         (["explain", *on, "--html", "new", "items"], whole),
         (["show", "items"], {"open": 1, "read": 1, "write": 1}),
@@ -104,3 +116,4 @@ def hold_devices(hold, run, build, folder, files):
         (["play", "--workers", "2", "--output", "played", "scenario"], {"open": 3, "read": 1, "write": 2, "fsync": 2, "mkdir": 1, "rename": 1}),
     ):
         hold_calls(hold, devices, words, least)
+    hold_mode(hold, devices, ["merge", *on])

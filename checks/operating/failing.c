@@ -1,6 +1,7 @@
-// Fails one call of a program on its files: FAILS names the kind, and the number among the calls of this kind, counted from 1. The call
-// then does nothing, and tells EIO; where FAILS begins with `interrupted`, it tells EINTR. Of kind `short` no call fails, but each read and
-// each write takes seven bytes at most. When a call fails the file that TOLD names is made. Loaded before the C library, by LD_PRELOAD.
+// Fails one call of a program on its files: FAILS names the kind, and the number among the calls of this kind, counted from 1; 0 is each of
+// them. The call then does nothing, and tells EIO; where FAILS begins with `interrupted`, it tells EINTR. Of kind `short` no call fails, but
+// each read and each write takes seven bytes at most. When a call fails the file that TOLD names is made. Loaded before the C library, by
+// LD_PRELOAD.
 //
 // Build: gcc -O2 -shared -fPIC -o failing.so failing.c -ldl
 #define _GNU_SOURCE
@@ -30,7 +31,8 @@ static int fails(const char *kind) {
     }
     size_t length = strlen(kind);
     if (strncmp(wanted, kind, length) != 0 || wanted[length] != ' ') return 0;
-    if (__atomic_add_fetch(&calls, 1, __ATOMIC_SEQ_CST) != atol(wanted + length)) return 0;
+    long count = __atomic_add_fetch(&calls, 1, __ATOMIC_SEQ_CST), number = atol(wanted + length);
+    if (number != 0 && count != number) return 0;
     syscall(SYS_openat, AT_FDCWD, told, O_CREAT | O_WRONLY, 0600);
     errno = error;
     return 1;
@@ -92,6 +94,10 @@ int fsync(int fd) {
 
 int fchmod(int fd, mode_t mode) {
     return fails("fchmod") ? -1 : (int)syscall(SYS_fchmod, fd, mode);
+}
+
+int fchown(int fd, uid_t owner, gid_t group) {
+    return fails("fchown") ? -1 : (int)syscall(SYS_fchown, fd, owner, group);
 }
 
 int mkdir(const char *name, mode_t mode) {

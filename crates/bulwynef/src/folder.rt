@@ -32,10 +32,11 @@ fn create_private(rt: &HostRuntime, name: &str) -> io::Result<()> {
     builder.create(rt, name)
 }
 
-/// Gives the folder the owner, where that is allowed, and the mode of an empty one whose place it took.
+/// Gives the folder the owner and the group, or the group alone, of an empty one whose place it took, where that is allowed; and its mode.
 fn keep(rt: &HostRuntime, name: &str, old: &Metadata) {
-    let _ = chown(rt, name, Some(old.uid()), Some(old.gid()));
-    let _ = fs::set_permissions(rt, name, mode_of(old));
+    let is_of_its_group = chown(rt, name, Some(old.uid()), Some(old.gid())).is_ok()
+        || chown(rt, name, None, Some(old.gid())).is_ok();
+    let _ = fs::set_permissions(rt, name, mode_of(old, is_of_its_group));
 }
 
 /// Fills the folder beside the one that is to be, which then takes its name.

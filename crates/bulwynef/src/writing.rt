@@ -82,18 +82,18 @@ pub(crate) fn write_new(rt: &HostRuntime, name: &str, bytes: &[u8]) -> io::Resul
     fill(&mut file, bytes)
 }
 
-/// Who may read, write and run what this is of. No more is taken over: a file that runs in its owner's name stays none.
-pub(crate) fn mode_of(old: &Metadata) -> Permissions {
-    Permissions::from_mode(old.mode() & 0o777)
+/// Who may read, write and run what takes the place of this. No more is taken over: a file that runs in its owner's name stays none. What
+/// the group might do nobody may where it has another group.
+pub(crate) fn mode_of(old: &Metadata, is_of_its_group: bool) -> Permissions {
+    let kept = if is_of_its_group { 0o777 } else { 0o707 };
+    Permissions::from_mode(old.mode() & kept)
 }
 
-/// Gives the file the owner, where that is allowed, and the mode of the one whose place it takes.
+/// Gives the file the owner and the group, or the group alone, of the one whose place it takes, where that is allowed; and its mode.
 fn keep(file: &File, old: &Metadata) -> io::Result<()> {
-    let is_owned = fchown(file, Some(old.uid()), Some(old.gid()));
-    if is_owned.is_err() {
-        let _ = fchown(file, None, Some(old.gid()));
-    }
-    file.set_permissions(mode_of(old))
+    let is_of_its_group = fchown(file, Some(old.uid()), Some(old.gid())).is_ok()
+        || fchown(file, None, Some(old.gid())).is_ok();
+    file.set_permissions(mode_of(old, is_of_its_group))
 }
 
 /// Writes the bytes to the new file, which then takes the name.
