@@ -214,7 +214,7 @@ fn lines<'a>(alloc: Global) -> Arg<'a> {
         .action(ArgAction::Append)
         .num_args(1..)
         .required(true)
-        .help("What status writes of a part by ranges, under the same directory")
+        .help("What status writes of a part by ranges, under the same program and directory")
 }
 
 fn combine<'a>(alloc: Global) -> Result<Command<'a>, AllocError> {
