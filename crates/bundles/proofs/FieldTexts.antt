@@ -10,7 +10,7 @@ use Rattle.std.proofs.lemmas.Bool.{leb-true}
 use Rattle.std.proofs.lemmas.Fmt.{decimal_is_IsNumeral}
 use Rattle.std.proofs.lemmas.List.Splits.{join_with_byte-slice_split}
 use Rattle.std.proofs.lemmas.Slice.Eq.{bytes_eq-Decides}
-use Rattle.bundles.specs.Grammar.{exposed_in, greets, is_sum, length_beside, name_in, number_in, program_in, told_in, told_of, word_after, words_after, words_of}
+use Rattle.bundles.specs.Grammar.{exposed_in, greets, is_sum, length_beside, name_in, number_in, program_in, told_in, sum_in, word_after, words_after, words_of}
 use Rattle.bundles.specs.Spelling.{first_line, is_name}
 use Rattle.bundles.proofs.Digits.{number_is}
 use Rattle.bundles.proofs.PlainWords.{decimal_word, is_word, name_word, sum_word, three_words, two_words}
@@ -46,8 +46,8 @@ pub exposed_said : (node : ℕ) → node < 10 ^ 10 → exposed_in (codes "expose
 unfolding exposed_in
 exposed_said node h = one_said (λ word. number_in word) (codes "exposes") (decimal node) refl (decimal_word node h) ∙ number_said node h
 
-pub told_said : (word : List ℕ) (count : ℕ) (sum : List ℕ) → is_word word ≡ true → count < 10 ^ 10 → is_sum sum ≡ true → told_of word (word ++ 32 ∷ decimal count ++ 32 ∷ sum) ≡ telling count sum
-unfolding told_of
+pub told_said : (word : List ℕ) (count : ℕ) (sum : List ℕ) → is_word word ≡ true → count < 10 ^ 10 → is_sum sum ≡ true → sum_in word (word ++ 32 ∷ decimal count ++ 32 ∷ sum) ≡ telling count sum
+unfolding sum_in
 told_said word count sum g small h =
     ap (λ (ws : List (List ℕ)). option_and_then told_in (words_after word ws)) (three_words word (decimal count) sum g (decimal_word count small) (sum_word sum h))
     ∙ ap (λ (t : Bool). option_and_then told_in (cond t (pair (decimal count) sum) None)) (same word)
@@ -143,8 +143,8 @@ beside_found : (sum : List ℕ) (o : Option ℕ) (told : ℕ × List ℕ) → le
 beside_found sum None told h = absurd cc
 beside_found sum (Some count) told h = let p = beside_test (is_sum sum) sum count told h in (ap (λ (n : ℕ). Some n) p.0, p.1)
 
-pub told_found : (word line : List ℕ) (told : ℕ × List ℕ) → told_of word line ≡ Some told → (told.0 < 10 ^ 10) × (line ≡ word ++ 32 ∷ decimal told.0 ++ 32 ∷ told.1)
-unfolding told_of
+pub told_found : (word line : List ℕ) (told : ℕ × List ℕ) → sum_in word line ≡ Some told → (told.0 < 10 ^ 10) × (line ≡ word ++ 32 ∷ decimal told.0 ++ 32 ∷ told.1)
+unfolding sum_in
 told_found word line told h =
     let (words, e, f) = and_then_some (λ w. told_in w) (words_after word (words_of line)) told h in
     let p = beside_found words.1 (number_in words.0) told f in

@@ -12,7 +12,7 @@ use Rattle.outcome.specs.Bytes.{IsBytes}
 use Rattle.outcome.proofs.Steps.{Ok-inj, bind_ok, guard_true}
 use Rattle.bundles.specs.declared.fault.BundleFault.{BundleFault}
 use Rattle.bundles.specs.declared.fault.BundleFault.TheVariants.{OtherLength, OtherSum}
-use Rattle.bundles.specs.Grammar.{Head, Part, Reached, Read, as_told, beginning, bundle_of, bytes_in, exposed_in, form_of, greets, head_of, line_at, next_says, nothing_left, part_of, parts_at, program_in, said, sentences_from, told_of, with_sentence}
+use Rattle.bundles.specs.Grammar.{Head, Part, Reached, Read, as_told, beginning, bundle_of, bytes_in, exposed_in, form_of, greets, head_of, line_at, next_says, nothing_left, part_of, parts_at, program_in, said, sentences_from, sum_in, with_sentence}
 use Rattle.bundles.specs.Spelling.{AreSentences, Contents, IsBundle, ended, first_line, is_name, is_sentence, text_of, told_line}
 use Rattle.bundles.proofs.DigitTexts.{bytes_found}
 use Rattle.bundles.proofs.Feeds.{pair_of}
@@ -123,7 +123,7 @@ record AreParts (at : Reached) (d p : Part) : Type 0 where
   proof_length : p.told_length < 10 ^ 10
   whole : text at.left ≡ ended (telling (codes "directory") d.told_length d.told_sum) ++ (ended (telling (codes "proof") p.told_length p.told_sum) ++ (ended (encode_lower d.bytes) ++ ended (encode_lower p.bytes)))
 
-of_four : (at a_1 a_2 a_3 a_4 : Reached) (n m : ℕ) (dt pt : ℕ × List ℕ) (db pb : List ℕ) → IsRead (told_of (codes "directory")) at dt a_1 → IsRead (told_of (codes "proof")) a_1 pt a_2 → IsRead bytes_in a_2 db a_3 → IsRead bytes_in a_3 pb a_4 → text a_4.left ≡ [] → AreParts at (part_of n dt db) (part_of m pt pb)
+of_four : (at a_1 a_2 a_3 a_4 : Reached) (n m : ℕ) (dt pt : ℕ × List ℕ) (db pb : List ℕ) → IsRead (sum_in (codes "directory")) at dt a_1 → IsRead (sum_in (codes "proof")) a_1 pt a_2 → IsRead bytes_in a_2 db a_3 → IsRead bytes_in a_3 pb a_4 → text a_4.left ≡ [] → AreParts at (part_of n dt db) (part_of m pt pb)
 of_four at a_1 a_2 a_3 a_4 n m dt pt db pb d p x y last =
     let dl = told_found (codes "directory") d.line dt d.told in
     let pl = told_found (codes "proof") p.line pt p.told in
@@ -150,8 +150,8 @@ both q = Ok q
 parts_found : (at : Reached) (q : Part × Part) → parts_at at ≡ both q → AreParts at q.0 q.1
 unfolding parts_at
 parts_found at q is =
-    let p0 = bind_ok (line_at (told_of (codes "directory")) at) _ q is in
-    let p1 = bind_ok (line_at (told_of (codes "proof")) p0.0.1) _ q p0.2 in
+    let p0 = bind_ok (line_at (sum_in (codes "directory")) at) _ q is in
+    let p1 = bind_ok (line_at (sum_in (codes "proof")) p0.0.1) _ q p0.2 in
     let p2 = bind_ok (line_at bytes_in p1.0.1) _ q p1.2 in
     let p3 = bind_ok (line_at bytes_in p2.0.1) _ q p2.2 in
     let p4 = bind_ok (nothing_left p3.0.1.number p3.0.1.left) _ q p3.2 in
@@ -159,7 +159,7 @@ parts_found at q is =
     let p : Part = part_of p0.0.1.number p1.0.0 p3.0.0 in
     let same : (d, p) ≡ q = Ok-inj {A = Part × Part} {E = BundleFault} (d, p) q p4.2 in
     subst (λ (r : Part × Part). AreParts at r.0 r.1) same
-    (of_four at p0.0.1 p1.0.1 p2.0.1 p3.0.1 at.number p0.0.1.number p0.0.0 p1.0.0 p2.0.0 p3.0.0 (is_read (told_of (codes "directory")) at p0.0 p0.1) (is_read (told_of (codes "proof")) p0.0.1 p1.0 p1.1) (is_read bytes_in p1.0.1 p2.0 p2.1) (is_read bytes_in p2.0.1 p3.0 p3.1) (nothing p3.0.1.number p3.0.1.left p4.0 p4.1))
+    (of_four at p0.0.1 p1.0.1 p2.0.1 p3.0.1 at.number p0.0.1.number p0.0.0 p1.0.0 p2.0.0 p3.0.0 (is_read (sum_in (codes "directory")) at p0.0 p0.1) (is_read (sum_in (codes "proof")) p0.0.1 p1.0 p1.1) (is_read bytes_in p1.0.1 p2.0 p2.1) (is_read bytes_in p2.0.1 p3.0 p3.1) (nothing p3.0.1.number p3.0.1.left p4.0 p4.1))
 
 -- ---- what lines tell
 

@@ -9,7 +9,7 @@ use Rattle.sha2.specs.Sha256.{sha256}
 use Rattle.outcome.specs.Outcome.{◌>>=◌}
 use Rattle.std.proofs.lemmas.Slice.Eq.{bytes_eq-Decides}
 use Rattle.bundles.specs.declared.fault.BundleFault.{BundleFault}
-use Rattle.bundles.specs.Grammar.{Head, Part, Reached, Read, as_told, beginning, bundle_of, bytes_in, exposed_in, form_of, greets, head_of, line_at, lines_of, nothing_left, part_of, parts_at, program_in, sentences_from, told_of}
+use Rattle.bundles.specs.Grammar.{Head, Part, Reached, Read, as_told, beginning, bundle_of, bytes_in, exposed_in, form_of, greets, head_of, line_at, lines_of, nothing_left, part_of, parts_at, program_in, sentences_from, sum_in}
 use Rattle.bundles.specs.Spelling.{Contents, IsBundle, ended, first_line, is_sentence, last_lines, text_of, told_line}
 use Rattle.bundles.proofs.DigitTexts.{are_digits, bytes_said, sum_is_digits}
 use Rattle.bundles.proofs.Feeds.{line_first, lines_first, no_feed, pair_of, sentences_first}
@@ -104,9 +104,9 @@ parts_read says_d says_p n d p x y db pb dt pt hd hp hx hy =
     (on bytes_in _ y' (at (n + 1 + 1) (x ∷ y ∷ [] ∷ [])) (n + 1 + 1) x (y ∷ [] ∷ []) db refl refl (omega arith) hx
     (on bytes_in _ y' (at (n + 1 + 1 + 1) (y ∷ [] ∷ [])) (n + 1 + 1 + 1) y ([] ∷ []) pb refl refl (omega arith) hy refl)))
 
-parts_at_read : (n : ℕ) (d p x y db pb : List ℕ) (dt pt : ℕ × List ℕ) → told_of (codes "directory") d ≡ Some dt → told_of (codes "proof") p ≡ Some pt → bytes_in x ≡ Some db → bytes_in y ≡ Some pb → parts_at (at n (d ∷ p ∷ x ∷ y ∷ [] ∷ [])) ≡ parts_of (part_of n dt db) (part_of (n + 1) pt pb)
+parts_at_read : (n : ℕ) (d p x y db pb : List ℕ) (dt pt : ℕ × List ℕ) → sum_in (codes "directory") d ≡ Some dt → sum_in (codes "proof") p ≡ Some pt → bytes_in x ≡ Some db → bytes_in y ≡ Some pb → parts_at (at n (d ∷ p ∷ x ∷ y ∷ [] ∷ [])) ≡ parts_of (part_of n dt db) (part_of (n + 1) pt pb)
 unfolding parts_at
-parts_at_read n d p x y db pb dt pt hd hp hx hy = parts_read (told_of (codes "directory")) (told_of (codes "proof")) n d p x y db pb dt pt hd hp hx hy
+parts_at_read n d p x y db pb dt pt hd hp hx hy = parts_read (sum_in (codes "directory")) (sum_in (codes "proof")) n d p x y db pb dt pt hd hp hx hy
 
 abbrev telling : List ℕ → ℕ × List ℕ
 telling bytes = (length bytes, encode_lower (sha256 bytes))

@@ -70,8 +70,8 @@ unfoldable pub exposed_in : List ℕ → Option ℕ
 exposed_in line = option_and_then number_in (word_after (codes "exposes") (words_of line))
 
 -- `WORD LENGTH SUM`
-unfoldable pub told_of : List ℕ → List ℕ → Option (ℕ × List ℕ)
-told_of word line = option_and_then told_in (words_after word (words_of line))
+unfoldable pub sum_in : List ℕ → List ℕ → Option (ℕ × List ℕ)
+sum_in word line = option_and_then told_in (words_after word (words_of line))
 
 -- The bytes of digits.
 unfoldable pub bytes_in : List ℕ → Option (List ℕ)
@@ -155,8 +155,8 @@ part_of line told bytes = record { line = line; told_length = told.0; told_sum =
 
 unfoldable pub parts_at : Reached → Result (Part × Part) BundleFault
 parts_at at = do
-  directory ← line_at (told_of (codes "directory")) at
-  proof ← line_at (told_of (codes "proof")) directory.1
+  directory ← line_at (sum_in (codes "directory")) at
+  proof ← line_at (sum_in (codes "proof")) directory.1
   first ← line_at bytes_in proof.1
   second ← line_at bytes_in first.1
   done ← nothing_left second.1.number second.1.left

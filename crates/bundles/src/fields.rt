@@ -3,7 +3,7 @@
 ghost use Rattle.std.specs.Prelude.{◌≡◌, ◌↔◌, IsOk, IsTrue, MatchOption, Some, None};
 ghost use Rattle.std.specs.List.{list_all};
 ghost use Rattle.hex.specs.Hex.{decode_of};
-ghost use Rattle.bundles.specs.Grammar.{bytes_in, exposed_in, is_digit, is_sum, program_in, told_of};
+ghost use Rattle.bundles.specs.Grammar.{bytes_in, exposed_in, is_digit, is_sum, program_in, sum_in};
 ghost use Rattle.bundles.specs.Spelling.{is_name, is_name_character, is_printed, is_sentence};
 
 use crate::numbers::number_in;
@@ -94,9 +94,9 @@ pub(crate) struct Told<'a> {
 }
 
 /// `WORD LENGTH SUM`
-#[tactic(auto, unfolding(crate::specs::Grammar::told_of))]
-pub(crate) fn told_of<'a>(word: &[u8], line: &'a [u8]) -> Option<Told<'a>>
-    ensures { MatchOption result (told_of word.now line.now ≡ None) (λ told. told_of word.now line.now ≡ Some (told.length, told.sum.now)) }
+#[tactic(auto, unfolding(crate::specs::Grammar::sum_in))]
+pub(crate) fn sum_in<'a>(word: &[u8], line: &'a [u8]) -> Option<Told<'a>>
+    ensures { MatchOption result (sum_in word.now line.now ≡ None) (λ told. sum_in word.now line.now ≡ Some (told.length, told.sum.now)) }
 {
     let (length, sum) = words_after(word, line)?;
     let length = number_in(length)?;

@@ -5,11 +5,11 @@ ghost use Rattle.hex.specs.Hex.{decode_of, encode_lower};
 ghost use Rattle.sha2.specs.Sha256.{sha256};
 ghost use Rattle.std.specs.Str.{bytes_eq};
 ghost use Rattle.outcome.specs.Outcome.{Gives};
-ghost use Rattle.bundles.specs.Grammar.{as_told, bytes_in, line_at, parts_at, told_of};
+ghost use Rattle.bundles.specs.Grammar.{as_told, bytes_in, line_at, parts_at, sum_in};
 ghost use Rattle.bundles.specs.declared.fault.BundleFault.TheVariants.{Memory};
 
 use crate::fault::BundleFault;
-use crate::fields::{Told, spells_bytes, told_of};
+use crate::fields::{Told, spells_bytes, sum_in};
 use crate::lines::Lines;
 use crate::sums::sum_of;
 use std::alloc::Global;
@@ -73,13 +73,13 @@ impl<'a> Part<'a> {
 }
 
 /// What the next line tells, and the lines behind it.
-fn told_at<'a>(word: &[u8], at: &Lines<'a>) -> Result<(Told<'a>, Lines<'a>), BundleFault>
-    ensures { MatchResult result (λ p. line_at (told_of word.now) at.now ≡ Ok ((p.0.length, p.0.sum.now), p.1)) (λ f. line_at (told_of word.now) at.now ≡ Err f) }
+fn sum_at<'a>(word: &[u8], at: &Lines<'a>) -> Result<(Told<'a>, Lines<'a>), BundleFault>
+    ensures { MatchResult result (λ p. line_at (sum_in word.now) at.now ≡ Ok ((p.0.length, p.0.sum.now), p.1)) (λ f. line_at (sum_in word.now) at.now ≡ Err f) }
 {
     let Some((line, behind)) = at.next() else {
         return Err(at.refusal());
     };
-    match told_of(word, line) {
+    match sum_in(word, line) {
         Some(told) => Ok((told, behind)),
         None => Err(at.refusal()),
     }
@@ -104,9 +104,9 @@ pub(crate) fn parts_at<'a>(at: &Lines<'a>) -> Result<(Part<'a>, Part<'a>), Bundl
     ensures { MatchResult result (λ p. parts_at at.now ≡ Ok (p.0, p.1)) (λ f. parts_at at.now ≡ Err f) }
 {
     let line = at.number();
-    let (told, next) = told_at(b"directory", at)?;
+    let (told, next) = sum_at(b"directory", at)?;
     let proof_line = next.number();
-    let (proof_told, next) = told_at(b"proof", &next)?;
+    let (proof_told, next) = sum_at(b"proof", &next)?;
     let (digits, next) = digits_at(&next)?;
     let (proof_digits, next) = digits_at(&next)?;
     next.end()?;
