@@ -20,7 +20,7 @@ use Rattle.explanations.specs.declared.why.Why.{Why}
 use Rattle.explanations.specs.declared.why.Why.TheVariants as why
 use Rattle.proofs.specs.declared.proof.Parts.{Parts}
 use Rattle.proofs.specs.Convicting.{Convicts}
-use Rattle.explanations.specs.Whys.{AreIndications, AreWhys, IsGrounded, IsWhy, Speaks, indication_of, row_of, told_of}
+use Rattle.explanations.specs.Whys.{AreIndications, AreWhys, IsGrounded, IsWhy, MarksTrusted, Speaks, indication_of, row_of, told_of}
 use Rattle.explanations.specs.Leads.{TellsParts}
 use Rattle.explanations.specs.Headings.{IsHeading, heading_words, is_same, is_told}
 use Rattle.explanations.specs.within.Telling.{AreTold, IsTold, TellsWhy, is_row}
@@ -166,6 +166,19 @@ pub all_grounded : {S : Type 0} (program : Meaning S) (s : Contents) (rows : Lis
 all_grounded program s rows told w h =
     by_place (IsGrounded s.directory program) told
     (grounded s.directory program s.items rows told (by_recursion (λ row. IsWhy s.directory program s.items row.node row.why) rows w.right) h)
+
+-- each is marked by its indication
+marked : (rows : List NodeWhy) (told : List NodeExplanation) → AreTold rows told → AllByRecursion MarksTrusted told
+marked [] [] h = tt
+marked [] (n ∷ told) h = absurd h
+marked (r ∷ rows) [] h = absurd h
+marked (r ∷ rows) (n ∷ told) h = (h.0.marked, marked rows told h.1)
+
+pub all_marked : (rows : List NodeWhy) (told : List NodeExplanation) → AreTold rows told → All MarksTrusted told
+all_marked rows told h = by_place MarksTrusted told (marked rows told h)
+
+pub one_marked : (n : NodeExplanation) (now : List NodeExplanation) → now ≡ n ∷ [] → MarksTrusted n → All MarksTrusted now
+one_marked n now e h = subst (λ (ns : List NodeExplanation). All MarksTrusted ns) (sym e) (All-cons MarksTrusted n [] h (All-nil MarksTrusted))
 
 -- what is told of one node
 pub one_node : (x : Parts) (n : NodeExplanation) (now : List NodeExplanation) → now ≡ n ∷ [] → TellsParts x n.sentences.items → All (λ m. TellsParts x m.sentences.items) now

@@ -1,5 +1,5 @@
 -- Why the items of a set say of a node what they say.
-use Rattle.std.specs.Prelude.{◌≡◌, ◌↔◌, ◌++◌, ℕ, List, [], ◌∷◌, map, string_bytes, IsTrue, Result, Ok, Err}
+use Rattle.std.specs.Prelude.{◌≡◌, ◌↔◌, ◌++◌, ℕ, List, [], ◌∷◌, map, string_bytes, IsTrue, true, Result, Ok, Err}
 use Rattle.std.specs.List.{All, Contains}
 use Rattle.std.specs.List.Sorted.{IsStrictlyIncreasing, IsStrictlySortedBy}
 use Rattle.authenticators.specs.Directory.{Listing, is_listed}
@@ -70,12 +70,17 @@ pub record AreIndications {S : Type 0} (program : Meaning S) (s : Contents) (nod
 abbrev pub IsGrounded : {S : Type 0} → Listing → Meaning S → NodeExplanation → Type 0
 IsGrounded ds program n = n.indication ≡ Exposed → (q : Parts) × Convicts ds program n.node q × TellsParts q n.sentences.items
 
+-- Only a trusted node is told as one of which there is no item.
+abbrev pub MarksTrusted : NodeExplanation → Type 0
+MarksTrusted n = n.has_no_item ≡ true → n.indication ≡ Trusted
+
 -- What is told of a set: how many nodes and items there are; the nodes with their indications; and of each exposed one a proof that convicts
 -- it.
 pub record ExplainsSet {S : Type 0} (program : Meaning S) (s : Contents) (e : Explanation) : Type 0 where
   pub headed : IsHeading s.items e
   pub indicated : AreIndications program s e.nodes.items
   pub grounded : All (IsGrounded s.directory program) e.nodes.items
+  pub marked : All MarksTrusted e.nodes.items
 
 -- The text tells the set under a basis: behind the lines of the basis, and one line about the whole, those lines that do not begin with a
 -- blank are the nodes' own, and no other.
@@ -90,6 +95,7 @@ pub record ExplainsParts (node : ℕ) (x : Parts) (e : Explanation) : Type 0 whe
   pub headed : string_bytes e.heading ≡ proof_words node x
   pub told : map told_of e.nodes.items ≡ (node, Exposed) ∷ []
   pub grounded : All (λ n. TellsParts x n.sentences.items) e.nodes.items
+  pub marked : All MarksTrusted e.nodes.items
 
 -- Whom a proof convicts, or why it is refused.
 abbrev pub convicted_of : Result Conviction ProofFault → Result ℕ ProofFault

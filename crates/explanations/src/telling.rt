@@ -1,6 +1,6 @@
 //! What is told of a store.
 
-ghost use Rattle.std.specs.Prelude.{IfOk};
+ghost use Rattle.std.specs.Prelude.{◌≡◌, IfOk, true};
 ghost use Rattle.explanations.specs.Leads.{TellsParts};
 ghost use Rattle.explanations.specs.Whys.{ExplainsSet, IsExplained};
 ghost use Rattle.explanations.specs.within.Telling.{AreTold, IsTold, TellsWhy};
@@ -143,6 +143,16 @@ fn sentences_of<P: Program, V: Voice>(
     }
 }
 
+/// Whether the node is told as one of which there is no item.
+fn has_no_item(indication: Indication, found: &NodePlaces) -> bool
+    ensures { result ≡ true → indication ≡ Indication.Trusted }
+{
+    match indication {
+        Indication::Trusted => found.has_no_item(),
+        Indication::Suspected | Indication::Exposed => false,
+    }
+}
+
 /// What is told of a node.
 fn explanation_of<P: Program, V: Voice>(
     alloc: Global,
@@ -157,7 +167,7 @@ fn explanation_of<P: Program, V: Voice>(
     Ok(NodeExplanation {
         node: row.node,
         indication,
-        has_no_item: indication == Indication::Trusted && found.has_no_item(),
+        has_no_item: has_no_item(indication, found),
         sentences,
     })
 }

@@ -8,7 +8,7 @@ use Rattle.explanations.specs.declared.why.Why.{Why}
 use Rattle.explanations.specs.declared.why.Why.TheVariants as why
 use Rattle.explanations.specs.Headings.{is_same}
 use Rattle.explanations.specs.Leads.{TellsParts}
-use Rattle.explanations.specs.Whys.{indication_of, row_of, told_of}
+use Rattle.explanations.specs.Whys.{MarksTrusted, indication_of, row_of, told_of}
 
 -- A node is of this indication by its reason.
 abbrev pub is_row : Indication → NodeWhy → Bool
@@ -23,6 +23,7 @@ TellsWhy why.Trusted sentences = Unit {0}
 pub record IsTold (row : NodeWhy) (n : NodeExplanation) : Type 0 where
   pub same : told_of n ≡ row_of row
   pub says : TellsWhy row.why n.sentences.items
+  pub marked : MarksTrusted n
 
 abbrev pub AreTold : List NodeWhy → List NodeExplanation → Type 0
 AreTold [] [] = Unit {0}

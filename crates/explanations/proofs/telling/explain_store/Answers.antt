@@ -5,7 +5,7 @@ use Rattle.sentences.specs.declared.explanation.Explanation.{Explanation}
 use Rattle.explanations.specs.Headings.{heading_words}
 use Rattle.explanations.specs.declared.why.NodeWhy.{NodeWhy}
 use Rattle.explanations.specs.within.Telling.{AreTold, is_row}
-use Rattle.explanations.proofs.Rows.{all_grounded, headed, told_are}
+use Rattle.explanations.proofs.Rows.{all_grounded, all_marked, headed, told_are}
 use Rattle.explanations.proofs.telling.explain_store.Goals as goal
 
 pub returns : goal.returns
@@ -20,4 +20,5 @@ returns g c =
       headed = headed s.items rows e told counted;
       indicated = told_are g.P.Program.means s rows c.in_ok-nodes.nodes.items c.in_ok-whys.ensures told;
       grounded = all_grounded g.P.Program.means s rows c.in_ok-nodes.nodes.items c.in_ok-whys.ensures told;
+      marked = all_marked rows c.in_ok-nodes.nodes.items told;
     }
