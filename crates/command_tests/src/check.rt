@@ -9,7 +9,7 @@ use std::test::Fail;
 use std::thread::Threads;
 
 /// What is answered and written for a proof by these two items.
-fn told<H: Threads + Wait + Sync>(
+fn outcome_of_proof<H: Threads + Wait + Sync>(
     rt: &H,
     alloc: Global,
     first: &[u8],
@@ -22,7 +22,7 @@ fn told<H: Threads + Wait + Sync>(
 #[test]
 fn two_hashes_of_one_number_convict(rt: HostRuntime) -> Result<(), Fail> {
     let (_, first, second) = statements();
-    let (answer, written) = told(&rt, rt.alloc(), first, second)?;
+    let (answer, written) = outcome_of_proof(&rt, rt.alloc(), first, second)?;
     assert!(rt; answer == Ok(()));
     assert!(rt; written.as_slice() == b"exposes 7\n".as_slice());
     Ok(())
@@ -31,7 +31,7 @@ fn two_hashes_of_one_number_convict(rt: HostRuntime) -> Result<(), Fail> {
 #[test]
 fn one_statement_twice_convicts_nobody(rt: HostRuntime) -> Result<(), Fail> {
     let (_, first, _) = statements();
-    let (answer, written) = told(&rt, rt.alloc(), first, first)?;
+    let (answer, written) = outcome_of_proof(&rt, rt.alloc(), first, first)?;
     assert!(rt; answer == Err(Fault::NoContradiction));
     assert!(rt; written.is_empty());
     Ok(())

@@ -9,7 +9,7 @@ use std::test::Fail;
 use std::thread::Threads;
 
 /// What is answered and written for a scenario's text.
-fn told<H: Threads + Wait + Sync>(
+fn outcome_of_run<H: Threads + Wait + Sync>(
     rt: &H,
     alloc: Global,
     workers: u32,
@@ -23,7 +23,7 @@ fn each_witness_tells_of_each_node(rt: HostRuntime) {
     let text =
         b"witnesses 2\nnode 1 honest\nnode 2 wrong\nnode 3 mute\ntimer 1 5\ntimer 2 7\naudit 2\n";
     for workers in [1, 2, 8] {
-        let (answer, written) = told(&rt, rt.alloc(), workers, text);
+        let (answer, written) = outcome_of_run(&rt, rt.alloc(), workers, text);
         assert!(rt; answer == Ok(()));
         assert!(rt;
             written.as_slice()
@@ -34,7 +34,7 @@ fn each_witness_tells_of_each_node(rt: HostRuntime) {
 
 #[test]
 fn a_text_that_is_no_scenario_is_refused(rt: HostRuntime) {
-    let (answer, written) = told(&rt, rt.alloc(), 1, b"witnesses 9\nnode 1 honest\n");
+    let (answer, written) = outcome_of_run(&rt, rt.alloc(), 1, b"witnesses 9\nnode 1 honest\n");
     assert!(rt; answer == Err(Fault::BadScenario));
     assert!(rt; written.is_empty());
 }
@@ -118,7 +118,7 @@ fn a_second_key_is_taken_once(rt: HostRuntime) -> Result<(), Fail> {
 fn second_keys_are_told_of(rt: HostRuntime) {
     let text = b"witnesses 1\nnode 1 fork\nnode 2 wrong\nnode 3 mute\n\
         rekey 1\nrekey 2\nrekey 3\ntimer 1 5\ntimer 2 7\naudit 2\n";
-    let (answer, written) = told(&rt, rt.alloc(), 1, text);
+    let (answer, written) = outcome_of_run(&rt, rt.alloc(), 1, text);
     assert!(rt; answer == Ok(()));
     assert!(rt;
         written.as_slice() == b"witness 0\n1 exposed\n2 exposed\n3 suspected\nequal\n".as_slice()

@@ -11,7 +11,7 @@ use std::test::Fail;
 use std::thread::Threads;
 
 /// What is answered and written for an input.
-fn told<H: Threads + Wait + Sync>(
+fn outcome_of_status<H: Threads + Wait + Sync>(
     rt: &H,
     alloc: Global,
     input: &'static [u8],
@@ -21,14 +21,14 @@ fn told<H: Threads + Wait + Sync>(
 
 #[test]
 fn nodes_without_statements_are_trusted(rt: HostRuntime) {
-    let (answer, written) = told(&rt, rt.alloc(), no_statements());
+    let (answer, written) = outcome_of_status(&rt, rt.alloc(), no_statements());
     assert!(rt; answer == Ok(()));
     assert!(rt; written.as_slice() == b"1 trusted\n2 trusted\n".as_slice());
 }
 
 #[test]
 fn a_node_with_two_hashes_is_exposed(rt: HostRuntime) {
-    let (answer, written) = told(&rt, rt.alloc(), equivocation());
+    let (answer, written) = outcome_of_status(&rt, rt.alloc(), equivocation());
     assert!(rt; answer == Ok(()));
     assert!(rt; written.as_slice() == b"7 exposed\n".as_slice());
 }
@@ -60,7 +60,7 @@ fn refusals_are_told(rt: HostRuntime) {
         (unsigned(), Fault::BadSignature, "refused 49 BadSignature"),
     ];
     for (input, fault, text) in inputs {
-        let (answer, written) = told(&rt, rt.alloc(), input);
+        let (answer, written) = outcome_of_status(&rt, rt.alloc(), input);
         assert!(rt; answer == Err(fault));
         assert!(rt; written.is_empty());
         let line = RefusalLine { fault };

@@ -48,7 +48,7 @@ fn refused_by<S: Evidence<Tally>>(store: &S, node: NodeId) -> [u8; 3] {
     ]
 }
 
-fn told_by<S: Evidence<Tally>>(store: &mut S) -> Result<Told, Fail> {
+fn answer_by<S: Evidence<Tally>>(store: &mut S) -> Result<Told, Fail> {
     let new = store.import(&Tally, b"PRSTORE1\0\0\0\0\0\0\0\0")?;
     Ok(Told {
         new,
@@ -63,7 +63,7 @@ fn told_by<S: Evidence<Tally>>(store: &mut S) -> Result<Told, Fail> {
 fn read_nothing<S: Evidence<Tally>>(alloc: Global) -> Result<Told, Fail> {
     let directory = old_directory(alloc)?;
     let mut store: Box<S> = new_store(alloc, &directory)?;
-    told_by::<S>(&mut store)
+    answer_by::<S>(&mut store)
 }
 
 #[test]

@@ -135,7 +135,11 @@ struct Told {
     says: Indication,
 }
 
-fn told_by<S: Evidence<Tally>>(alloc: Global, on: &Scene, order: [usize; 7]) -> Result<Told, Fail> {
+fn answer_by<S: Evidence<Tally>>(
+    alloc: Global,
+    on: &Scene,
+    order: [usize; 7],
+) -> Result<Told, Fail> {
     let mut store: Box<S> = new_store(alloc, &on.nodes.directory)?;
     let mut open = [0; 7];
     for k in 0..7 {
@@ -150,15 +154,15 @@ fn told_by<S: Evidence<Tally>>(alloc: Global, on: &Scene, order: [usize; 7]) -> 
 }
 
 /// What both stores tell where the challenges come first, and where they come last.
-fn told_by_both(alloc: Global, log: &Log) -> Result<[Told; 4], Fail> {
+fn answers_by_both(alloc: Global, log: &Log) -> Result<[Told; 4], Fail> {
     let on = make_scene(alloc, log)?;
     let before = [5, 6, 0, 1, 2, 3, 4];
     let behind = [4, 3, 2, 1, 0, 5, 6];
     Ok([
-        told_by::<PlainStore<Tally>>(alloc, &on, before)?,
-        told_by::<IndexedStore<Tally>>(alloc, &on, before)?,
-        told_by::<PlainStore<Tally>>(alloc, &on, behind)?,
-        told_by::<IndexedStore<Tally>>(alloc, &on, behind)?,
+        answer_by::<PlainStore<Tally>>(alloc, &on, before)?,
+        answer_by::<IndexedStore<Tally>>(alloc, &on, before)?,
+        answer_by::<PlainStore<Tally>>(alloc, &on, behind)?,
+        answer_by::<IndexedStore<Tally>>(alloc, &on, behind)?,
     ])
 }
 
@@ -189,14 +193,14 @@ const fn rising(numbers: Numbers) -> Log {
 
 #[test]
 fn an_exposed_node_answers(rt: HostRuntime) -> Result<(), Fail> {
-    assert!(rt; told_by_both(rt.alloc(), &rising([4, 5, 6]))? == expected());
+    assert!(rt; answers_by_both(rt.alloc(), &rising([4, 5, 6]))? == expected());
     Ok(())
 }
 
 #[test]
 fn a_log_that_ends_at_the_greatest_number_answers(rt: HostRuntime) -> Result<(), Fail> {
     let log = rising([u64::MAX - 2, u64::MAX - 1, u64::MAX]);
-    assert!(rt; told_by_both(rt.alloc(), &log)? == expected());
+    assert!(rt; answers_by_both(rt.alloc(), &log)? == expected());
     Ok(())
 }
 
@@ -207,6 +211,6 @@ fn entries_whose_numbers_fall_answer(rt: HostRuntime) -> Result<(), Fail> {
         last: 1,
         between: 2,
     };
-    assert!(rt; told_by_both(rt.alloc(), &log)? == expected());
+    assert!(rt; answers_by_both(rt.alloc(), &log)? == expected());
     Ok(())
 }

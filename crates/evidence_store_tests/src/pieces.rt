@@ -48,7 +48,7 @@ fn feed_again(importer: &mut Importer<Tally>, fed: u8) -> u8
     }
 }
 
-fn told_by<S: Evidence<Tally>>(
+fn refusals_by<S: Evidence<Tally>>(
     alloc: Global,
     store: &mut S,
     text: &[u8],
@@ -72,7 +72,7 @@ fn read_in_pieces<S: Evidence<Tally>>(
     length: usize,
 ) -> Result<Told, Fail> {
     let mut store: Box<S> = new_store(alloc, &on.directory)?;
-    let [fed, again, ended] = told_by::<S>(alloc, &mut store, text, length)?;
+    let [fed, again, ended] = refusals_by::<S>(alloc, &mut store, text, length)?;
     Ok(Told {
         fed,
         again,

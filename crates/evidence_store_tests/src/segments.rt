@@ -47,7 +47,11 @@ struct Told {
 }
 
 /// What a store tells that took the segments in this order.
-fn told_by<S: Evidence<Tally>>(alloc: Global, on: &Logs, places: [usize; 2]) -> Result<Told, Fail> {
+fn answer_by<S: Evidence<Tally>>(
+    alloc: Global,
+    on: &Logs,
+    places: [usize; 2],
+) -> Result<Told, Fail> {
     let mut store: Box<S> = new_store(alloc, &on.nodes.directory)?;
     take_some::<S>(alloc, &mut store, &on.items, &places)?;
     let text = write_all(alloc, *b"PRSTORE2", &on.items)?;
@@ -57,11 +61,11 @@ fn told_by<S: Evidence<Tally>>(alloc: Global, on: &Logs, places: [usize; 2]) -> 
     })
 }
 
-fn told_in_both_orders<S: Evidence<Tally>>(alloc: Global) -> Result<[Told; 2], Fail> {
+fn answers_in_both_orders<S: Evidence<Tally>>(alloc: Global) -> Result<[Told; 2], Fail> {
     let on = make_logs(alloc)?;
     Ok([
-        told_by::<S>(alloc, &on, [1, 0])?,
-        told_by::<S>(alloc, &on, [0, 1])?,
+        answer_by::<S>(alloc, &on, [1, 0])?,
+        answer_by::<S>(alloc, &on, [0, 1])?,
     ])
 }
 
@@ -75,7 +79,7 @@ fn two_logs_of_a_node_expose_it_in_both_orders(rt: HostRuntime) -> Result<(), Fa
         },
         is_written: true,
     };
-    assert!(rt; told_in_both_orders::<PlainStore<Tally>>(rt.alloc())? == [expected; 2]);
-    assert!(rt; told_in_both_orders::<IndexedStore<Tally>>(rt.alloc())? == [expected; 2]);
+    assert!(rt; answers_in_both_orders::<PlainStore<Tally>>(rt.alloc())? == [expected; 2]);
+    assert!(rt; answers_in_both_orders::<IndexedStore<Tally>>(rt.alloc())? == [expected; 2]);
     Ok(())
 }

@@ -51,7 +51,7 @@ struct Told {
     is_written: bool,
 }
 
-fn told_by<S: Evidence<Tally>>(store: &mut S, text: &[u8], written: &[u8]) -> Result<Told, Fail> {
+fn answer_by<S: Evidence<Tally>>(store: &mut S, text: &[u8], written: &[u8]) -> Result<Told, Fail> {
     let refusal = match store.import(&Tally, text) {
         Ok(_) => 0,
         Err(fault) => fault.cause.number(),
@@ -72,7 +72,7 @@ fn read_behind<S: Evidence<Tally>>(
     let given = behind(alloc, magic, &on.text)?;
     let written = behind(alloc, b"PRSTORE2", &on.text)?;
     let mut store: Box<S> = new_store(alloc, &on.directory)?;
-    told_by::<S>(&mut store, &given, &written)
+    answer_by::<S>(&mut store, &given, &written)
 }
 
 const READ: Told = Told {

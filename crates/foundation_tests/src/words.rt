@@ -5,7 +5,7 @@ use std::alloc::Global;
 use std::test::Fail;
 
 /// What is told of a line: nothing where it is hexadecimal.
-fn told(alloc: Global, line: &[u8]) -> Result<String, Fail> {
+fn sentence_of(alloc: Global, line: &[u8]) -> Result<String, Fail> {
     match line_fault(line) {
         Some(fault) => Ok(format!(in alloc; "{fault}")?),
         None => Ok(String::new(alloc)),
@@ -34,7 +34,7 @@ fn lines(rt: HostRuntime) -> Result<(), Fail> {
         (b"abc", "it has 3 digits, an odd number"),
     ];
     for (line, wanted) in lines {
-        let told = told(rt.alloc(), line)?;
+        let told = sentence_of(rt.alloc(), line)?;
         assert!(rt; told.as_str() == wanted);
     }
     Ok(())

@@ -21,7 +21,7 @@ fn directory_up_to(alloc: Global, last: u32) -> Result<Box<Directory>, Fail> {
 }
 
 /// The number in which the key's identifier ends.
-fn told_by(key: Option<&PublicKey>) -> Option<u8> {
+fn number_of(key: Option<&PublicKey>) -> Option<u8> {
     match key {
         Some(key) => Some(key.id[15]),
         None => None,
@@ -41,7 +41,7 @@ fn keys_are_found_by_node_and_number(rt: HostRuntime) -> Result<(), Fail> {
         (2, 1, None),
         (3, 0, None),
     ] {
-        assert!(rt; told_by(directory.key(NodeId(node), number)) == found);
+        assert!(rt; number_of(directory.key(NodeId(node), number)) == found);
     }
     Ok(())
 }
@@ -50,7 +50,7 @@ fn keys_are_found_by_node_and_number(rt: HostRuntime) -> Result<(), Fail> {
 fn a_nodes_key_is_its_first(rt: HostRuntime) -> Result<(), Fail> {
     let directory = directory_up_to(rt.alloc(), 12)?;
     for (node, found) in [(1, Some(10)), (2, Some(20)), (3, None)] {
-        assert!(rt; told_by(directory.key_of(NodeId(node))) == found);
+        assert!(rt; number_of(directory.key_of(NodeId(node))) == found);
     }
     Ok(())
 }

@@ -85,7 +85,7 @@ struct Told {
     is_same: bool,
 }
 
-fn told_twice(alloc: Global, node: &mut Node<Tally>, item: Box<Item>) -> Result<Told, Fail> {
+fn answer_twice(alloc: Global, node: &mut Node<Tally>, item: Box<Item>) -> Result<Told, Fail> {
     let first = answered(alloc, node, item.try_clone(alloc)?)?;
     let again = answered(alloc, node, Box::into_inner(item))?;
     let is_same = first.item == again.item;
@@ -102,7 +102,7 @@ fn told_twice(alloc: Global, node: &mut Node<Tally>, item: Box<Item>) -> Result<
 fn acknowledged(alloc: Global, node: &mut Node<Tally>, one: &mut Signer) -> Result<Told, Fail> {
     let message = one.message(alloc, 4, &ADDS_ONE, 9)?;
     let item = send_challenge(Box::into_inner(message))?;
-    told_twice(alloc, node, Box::new(alloc, item)?)
+    answer_twice(alloc, node, Box::new(alloc, item)?)
 }
 
 /// An audit of node 2, whose log has six entries.

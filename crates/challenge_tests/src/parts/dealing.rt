@@ -56,7 +56,7 @@ fn a_number_is_in_the_part_of_its_range(rt: HostRuntime) {
 }
 
 /// How a set without items says that it is dealt, where it is dealt so.
-fn told(alloc: Global, dealing: Dealing) -> Result<Dealing, Fail> {
+fn dealing_of(alloc: Global, dealing: Dealing) -> Result<Dealing, Fail> {
     let items = gathered(Vec::new(alloc));
     let parting = Parting::new(alloc, dealing, &items)?;
     Ok(parting.dealing())
@@ -67,9 +67,9 @@ fn parts_of_each(alloc: Global, count: u32) -> Result<[(u32, bool); 3], Fail> {
     let (Some(shards), Some(ranges)) = (Shards::new(count), ranges(count)) else {
         return Ok([(9, false); 3]);
     };
-    let by_node = told(alloc, Dealing::ByNode(shards))?;
-    let by_range = told(alloc, Dealing::ByRange(ranges))?;
-    let extracts = told(alloc, Dealing::Extracts(shards))?;
+    let by_node = dealing_of(alloc, Dealing::ByNode(shards))?;
+    let by_range = dealing_of(alloc, Dealing::ByRange(ranges))?;
+    let extracts = dealing_of(alloc, Dealing::Extracts(shards))?;
     Ok([
         (by_node.parts(), matches!(by_node, Dealing::ByNode(_))),
         (by_range.parts(), matches!(by_range, Dealing::ByRange(_))),

@@ -32,7 +32,7 @@ pub(crate) enum Answer {
     Refused(u8),
 }
 
-pub(crate) fn told(alloc: Global, directory: &Directory, proof: &Proof) -> Answer {
+pub(crate) fn answer_to(alloc: Global, directory: &Directory, proof: &Proof) -> Answer {
     match check_proof(alloc, &Tally, directory, proof) {
         Ok(node) => Answer::Convicted(node.0),
         Err(fault) => Answer::Refused(fault.number()),
@@ -57,26 +57,26 @@ fn signed_auth(alloc: Global, node: &mut Node, seq: u64, hash: Hash) -> Result<B
 }
 
 /// What is told of the form's proof that is not signed.
-fn told_of_unsigned(alloc: Global, node: &Node, form: u8) -> Result<Answer, Fail> {
+fn answer_to_unsigned(alloc: Global, node: &Node, form: u8) -> Result<Answer, Fail> {
     let proof = proof_of(alloc, form)?;
-    Ok(told(alloc, &node.directory, &proof))
+    Ok(answer_to(alloc, &node.directory, &proof))
 }
 
 /// What is told of node 1's statements of number 5 and zeros, and of another number and hash.
-fn told_of_two(alloc: Global, node: &mut Node, seq: u64, hash: Hash) -> Result<Answer, Fail> {
+fn answer_to_two(alloc: Global, node: &mut Node, seq: u64, hash: Hash) -> Result<Answer, Fail> {
     let first = signed_auth(alloc, node, 5, ZEROS)?;
     let second = signed_auth(alloc, node, seq, hash)?;
     let proof = two_auths(first, second)?;
-    Ok(told(alloc, &node.directory, &proof))
+    Ok(answer_to(alloc, &node.directory, &proof))
 }
 
 /// What is told of two hashes of one number, of one hash, of two numbers, and of two hashes that are not signed.
-fn told_of_pairs(alloc: Global, node: &mut Node) -> Result<[Answer; 4], Fail> {
+fn answers_to_pairs(alloc: Global, node: &mut Node) -> Result<[Answer; 4], Fail> {
     Ok([
-        told_of_two(alloc, node, 5, ONES)?,
-        told_of_two(alloc, node, 5, ZEROS)?,
-        told_of_two(alloc, node, 6, ONES)?,
-        told_of_unsigned(alloc, node, 1)?,
+        answer_to_two(alloc, node, 5, ONES)?,
+        answer_to_two(alloc, node, 5, ZEROS)?,
+        answer_to_two(alloc, node, 6, ONES)?,
+        answer_to_unsigned(alloc, node, 1)?,
     ])
 }
 
@@ -89,7 +89,7 @@ fn two_hashes_convict(rt: HostRuntime) -> Result<(), Fail> {
         Answer::Refused(50),
         Answer::Refused(49),
     ];
-    assert_eq!(rt; told_of_pairs(rt.alloc(), &mut node)?, expected);
+    assert_eq!(rt; answers_to_pairs(rt.alloc(), &mut node)?, expected);
     Ok(())
 }
 
@@ -108,19 +108,19 @@ fn log_segment(alloc: Global, node: &mut Node, content: &[u8]) -> Result<Box<Ite
 }
 
 /// What is told of node 1's statement of the number and zeros beside that segment of INIT.
-fn told_of_segment(alloc: Global, node: &mut Node, seq: u64) -> Result<Answer, Fail> {
+fn answer_to_segment(alloc: Global, node: &mut Node, seq: u64) -> Result<Answer, Fail> {
     let auth = signed_auth(alloc, node, seq, ZEROS)?;
     let segment = log_segment(alloc, node, &[0, 0, 0, 1])?;
     let proof = auth_segment(auth, segment)?;
-    Ok(told(alloc, &node.directory, &proof))
+    Ok(answer_to(alloc, &node.directory, &proof))
 }
 
 /// The same of the statements of the numbers 5, 0 and 6.
-fn told_beside_segments(alloc: Global, node: &mut Node) -> Result<[Answer; 3], Fail> {
+fn answers_beside_segments(alloc: Global, node: &mut Node) -> Result<[Answer; 3], Fail> {
     Ok([
-        told_of_segment(alloc, node, 5)?,
-        told_of_segment(alloc, node, 0)?,
-        told_of_segment(alloc, node, 6)?,
+        answer_to_segment(alloc, node, 5)?,
+        answer_to_segment(alloc, node, 0)?,
+        answer_to_segment(alloc, node, 6)?,
     ])
 }
 
@@ -132,23 +132,23 @@ fn a_contradiction_convicts(rt: HostRuntime) -> Result<(), Fail> {
         Answer::Convicted(1),
         Answer::Refused(50),
     ];
-    assert_eq!(rt; told_beside_segments(rt.alloc(), &mut node)?, expected);
+    assert_eq!(rt; answers_beside_segments(rt.alloc(), &mut node)?, expected);
     Ok(())
 }
 
 /// What is told of the segment of INIT with this content.
-fn told_of_log(alloc: Global, node: &mut Node, content: &[u8]) -> Result<Answer, Fail> {
+fn answer_to_log(alloc: Global, node: &mut Node, content: &[u8]) -> Result<Answer, Fail> {
     let segment = log_segment(alloc, node, content)?;
     let proof = nonconforming(segment)?;
-    Ok(told(alloc, &node.directory, &proof))
+    Ok(answer_to(alloc, &node.directory, &proof))
 }
 
 /// The same of the content that INIT is to have, of another, and of a segment that is not signed.
-fn told_of_logs(alloc: Global, node: &mut Node) -> Result<[Answer; 3], Fail> {
+fn answers_to_logs(alloc: Global, node: &mut Node) -> Result<[Answer; 3], Fail> {
     Ok([
-        told_of_log(alloc, node, &[0, 0, 0, 1])?,
-        told_of_log(alloc, node, &[0, 0, 0, 2])?,
-        told_of_unsigned(alloc, node, 3)?,
+        answer_to_log(alloc, node, &[0, 0, 0, 1])?,
+        answer_to_log(alloc, node, &[0, 0, 0, 2])?,
+        answer_to_unsigned(alloc, node, 3)?,
     ])
 }
 
@@ -160,7 +160,7 @@ fn a_deviation_convicts(rt: HostRuntime) -> Result<(), Fail> {
         Answer::Convicted(1),
         Answer::Refused(47),
     ];
-    assert_eq!(rt; told_of_logs(rt.alloc(), &mut node)?, expected);
+    assert_eq!(rt; answers_to_logs(rt.alloc(), &mut node)?, expected);
     Ok(())
 }
 
@@ -180,22 +180,25 @@ fn bare_auth(alloc: Global) -> Result<Item, Fail> {
 }
 
 /// What is told of these two under a directory that lists no node. All growth of memory is that of checking.
-fn told_of_bare_two(alloc: Global) -> Result<Answer, Fail> {
+fn answer_to_bare_two(alloc: Global) -> Result<Answer, Fail> {
     let auth = bare_auth(alloc)?;
     let proof = Proof::auth_segment(auth, bare_segment(alloc)?)?;
-    Ok(told(alloc, &Directory::new(alloc), &proof))
+    Ok(answer_to(alloc, &Directory::new(alloc), &proof))
 }
 
 /// The same of the segment.
-fn told_of_bare_one(alloc: Global) -> Result<Answer, Fail> {
+fn answer_to_bare_one(alloc: Global) -> Result<Answer, Fail> {
     let proof = Proof::nonconforming(bare_segment(alloc)?)?;
-    Ok(told(alloc, &Directory::new(alloc), &proof))
+    Ok(answer_to(alloc, &Directory::new(alloc), &proof))
 }
 
 #[test]
 fn an_early_fault_is_told_without_memory(rt: HostRuntime) -> Result<(), Fail> {
     assert_eq!(rt;
-        [told_of_bare_two(rt.alloc())?, told_of_bare_one(rt.alloc())?],
+        [
+            answer_to_bare_two(rt.alloc())?,
+            answer_to_bare_one(rt.alloc())?
+        ],
         [Answer::Refused(44); 2]
     );
     Ok(())

@@ -1,7 +1,7 @@
 //! What a proof tells of a log that receives one message twice.
 
 use crate::convictions::calls::{ZEROS, nonconforming};
-use crate::convictions::checking::{Answer, told};
+use crate::convictions::checking::{Answer, answer_to};
 use authenticators::{Directory, NodeId, statement_text};
 use lms_sign::{LmsType, OtsType, SecretKey};
 use log_chain::{ByteString, Entry, base_hash, chain_end, entry_hash, kind};
@@ -88,24 +88,24 @@ fn segment_up_to(alloc: Global, receiver: &mut Receiver, last: u64) -> Result<Bo
 }
 
 /// What is told of that segment as one that does not conform.
-fn told_up_to(alloc: Global, receiver: &mut Receiver, last: u64) -> Result<Answer, Fail> {
+fn answer_up_to(alloc: Global, receiver: &mut Receiver, last: u64) -> Result<Answer, Fail> {
     let segment = segment_up_to(alloc, receiver, last)?;
     let proof = nonconforming(segment)?;
-    Ok(told(alloc, &receiver.directory, &proof))
+    Ok(answer_to(alloc, &receiver.directory, &proof))
 }
 
 /// The same without the second receipt and with it.
-fn told_of_both(alloc: Global) -> Result<[Answer; 2], Fail> {
+fn answers_to_both(alloc: Global) -> Result<[Answer; 2], Fail> {
     let mut receiver = make_receiver(alloc)?;
     Ok([
-        told_up_to(alloc, &mut receiver, 3)?,
-        told_up_to(alloc, &mut receiver, 4)?,
+        answer_up_to(alloc, &mut receiver, 3)?,
+        answer_up_to(alloc, &mut receiver, 4)?,
     ])
 }
 
 #[test]
 fn a_second_receipt_convicts(rt: HostRuntime) -> Result<(), Fail> {
     let expected = [Answer::Refused(51), Answer::Convicted(2)];
-    assert_eq!(rt; told_of_both(rt.alloc())?, expected);
+    assert_eq!(rt; answers_to_both(rt.alloc())?, expected);
     Ok(())
 }

@@ -51,7 +51,7 @@ fn text_with(alloc: Global, number: usize, instead: &str) -> Result<String, Fail
 }
 
 /// The number and the line of what is told of a text; zeros where it is read.
-fn told_of(alloc: Global, text: &str) -> (u8, usize) {
+fn fault_of(alloc: Global, text: &str) -> (u8, usize) {
     match read(alloc, text.as_bytes()) {
         Ok(_) => (0, 0),
         Err(fault) => (fault.number(), fault.line().unwrap_or(0)),
@@ -59,9 +59,9 @@ fn told_of(alloc: Global, text: &str) -> (u8, usize) {
 }
 
 /// What is told of the lines, with this text in place of one of them.
-fn told_with(alloc: Global, number: usize, instead: &str) -> Result<(u8, usize), Fail> {
+fn fault_with(alloc: Global, number: usize, instead: &str) -> Result<(u8, usize), Fail> {
     let text = text_with(alloc, number, instead)?;
-    Ok(told_of(alloc, text.as_str()))
+    Ok(fault_of(alloc, text.as_str()))
 }
 
 /// Whether the bundle's text is this one.
@@ -100,72 +100,72 @@ fn a_bundle_is_written_and_read(rt: HostRuntime) -> Result<(), Fail> {
 
 #[test]
 fn a_bundle_may_have_no_sentence_and_no_bytes(rt: HostRuntime) {
-    assert!(rt; told_of(rt.alloc(), bare_text()) == (0, 0));
+    assert!(rt; fault_of(rt.alloc(), bare_text()) == (0, 0));
 }
 
 #[test]
 fn the_first_line_is_refused(rt: HostRuntime) -> Result<(), Fail> {
-    assert!(rt; told_of(rt.alloc(), "") == (106, 1));
-    assert!(rt; told_of(rt.alloc(), "bulwynef bundle 1") == (106, 1));
-    assert!(rt; told_with(rt.alloc(), 1, "bulwynef bundle 2\n")? == (106, 1));
-    assert!(rt; told_with(rt.alloc(), 1, "bulwynef bundle 1\r\n")? == (106, 1));
+    assert!(rt; fault_of(rt.alloc(), "") == (106, 1));
+    assert!(rt; fault_of(rt.alloc(), "bulwynef bundle 1") == (106, 1));
+    assert!(rt; fault_with(rt.alloc(), 1, "bulwynef bundle 2\n")? == (106, 1));
+    assert!(rt; fault_with(rt.alloc(), 1, "bulwynef bundle 1\r\n")? == (106, 1));
     Ok(())
 }
 
 #[test]
 fn what_is_no_sentence_is_no_program(rt: HostRuntime) -> Result<(), Fail> {
-    assert!(rt; told_with(rt.alloc(), 3, "#\ttab\n")? == (106, 3));
-    assert!(rt; told_with(rt.alloc(), 4, "program Tally\n")? == (106, 4));
+    assert!(rt; fault_with(rt.alloc(), 3, "#\ttab\n")? == (106, 3));
+    assert!(rt; fault_with(rt.alloc(), 4, "program Tally\n")? == (106, 4));
     assert!(rt;
-        told_with(rt.alloc(), 4, "program aaaaaaaaaaaaaaaaaaaaaaaaaaaaaaaaa\n")? == (106, 4)
+        fault_with(rt.alloc(), 4, "program aaaaaaaaaaaaaaaaaaaaaaaaaaaaaaaaa\n")? == (106, 4)
     );
     Ok(())
 }
 
 #[test]
 fn numbers_have_one_to_ten_digits_and_no_leading_zero(rt: HostRuntime) -> Result<(), Fail> {
-    assert!(rt; told_with(rt.alloc(), 5, "exposes 02\n")? == (106, 5));
-    assert!(rt; told_with(rt.alloc(), 5, "exposes 9999999999\n")? == (0, 0));
-    assert!(rt; told_with(rt.alloc(), 5, "exposes 10000000000\n")? == (106, 5));
+    assert!(rt; fault_with(rt.alloc(), 5, "exposes 02\n")? == (106, 5));
+    assert!(rt; fault_with(rt.alloc(), 5, "exposes 9999999999\n")? == (0, 0));
+    assert!(rt; fault_with(rt.alloc(), 5, "exposes 10000000000\n")? == (106, 5));
     Ok(())
 }
 
 #[test]
 fn other_lengths_and_sums_are_told_of_the_directory_first(rt: HostRuntime) -> Result<(), Fail> {
     let three = "directory 3 c3972ccd735419073803fcacedfe2ea2c95f6c1df260354e9f83aa1befff1efb\n";
-    assert!(rt; told_with(rt.alloc(), 6, three)? == (107, 6));
-    assert!(rt; told_of(rt.alloc(), other_in_both()) == (108, 4));
+    assert!(rt; fault_with(rt.alloc(), 6, three)? == (107, 6));
+    assert!(rt; fault_of(rt.alloc(), other_in_both()) == (108, 4));
     Ok(())
 }
 
 #[test]
 fn other_lengths_and_sums_are_told_of_the_proof(rt: HostRuntime) -> Result<(), Fail> {
     let one = "proof 1 214641288970be08d9924b71c511f38136c6457bb2ba60e9d9102072bea7ce77\n";
-    assert!(rt; told_with(rt.alloc(), 7, one)? == (107, 7));
-    assert!(rt; told_with(rt.alloc(), 9, "03a1\n")? == (108, 7));
+    assert!(rt; fault_with(rt.alloc(), 7, one)? == (107, 7));
+    assert!(rt; fault_with(rt.alloc(), 9, "03a1\n")? == (108, 7));
     Ok(())
 }
 
 #[test]
 fn sums_stand_in_lower_case(rt: HostRuntime) -> Result<(), Fail> {
     let upper = "proof 2 214641288970BE08d9924b71c511f38136c6457bb2ba60e9d9102072bea7ce77\n";
-    assert!(rt; told_with(rt.alloc(), 7, upper)? == (106, 7));
+    assert!(rt; fault_with(rt.alloc(), 7, upper)? == (106, 7));
     Ok(())
 }
 
 #[test]
 fn digits_are_even_and_in_lower_case(rt: HostRuntime) -> Result<(), Fail> {
-    assert!(rt; told_with(rt.alloc(), 9, "03A0\n")? == (106, 9));
-    assert!(rt; told_with(rt.alloc(), 8, "50520\n")? == (106, 8));
-    assert!(rt; told_with(rt.alloc(), 8, "5052\r\n")? == (106, 8));
+    assert!(rt; fault_with(rt.alloc(), 9, "03A0\n")? == (106, 9));
+    assert!(rt; fault_with(rt.alloc(), 8, "50520\n")? == (106, 8));
+    assert!(rt; fault_with(rt.alloc(), 8, "5052\r\n")? == (106, 8));
     Ok(())
 }
 
 #[test]
 fn the_last_line_ends_the_text(rt: HostRuntime) -> Result<(), Fail> {
-    assert!(rt; told_with(rt.alloc(), 9, "03a0")? == (106, 9));
-    assert!(rt; told_with(rt.alloc(), 9, "")? == (106, 9));
-    assert!(rt; told_with(rt.alloc(), 10, "# one more\n")? == (106, 10));
+    assert!(rt; fault_with(rt.alloc(), 9, "03a0")? == (106, 9));
+    assert!(rt; fault_with(rt.alloc(), 9, "")? == (106, 9));
+    assert!(rt; fault_with(rt.alloc(), 10, "# one more\n")? == (106, 10));
     Ok(())
 }
 

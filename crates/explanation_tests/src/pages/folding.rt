@@ -37,7 +37,12 @@ fn sentence(alloc: Global, node: NodeId, count: u64) -> Result<Sentence, Fail> {
 }
 
 /// A node that is exposed, with so many sentences, each of which marks so many entries.
-fn told(alloc: Global, node: u32, sentences: u64, marked: u64) -> Result<NodeExplanation, Fail> {
+fn exposed_node(
+    alloc: Global,
+    node: u32,
+    sentences: u64,
+    marked: u64,
+) -> Result<NodeExplanation, Fail> {
     let node = NodeId(node);
     let mut all = Vec::new(alloc);
     for _ in 0..sentences {
@@ -58,7 +63,7 @@ fn page(alloc: Global, nodes: u32, sentences: u64, marked: u64) -> Result<Vec<u8
     let rows = Box::new(alloc, rows_of_proof(alloc, &directory, &proof)?)?;
     let mut all = Vec::new(alloc);
     for i in 0..nodes {
-        all.push(told(alloc, i + 1, sentences, marked)?)?;
+        all.push(exposed_node(alloc, i + 1, sentences, marked)?)?;
     }
     let explanation = Box::new(
         alloc,

@@ -1,6 +1,6 @@
 //! What is told of challenges that are open, and of trust.
 
-use crate::told::told::told_of_items;
+use crate::told::told::explanation_of_items;
 use evidence_item::Item;
 use evidence_samples::{Nodes, make_nodes};
 use std::alloc::Global;
@@ -17,24 +17,24 @@ fn demands(alloc: Global, nodes: &mut Nodes) -> Result<Vec<Item>, Fail> {
 }
 
 /// What is told of them.
-fn told_of_demands(alloc: Global) -> Result<Vec<u8>, Fail> {
+fn explanation_of_demands(alloc: Global) -> Result<Vec<u8>, Fail> {
     let mut nodes = make_nodes(alloc)?;
     let items = demands(alloc, &mut nodes)?;
-    told_of_items(alloc, &nodes.directory, items)
+    explanation_of_items(alloc, &nodes.directory, items)
 }
 
 /// What is told where the log is shown from entry 3 on too.
-fn told_of_answer(alloc: Global) -> Result<Vec<u8>, Fail> {
+fn explanation_of_answer(alloc: Global) -> Result<Vec<u8>, Fail> {
     let mut nodes = make_nodes(alloc)?;
     let mut items = demands(alloc, &mut nodes)?;
     items.push(Box::into_inner(nodes.two.log_from(alloc, 3)?))?;
-    told_of_items(alloc, &nodes.directory, items)
+    explanation_of_items(alloc, &nodes.directory, items)
 }
 
 /// What is told where there is no item.
-fn told_of_nothing(alloc: Global) -> Result<Vec<u8>, Fail> {
+fn explanation_of_nothing(alloc: Global) -> Result<Vec<u8>, Fail> {
     let nodes = make_nodes(alloc)?;
-    told_of_items(alloc, &nodes.directory, Vec::new(alloc))
+    explanation_of_items(alloc, &nodes.directory, Vec::new(alloc))
 }
 
 fn demands_text() -> &'static str {
@@ -74,21 +74,21 @@ fn nothing_text() -> &'static str {
 
 #[test]
 fn open_challenges(rt: HostRuntime) -> Result<(), Fail> {
-    let told = told_of_demands(rt.alloc())?;
+    let told = explanation_of_demands(rt.alloc())?;
     assert!(rt; told.as_slice() == demands_text().as_bytes());
     Ok(())
 }
 
 #[test]
 fn an_answered_challenge(rt: HostRuntime) -> Result<(), Fail> {
-    let told = told_of_answer(rt.alloc())?;
+    let told = explanation_of_answer(rt.alloc())?;
     assert!(rt; told.as_slice() == answer_text().as_bytes());
     Ok(())
 }
 
 #[test]
 fn no_item(rt: HostRuntime) -> Result<(), Fail> {
-    let told = told_of_nothing(rt.alloc())?;
+    let told = explanation_of_nothing(rt.alloc())?;
     assert!(rt; told.as_slice() == nothing_text().as_bytes());
     Ok(())
 }

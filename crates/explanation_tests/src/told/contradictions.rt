@@ -1,6 +1,6 @@
 //! What is told of statements that contradict each other, or a segment.
 
-use crate::told::told::{told_of_items, told_of_proof};
+use crate::told::told::{explanation_of_items, explanation_of_proof};
 use authenticators::NodeId;
 use evidence_item::Item;
 use evidence_samples::{Nodes, Start, entry, make_nodes};
@@ -57,38 +57,38 @@ fn faulty_items(alloc: Global, nodes: &mut Nodes) -> Result<Vec<Item>, Fail> {
 }
 
 /// What is told of them.
-fn told_of_faulty(alloc: Global) -> Result<Vec<u8>, Fail> {
+fn explanation_of_faulty(alloc: Global) -> Result<Vec<u8>, Fail> {
     let mut nodes = make_nodes(alloc)?;
     let items = faulty_items(alloc, &mut nodes)?;
-    told_of_items(alloc, &nodes.directory, items)
+    explanation_of_items(alloc, &nodes.directory, items)
 }
 
 /// What is told of a statement that is quoted.
-fn told_of_quoted(alloc: Global) -> Result<Vec<u8>, Fail> {
+fn explanation_of_quoted(alloc: Global) -> Result<Vec<u8>, Fail> {
     let mut nodes = make_nodes(alloc)?;
     let items = quoted_items(alloc, &mut nodes)?;
-    told_of_items(alloc, &nodes.directory, items)
+    explanation_of_items(alloc, &nodes.directory, items)
 }
 
 /// What is told of a statement with this number, and of the log from an entry on.
-fn told_of_denied(alloc: Global, seq: u64, from: u64) -> Result<Vec<u8>, Fail> {
+fn explanation_of_denied(alloc: Global, seq: u64, from: u64) -> Result<Vec<u8>, Fail> {
     let mut nodes = make_nodes(alloc)?;
     let items = denied_items(alloc, &mut nodes, seq, from)?;
-    told_of_items(alloc, &nodes.directory, items)
+    explanation_of_items(alloc, &nodes.directory, items)
 }
 
 /// What is told of a statement with a number that the log has not.
-fn told_of_absent(alloc: Global) -> Result<Vec<u8>, Fail> {
+fn explanation_of_absent(alloc: Global) -> Result<Vec<u8>, Fail> {
     let mut nodes = make_nodes(alloc)?;
     let items = absent_items(alloc, &mut nodes)?;
-    told_of_items(alloc, &nodes.directory, items)
+    explanation_of_items(alloc, &nodes.directory, items)
 }
 
 /// What is told of the proof of a statement with this number and the log.
-fn told_of_denial(alloc: Global) -> Result<Vec<u8>, Fail> {
+fn explanation_of_denial(alloc: Global) -> Result<Vec<u8>, Fail> {
     let mut nodes = make_nodes(alloc)?;
     let items = denied_items(alloc, &mut nodes, 4, 1)?;
-    told_of_proof(alloc, &nodes.directory, items, NodeId(2))
+    explanation_of_proof(alloc, &nodes.directory, items, NodeId(2))
 }
 
 fn quoted_text() -> &'static str {
@@ -175,49 +175,49 @@ fn denial_text() -> &'static str {
 
 #[test]
 fn a_quoted_statement(rt: HostRuntime) -> Result<(), Fail> {
-    let told = told_of_quoted(rt.alloc())?;
+    let told = explanation_of_quoted(rt.alloc())?;
     assert!(rt; told.as_slice() == quoted_text().as_bytes());
     Ok(())
 }
 
 #[test]
 fn further_items_and_open_challenges(rt: HostRuntime) -> Result<(), Fail> {
-    let told = told_of_faulty(rt.alloc())?;
+    let told = explanation_of_faulty(rt.alloc())?;
     assert!(rt; told.as_slice() == faulty_text().as_bytes());
     Ok(())
 }
 
 #[test]
 fn a_statement_of_an_entry_that_is_otherwise(rt: HostRuntime) -> Result<(), Fail> {
-    let told = told_of_denied(rt.alloc(), 4, 1)?;
+    let told = explanation_of_denied(rt.alloc(), 4, 1)?;
     assert!(rt; told.as_slice() == otherwise_text().as_bytes());
     Ok(())
 }
 
 #[test]
 fn a_statement_of_an_entry_that_is_absent(rt: HostRuntime) -> Result<(), Fail> {
-    let told = told_of_absent(rt.alloc())?;
+    let told = explanation_of_absent(rt.alloc())?;
     assert!(rt; told.as_slice() == absent_text().as_bytes());
     Ok(())
 }
 
 #[test]
 fn a_statement_just_before_a_segment(rt: HostRuntime) -> Result<(), Fail> {
-    let told = told_of_denied(rt.alloc(), 2, 3)?;
+    let told = explanation_of_denied(rt.alloc(), 2, 3)?;
     assert!(rt; told.as_slice() == off_start_text().as_bytes());
     Ok(())
 }
 
 #[test]
 fn a_statement_before_the_log(rt: HostRuntime) -> Result<(), Fail> {
-    let told = told_of_denied(rt.alloc(), 0, 1)?;
+    let told = explanation_of_denied(rt.alloc(), 0, 1)?;
     assert!(rt; told.as_slice() == before_log_text().as_bytes());
     Ok(())
 }
 
 #[test]
 fn a_proof_of_a_statement_and_a_segment(rt: HostRuntime) -> Result<(), Fail> {
-    let told = told_of_denial(rt.alloc())?;
+    let told = explanation_of_denial(rt.alloc())?;
     assert!(rt; told.as_slice() == denial_text().as_bytes());
     Ok(())
 }

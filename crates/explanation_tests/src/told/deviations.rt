@@ -1,6 +1,6 @@
 //! What is told of a segment that deviates.
 
-use crate::told::told::{told_of_items, told_of_proof};
+use crate::told::told::{explanation_of_items, explanation_of_proof};
 use authenticators::NodeId;
 use evidence_item::Item;
 use evidence_samples::{Nodes, entry, make_nodes};
@@ -38,31 +38,31 @@ fn begun(alloc: Global, nodes: &mut Nodes, kind: u8, content: &[u8]) -> Result<V
 }
 
 /// What is told where the message is missing.
-fn told_of_missing(alloc: Global) -> Result<Vec<u8>, Fail> {
+fn explanation_of_missing(alloc: Global) -> Result<Vec<u8>, Fail> {
     let mut nodes = make_nodes(alloc)?;
     let items = deviating(alloc, &mut nodes, TIMER, &[0, 0, 0, 0, 0, 0, 0, 6])?;
-    told_of_items(alloc, &nodes.directory, items)
+    explanation_of_items(alloc, &nodes.directory, items)
 }
 
 /// What is told of the proof where another message is sent.
-fn told_of_other(alloc: Global) -> Result<Vec<u8>, Fail> {
+fn explanation_of_other(alloc: Global) -> Result<Vec<u8>, Fail> {
     let mut nodes = make_nodes(alloc)?;
     let items = deviating(alloc, &mut nodes, SEND, b"\0\0\0\x02say \"no\"")?;
-    told_of_proof(alloc, &nodes.directory, items, NodeId(1))
+    explanation_of_proof(alloc, &nodes.directory, items, NodeId(1))
 }
 
 /// What is told where a message is too many.
-fn told_of_extra(alloc: Global) -> Result<Vec<u8>, Fail> {
+fn explanation_of_extra(alloc: Global) -> Result<Vec<u8>, Fail> {
     let mut nodes = make_nodes(alloc)?;
     let items = begun(alloc, &mut nodes, SEND, b"\0\0\0\x02hello")?;
-    told_of_items(alloc, &nodes.directory, items)
+    explanation_of_items(alloc, &nodes.directory, items)
 }
 
 /// What is told of the proof where a CHECKPOINT has another state.
-fn told_of_state(alloc: Global) -> Result<Vec<u8>, Fail> {
+fn explanation_of_state(alloc: Global) -> Result<Vec<u8>, Fail> {
     let mut nodes = make_nodes(alloc)?;
     let items = begun(alloc, &mut nodes, CHECKPOINT, &[0, 0, 0, 0, 0, 0, 0, 5])?;
-    told_of_proof(alloc, &nodes.directory, items, NodeId(1))
+    explanation_of_proof(alloc, &nodes.directory, items, NodeId(1))
 }
 
 fn missing_text() -> &'static str {
@@ -111,28 +111,28 @@ fn state_text() -> &'static str {
 
 #[test]
 fn a_message_that_is_missing(rt: HostRuntime) -> Result<(), Fail> {
-    let told = told_of_missing(rt.alloc())?;
+    let told = explanation_of_missing(rt.alloc())?;
     assert!(rt; told.as_slice() == missing_text().as_bytes());
     Ok(())
 }
 
 #[test]
 fn a_proof_of_another_message(rt: HostRuntime) -> Result<(), Fail> {
-    let told = told_of_other(rt.alloc())?;
+    let told = explanation_of_other(rt.alloc())?;
     assert!(rt; told.as_slice() == other_text().as_bytes());
     Ok(())
 }
 
 #[test]
 fn a_message_too_many(rt: HostRuntime) -> Result<(), Fail> {
-    let told = told_of_extra(rt.alloc())?;
+    let told = explanation_of_extra(rt.alloc())?;
     assert!(rt; told.as_slice() == extra_text().as_bytes());
     Ok(())
 }
 
 #[test]
 fn a_proof_of_another_state(rt: HostRuntime) -> Result<(), Fail> {
-    let told = told_of_state(rt.alloc())?;
+    let told = explanation_of_state(rt.alloc())?;
     assert!(rt; told.as_slice() == state_text().as_bytes());
     Ok(())
 }

@@ -23,7 +23,7 @@ fn store_of(
 }
 
 /// What is told of the items.
-pub(crate) fn told_of_items(
+pub(crate) fn explanation_of_items(
     alloc: Global,
     directory: &Directory,
     items: Vec<Item>,
@@ -39,7 +39,7 @@ pub(crate) fn told_of_items(
 }
 
 /// What is told of a proof against the node, which the items expose.
-pub(crate) fn told_of_proof(
+pub(crate) fn explanation_of_proof(
     alloc: Global,
     directory: &Directory,
     items: Vec<Item>,

@@ -28,7 +28,7 @@ struct Told {
     quotes: [Option<Hash>; 3],
 }
 
-fn told_of(checked: &Checked<Idle>) -> Option<Told> {
+fn finding_of(checked: &Checked<Idle>) -> Option<Told> {
     let Some(Findings::Segment(found)) = checked.findings() else {
         return None;
     };
@@ -79,22 +79,25 @@ fn completed(
     Ok(bare)
 }
 
-fn told_of_copy(alloc: Global, checked: &Checked<Idle>) -> Result<Option<Told>, Fail> {
+fn finding_of_copy(alloc: Global, checked: &Checked<Idle>) -> Result<Option<Told>, Fail> {
     let copy = checked.try_clone(alloc)?;
-    Ok(told_of(&copy))
+    Ok(finding_of(&copy))
 }
 
 /// What checking tells of node 2's segment, and what a copy tells.
-fn told_twice(alloc: Global, nodes: &mut Nodes) -> Result<[Option<Told>; 2], Fail> {
+fn findings_of_both(alloc: Global, nodes: &mut Nodes) -> Result<[Option<Told>; 2], Fail> {
     let item = valid_segment(alloc, nodes)?;
     let checked = checked(alloc, &nodes.directory, item)?;
-    Ok([told_of(&checked), told_of_copy(alloc, &checked)?])
+    Ok([finding_of(&checked), finding_of_copy(alloc, &checked)?])
 }
 
 #[test]
 fn a_segment_that_deviates_is_valid(rt: HostRuntime) -> Result<(), Fail> {
     let mut nodes = make_nodes(rt.alloc())?;
-    assert_eq!(rt; told_twice(rt.alloc(), &mut nodes)?, [Some(EXPECTED); 2]);
+    assert_eq!(rt;
+        findings_of_both(rt.alloc(), &mut nodes)?,
+        [Some(EXPECTED); 2]
+    );
     Ok(())
 }
 
@@ -103,7 +106,7 @@ fn found_again(alloc: Global, nodes: &mut Nodes) -> Result<Option<Told>, Fail> {
     let item = valid_segment(alloc, nodes)?;
     let checked = checked(alloc, &nodes.directory, item)?;
     let found = completed(alloc, &nodes.directory, checked)?;
-    Ok(told_of(&found))
+    Ok(finding_of(&found))
 }
 
 #[test]

@@ -90,7 +90,7 @@ struct Told {
     first: [Option<ItemFault>; 2],
 }
 
-fn told_of(alloc: Global, signed: &Signed) -> Result<Told, Fail> {
+fn faults_of(alloc: Global, signed: &Signed) -> Result<Told, Fail> {
     let (directory, second) = (&signed.directory, signed.by_second.as_slice());
     Ok(Told {
         len: text_of(alloc, 1, second)?.len(),
@@ -117,6 +117,6 @@ fn a_signature_names_its_key(rt: HostRuntime) -> Result<(), Fail> {
         second: [None, bad, bad, bad, bad],
         first: [None, bad],
     };
-    assert_eq!(rt; told_of(rt.alloc(), &signed)?, expected);
+    assert_eq!(rt; faults_of(rt.alloc(), &signed)?, expected);
     Ok(())
 }

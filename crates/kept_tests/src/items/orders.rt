@@ -73,14 +73,14 @@ fn tell(kept: &Kept) -> (usize, usize) {
     (groups, digests)
 }
 
-fn told(alloc: Global) -> Result<(usize, usize), Fail> {
+fn groups_and_digests(alloc: Global) -> Result<(usize, usize), Fail> {
     let kept = keep_all(alloc)?;
     Ok(tell(&kept))
 }
 
 #[test]
 fn kept_items_have_the_groups_and_digests_of_items(rt: HostRuntime) -> Result<(), Fail> {
-    assert!(rt; told(rt.alloc())? == (35, 7));
+    assert!(rt; groups_and_digests(rt.alloc())? == (35, 7));
     Ok(())
 }
 

@@ -21,7 +21,7 @@ type Told = (u64, u8);
 const READ: u8 = 0;
 
 /// What so many workers answer of the text.
-fn told<R: Threads + Sync>(
+fn answer_by<R: Threads + Sync>(
     rt: &R,
     alloc: Global,
     directory: &Directory,
@@ -51,8 +51,8 @@ fn told<R: Threads + Sync>(
 /// What one worker answers of the text, and what eight do.
 fn both<R: Threads + Sync>(rt: &R, alloc: Global, directory: &Directory, text: &[u8]) -> [Told; 2] {
     [
-        told(rt, alloc, directory, text, 1),
-        told(rt, alloc, directory, text, 8),
+        answer_by(rt, alloc, directory, text, 1),
+        answer_by(rt, alloc, directory, text, 8),
     ]
 }
 
@@ -112,7 +112,7 @@ fn put(text: &mut Vec<u8>, from: &Statements, part: Part) -> Result<(), Fail> {
 }
 
 /// What is answered of the text with this count, node 1's statement and the parts behind it.
-fn told_of<R: Threads + Sync>(
+fn answers_to<R: Threads + Sync>(
     rt: &R,
     alloc: Global,
     from: &Statements,
@@ -137,7 +137,7 @@ fn twice(item: u64, cause: Cause) -> [Told; 2] {
 #[test]
 fn a_first_item_alone_is_read(rt: HostRuntime) -> Result<(), Fail> {
     let from = make_statements(rt.alloc())?;
-    let told = told_of(&rt, rt.alloc(), &from, 1, &[])?;
+    let told = answers_to(&rt, rt.alloc(), &from, 1, &[])?;
     assert_eq!(rt; told, [(1, READ), (1, READ)]);
     Ok(())
 }
@@ -149,14 +149,14 @@ fn the_first_fault_in_the_order_of_the_items_is_told(rt: HostRuntime) -> Result<
     let bad = Part::Item(&[9]);
     let short = Part::Item(&[2, 0]);
     let told = [
-        told_of(&rt, alloc, &from, 3, &[Part::Third, Part::Fourth])?,
-        told_of(&rt, alloc, &from, 3, &[Part::Fourth, Part::Third])?,
-        told_of(&rt, alloc, &from, 3, &[bad, Part::Third])?,
-        told_of(&rt, alloc, &from, 3, &[short, Part::Third])?,
-        told_of(&rt, alloc, &from, 3, &[Part::Valid, Part::Third])?,
-        told_of(&rt, alloc, &from, 3, &[Part::Third, bad])?,
-        told_of(&rt, alloc, &from, 3, &[Part::Third, Part::Bytes(&LONG)])?,
-        told_of(&rt, alloc, &from, 3, &[Part::Third, Part::Bytes(&[0, 0])])?,
+        answers_to(&rt, alloc, &from, 3, &[Part::Third, Part::Fourth])?,
+        answers_to(&rt, alloc, &from, 3, &[Part::Fourth, Part::Third])?,
+        answers_to(&rt, alloc, &from, 3, &[bad, Part::Third])?,
+        answers_to(&rt, alloc, &from, 3, &[short, Part::Third])?,
+        answers_to(&rt, alloc, &from, 3, &[Part::Valid, Part::Third])?,
+        answers_to(&rt, alloc, &from, 3, &[Part::Third, bad])?,
+        answers_to(&rt, alloc, &from, 3, &[Part::Third, Part::Bytes(&LONG)])?,
+        answers_to(&rt, alloc, &from, 3, &[Part::Third, Part::Bytes(&[0, 0])])?,
     ];
     let unknown = twice(1, Cause::UnknownNode);
     assert_eq!(rt;
@@ -182,11 +182,11 @@ fn a_fault_of_the_container_is_told_behind_the_items_before_it(
     let alloc = rt.alloc();
     let from = make_statements(alloc)?;
     let told = [
-        told_of(&rt, alloc, &from, 3, &[Part::Bytes(&LONG)])?,
-        told_of(&rt, alloc, &from, 3, &[Part::Bytes(&[0, 0, 0, 9, 1])])?,
-        told_of(&rt, alloc, &from, 3, &[Part::Bytes(&[0, 0, 0])])?,
-        told_of(&rt, alloc, &from, 9, &[Part::Item(&[])])?,
-        told_of(&rt, alloc, &from, 1, &[Part::Bytes(&[0])])?,
+        answers_to(&rt, alloc, &from, 3, &[Part::Bytes(&LONG)])?,
+        answers_to(&rt, alloc, &from, 3, &[Part::Bytes(&[0, 0, 0, 9, 1])])?,
+        answers_to(&rt, alloc, &from, 3, &[Part::Bytes(&[0, 0, 0])])?,
+        answers_to(&rt, alloc, &from, 9, &[Part::Item(&[])])?,
+        answers_to(&rt, alloc, &from, 1, &[Part::Bytes(&[0])])?,
     ];
     let cut_off = twice(1, Cause::Truncated);
     assert_eq!(rt;

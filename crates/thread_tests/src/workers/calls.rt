@@ -104,7 +104,7 @@ fn six_calls<S: Evidence<Tally>, R: Wait>(
 }
 
 /// What the two callers were told, and how many calls the history then has.
-fn told_and_closed<S: Evidence<Tally>, R: Wait>(
+fn seen_and_calls<S: Evidence<Tally>, R: Wait>(
     rt: &R,
     alloc: Global,
 ) -> Result<(Seen, usize), Fail> {
@@ -132,7 +132,7 @@ fn is_as_told(alloc: Global, seen: &Seen) -> Result<bool, Fail> {
 
 /// Whether they were, and six calls are in the history.
 fn two_are_told<S: Evidence<Tally>, R: Wait>(rt: &R, alloc: Global) -> Result<bool, Fail> {
-    let (seen, calls) = told_and_closed::<S, R>(rt, alloc)?;
+    let (seen, calls) = seen_and_calls::<S, R>(rt, alloc)?;
     Ok(is_as_told(alloc, &seen)? && calls == 6)
 }
 
@@ -249,7 +249,7 @@ fn closed_by_seven<S: Evidence<Tally>, R: Wait>(rt: &R, alloc: Global) -> Result
 }
 
 /// What is told of eight callers, and of seven.
-fn told_of_idle<S: Evidence<Tally>, R: Wait>(
+fn closings_of_idle<S: Evidence<Tally>, R: Wait>(
     rt: &R,
     alloc: Global,
 ) -> Result<((usize, usize), u8), Fail> {
@@ -260,9 +260,9 @@ fn told_of_idle<S: Evidence<Tally>, R: Wait>(
 
 #[test]
 fn six_of_eight_callers_do_nothing(rt: HostRuntime) -> Result<(), Fail> {
-    let plain = told_of_idle::<PlainStore<Tally>, HostRuntime>(&rt, rt.alloc())?;
+    let plain = closings_of_idle::<PlainStore<Tally>, HostRuntime>(&rt, rt.alloc())?;
     assert!(rt; plain == ((6, 8), 91));
-    let indexed = told_of_idle::<IndexedStore<Tally>, HostRuntime>(&rt, rt.alloc())?;
+    let indexed = closings_of_idle::<IndexedStore<Tally>, HostRuntime>(&rt, rt.alloc())?;
     assert!(rt; indexed == ((6, 8), 91));
     Ok(())
 }
