@@ -10,7 +10,7 @@ ghost use Rattle.bulwynef_c.specs.Handles.{Is, IsStore, IsText, PairRefuses, Say
 use crate::handle::Handle;
 use crate::object::Object;
 use crate::of_program::{mailbox_store, of_store, relay_store, tally_store};
-use crate::taking::{put, put_answer, taken, told};
+use crate::taking::{put, put_answer, refusal_number, taken};
 use byte_calls::{Refusal, stores};
 use evidence::Evidence;
 use evidence_set::Indication;
@@ -60,7 +60,7 @@ pub extern "C" fn bulwynef_store_indication(
     ensures unchanged { store.new.value ≡ store.old.value }
 {
     let Some(object) = taken(alloc, store) else {
-        return told(Refusal::Closed);
+        return refusal_number(Refusal::Closed);
     };
     let answer = indicated(&object, node);
     *store = Handle::of(object);
@@ -69,7 +69,7 @@ pub extern "C" fn bulwynef_store_indication(
             *indication = n;
             0
         }
-        Err(refusal) => told(refusal),
+        Err(refusal) => refusal_number(refusal),
     }
 }
 
@@ -102,11 +102,11 @@ pub extern "C" fn bulwynef_store_includes(
     ensures other { other.new.value ≡ other.old.value }
 {
     let Some(object) = taken(alloc, store) else {
-        return told(Refusal::Closed);
+        return refusal_number(Refusal::Closed);
     };
     let Some(lent) = taken(alloc, other) else {
         *store = Handle::of(object);
-        return told(Refusal::Closed);
+        return refusal_number(Refusal::Closed);
     };
     let answer = included(&object, &lent);
     *store = Handle::of(object);
@@ -116,7 +116,7 @@ pub extern "C" fn bulwynef_store_includes(
             *includes = if all { 1 } else { 0 };
             0
         }
-        Err(refusal) => told(refusal),
+        Err(refusal) => refusal_number(refusal),
     }
 }
 

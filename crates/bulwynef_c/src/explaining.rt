@@ -10,7 +10,7 @@ ghost use Rattle.bulwynef_c.specs.Handles.{Is, IsStoreUnder, IsText, Says, Store
 use crate::handle::Handle;
 use crate::object::Object;
 use crate::programs::{Followed, name_of, program_of};
-use crate::taking::{put, put_answer, taken, told};
+use crate::taking::{put, put_answer, refusal_number, taken};
 use byte_calls::{Refusal, explaining};
 use mailbox::Mailbox;
 use ref_programs::{Relay, Tally};
@@ -84,10 +84,10 @@ pub extern "C" fn bulwynef_explain_proof(
     ensures refused { (result ≡ 0 → ⊥) → text.new.value ≡ text.old.value }
 {
     if text.is_open() {
-        return told(Refusal::StillOpen);
+        return refusal_number(Refusal::StillOpen);
     }
     match explained_proof(alloc, program, directory, proof) {
         Ok(bytes) => put(alloc, text, Object::Text(bytes)),
-        Err(refusal) => told(refusal),
+        Err(refusal) => refusal_number(refusal),
     }
 }

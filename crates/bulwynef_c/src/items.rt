@@ -10,7 +10,7 @@ ghost use Rattle.bulwynef_c.specs.Handles.{Is, IsText};
 
 use crate::handle::Handle;
 use crate::object::Object;
-use crate::taking::{put, told};
+use crate::taking::{put, refusal_number};
 use byte_calls::{Refusal, items};
 use std::alloc::Global;
 
@@ -29,11 +29,11 @@ pub extern "C" fn bulwynef_statement_of(
     ensures refused { (result ≡ 0 → ⊥) → text.new.value ≡ text.old.value }
 {
     if text.is_open() {
-        return told(Refusal::StillOpen);
+        return refusal_number(Refusal::StillOpen);
     }
     match items::statement_of(alloc, item, place) {
         Ok(bytes) => put(alloc, text, Object::Text(bytes)),
-        Err(refusal) => told(refusal),
+        Err(refusal) => refusal_number(refusal),
     }
 }
 
@@ -53,11 +53,11 @@ pub extern "C" fn bulwynef_audit_challenge(
     ensures refused { (result ≡ 0 → ⊥) → text.new.value ≡ text.old.value }
 {
     if text.is_open() {
-        return told(Refusal::StillOpen);
+        return refusal_number(Refusal::StillOpen);
     }
     match items::audit_challenge(alloc, first, last) {
         Ok(bytes) => put(alloc, text, Object::Text(bytes)),
-        Err(refusal) => told(refusal),
+        Err(refusal) => refusal_number(refusal),
     }
 }
 
@@ -71,10 +71,10 @@ pub extern "C" fn bulwynef_send_challenge(alloc: Global, message: &[u8], text: &
     ensures refused { (result ≡ 0 → ⊥) → text.new.value ≡ text.old.value }
 {
     if text.is_open() {
-        return told(Refusal::StillOpen);
+        return refusal_number(Refusal::StillOpen);
     }
     match items::send_challenge(alloc, message) {
         Ok(bytes) => put(alloc, text, Object::Text(bytes)),
-        Err(refusal) => told(refusal),
+        Err(refusal) => refusal_number(refusal),
     }
 }

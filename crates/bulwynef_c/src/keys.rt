@@ -7,7 +7,7 @@ ghost use Rattle.byte_calls.specs.declared.refusal.Refusal.TheVariants.{Memory};
 ghost use Rattle.byte_calls.specs.Refusals.{number_of as refusal_number};
 ghost use Rattle.bulwynef_c.specs.Calls.{key_in};
 
-use crate::taking::told;
+use crate::taking::refusal_number;
 use byte_calls::{Refusal, nodes};
 use std::alloc::Global;
 
@@ -29,13 +29,13 @@ pub extern "C" fn bulwynef_public_key(
     ensures refused { (result ≡ 0 → ⊥) → key.new ≡ key.old }
 {
     if key.len() != 56 {
-        return told(Refusal::WrongLength);
+        return refusal_number(Refusal::WrongLength);
     }
     match nodes::public_key(alloc, lms_type, ots_type, key_id, seed) {
         Ok(text) => {
             key.copy_from_slice(&text);
             0
         }
-        Err(refusal) => told(refusal),
+        Err(refusal) => refusal_number(refusal),
     }
 }

@@ -15,7 +15,7 @@ ghost use Rattle.bulwynef_c.specs.Handles.{Both, Is, IsNode, NodeBecomes, NodeRe
 use crate::handle::Handle;
 use crate::object::Object;
 use crate::programs::{Followed, program_of};
-use crate::taking::{put, taken, told};
+use crate::taking::{put, refusal_number, taken};
 use byte_calls::{Refusal, nodes};
 use lms_sign::SecretKey;
 use mailbox::Mailbox;
@@ -73,15 +73,15 @@ pub extern "C" fn bulwynef_node_new(
     ensures refused { (result ≡ 0 → ⊥) → node.new.value ≡ node.old.value }
 {
     if node.is_open() {
-        return told(Refusal::StillOpen);
+        return refusal_number(Refusal::StillOpen);
     }
     let key = match nodes::secret_key(alloc, lms_type, ots_type, key_id, seed) {
         Ok(key) => key,
-        Err(refusal) => return told(refusal),
+        Err(refusal) => return refusal_number(refusal),
     };
     match node_by(alloc, program, directory, id, first_seq, key) {
         Ok(object) => put(alloc, node, object),
-        Err(refusal) => told(refusal),
+        Err(refusal) => refusal_number(refusal),
     }
 }
 
@@ -112,13 +112,13 @@ pub extern "C" fn bulwynef_node_timer(
     ensures refused { (result ≡ 0 → ⊥) → node.new.value ≡ node.old.value }
 {
     let Some(mut object) = taken(alloc, node) else {
-        return told(Refusal::Closed);
+        return refusal_number(Refusal::Closed);
     };
     let answer = tick(&mut object, moment, entropy);
     *node = Handle::of(object);
     match answer {
         Ok(()) => 0,
-        Err(refusal) => told(refusal),
+        Err(refusal) => refusal_number(refusal),
     }
 }
 
@@ -144,7 +144,7 @@ pub extern "C" fn bulwynef_node_checkpoint(alloc: Global, node: &mut Handle, seq
     ensures refused { (result ≡ 0 → ⊥) → node.new.value ≡ node.old.value }
 {
     let Some(mut object) = taken(alloc, node) else {
-        return told(Refusal::Closed);
+        return refusal_number(Refusal::Closed);
     };
     let answer = checkpoint_of(&mut object);
     *node = Handle::of(object);
@@ -153,7 +153,7 @@ pub extern "C" fn bulwynef_node_checkpoint(alloc: Global, node: &mut Handle, seq
             *seq = found;
             0
         }
-        Err(refusal) => told(refusal),
+        Err(refusal) => refusal_number(refusal),
     }
 }
 
@@ -187,16 +187,16 @@ pub extern "C" fn bulwynef_node_next_key(
 {
     let key = match nodes::secret_key(alloc, lms_type, ots_type, key_id, seed) {
         Ok(key) => key,
-        Err(refusal) => return told(refusal),
+        Err(refusal) => return refusal_number(refusal),
     };
     let Some(mut object) = taken(alloc, node) else {
-        return told(Refusal::Closed);
+        return refusal_number(Refusal::Closed);
     };
     let answer = rekey(&mut object, key);
     *node = Handle::of(object);
     match answer {
         Ok(()) => 0,
-        Err(refusal) => told(refusal),
+        Err(refusal) => refusal_number(refusal),
     }
 }
 
@@ -221,7 +221,7 @@ pub extern "C" fn bulwynef_node_remaining(alloc: Global, node: &mut Handle, leav
     ensures unchanged { node.new.value ≡ node.old.value }
 {
     let Some(object) = taken(alloc, node) else {
-        return told(Refusal::Closed);
+        return refusal_number(Refusal::Closed);
     };
     let answer = remaining_of(&object);
     *node = Handle::of(object);
@@ -230,6 +230,6 @@ pub extern "C" fn bulwynef_node_remaining(alloc: Global, node: &mut Handle, leav
             *leaves = left;
             0
         }
-        Err(refusal) => told(refusal),
+        Err(refusal) => refusal_number(refusal),
     }
 }

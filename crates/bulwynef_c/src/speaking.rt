@@ -10,7 +10,7 @@ ghost use Rattle.bulwynef_c.specs.Handles.{Both, Is, IsNode, IsText, NodeBecomes
 
 use crate::handle::Handle;
 use crate::object::Object;
-use crate::taking::{put, put_answer, taken, told};
+use crate::taking::{put, put_answer, refusal_number, taken};
 use byte_calls::{Refusal, nodes};
 use item_forms::Item;
 use mailbox::Mailbox;
@@ -44,7 +44,7 @@ pub extern "C" fn bulwynef_node_waiting(
     ensures unchanged { node.new.value ≡ node.old.value }
 {
     let Some(object) = taken(alloc, node) else {
-        return told(Refusal::Closed);
+        return refusal_number(Refusal::Closed);
     };
     let answer = waiting(&object, place);
     *node = Handle::of(object);
@@ -53,7 +53,7 @@ pub extern "C" fn bulwynef_node_waiting(
             *seq = found;
             0
         }
-        Err(refusal) => told(refusal),
+        Err(refusal) => refusal_number(refusal),
     }
 }
 
@@ -150,10 +150,10 @@ pub extern "C" fn bulwynef_node_answer(
     ensures refused { (result ≡ 0 → ⊥) → text.new.value ≡ text.old.value }
 {
     if text.is_open() {
-        return told(Refusal::StillOpen);
+        return refusal_number(Refusal::StillOpen);
     }
     let Some(mut object) = taken(alloc, node) else {
-        return told(Refusal::Closed);
+        return refusal_number(Refusal::Closed);
     };
     let answer = reply(alloc, &mut object, challenge, entropy);
     *node = Handle::of(object);
@@ -162,7 +162,7 @@ pub extern "C" fn bulwynef_node_answer(
             Ok(bytes) => put(alloc, text, Object::Text(bytes)),
             Err(_) => 99,
         },
-        Err(refusal) => told(refusal),
+        Err(refusal) => refusal_number(refusal),
     }
 }
 
@@ -188,12 +188,12 @@ pub extern "C" fn bulwynef_node_accept_ack(alloc: Global, node: &mut Handle, ack
     ensures refused { (result ≡ 0 → ⊥) → node.new.value ≡ node.old.value }
 {
     let Some(mut object) = taken(alloc, node) else {
-        return told(Refusal::Closed);
+        return refusal_number(Refusal::Closed);
     };
     let answer = accept(alloc, &mut object, ack);
     *node = Handle::of(object);
     match answer {
         Ok(()) => 0,
-        Err(refusal) => told(refusal),
+        Err(refusal) => refusal_number(refusal),
     }
 }

@@ -11,7 +11,7 @@ use crate::handle::Handle;
 use crate::object::Object;
 use crate::of_program::{mailbox_store, relay_store, tally_store};
 use crate::programs::{Followed, program_of};
-use crate::taking::{put, taken, told};
+use crate::taking::{put, refusal_number, taken};
 use byte_calls::explaining::sum_of;
 use byte_calls::{Refusal, stores};
 use mailbox::Mailbox;
@@ -55,11 +55,11 @@ pub extern "C" fn bulwynef_store_open(
     ensures refused { (result ≡ 0 → ⊥) → store.new.value ≡ store.old.value }
 {
     if store.is_open() {
-        return told(Refusal::StillOpen);
+        return refusal_number(Refusal::StillOpen);
     }
     match object_of(alloc, program, directory) {
         Ok(object) => put(alloc, store, object),
-        Err(refusal) => told(refusal),
+        Err(refusal) => refusal_number(refusal),
     }
 }
 
@@ -92,7 +92,7 @@ pub extern "C" fn bulwynef_store_import(
     ensures refused { (result ≡ 0 → ⊥) → store.new.value ≡ store.old.value }
 {
     let Some(mut object) = taken(alloc, store) else {
-        return told(Refusal::Closed);
+        return refusal_number(Refusal::Closed);
     };
     let answer = import_into(&mut object, text);
     *store = Handle::of(object);
@@ -101,7 +101,7 @@ pub extern "C" fn bulwynef_store_import(
             *added = new;
             0
         }
-        Err(refusal) => told(refusal),
+        Err(refusal) => refusal_number(refusal),
     }
 }
 
@@ -134,7 +134,7 @@ pub extern "C" fn bulwynef_store_take(
     ensures refused { (result ≡ 0 → ⊥) → store.new.value ≡ store.old.value }
 {
     let Some(mut object) = taken(alloc, store) else {
-        return told(Refusal::Closed);
+        return refusal_number(Refusal::Closed);
     };
     let answer = take_into(alloc, &mut object, item);
     *store = Handle::of(object);
@@ -143,7 +143,7 @@ pub extern "C" fn bulwynef_store_take(
             *is_new = if new { 1 } else { 0 };
             0
         }
-        Err(refusal) => told(refusal),
+        Err(refusal) => refusal_number(refusal),
     }
 }
 
@@ -177,11 +177,11 @@ pub extern "C" fn bulwynef_store_merge(
     ensures other { other.new.value ≡ other.old.value }
 {
     let Some(mut object) = taken(alloc, store) else {
-        return told(Refusal::Closed);
+        return refusal_number(Refusal::Closed);
     };
     let Some(lent) = taken(alloc, other) else {
         *store = Handle::of(object);
-        return told(Refusal::Closed);
+        return refusal_number(Refusal::Closed);
     };
     let answer = merge_into(&mut object, &lent);
     *store = Handle::of(object);
@@ -191,6 +191,6 @@ pub extern "C" fn bulwynef_store_merge(
             *added = new;
             0
         }
-        Err(refusal) => told(refusal),
+        Err(refusal) => refusal_number(refusal),
     }
 }

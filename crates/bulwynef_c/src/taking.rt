@@ -22,7 +22,7 @@ pub(crate) fn taken(alloc: Global, handle: &mut Handle) -> Option<Box<Object, Gl
 }
 
 /// The number of a refusal, which is none of success.
-pub(crate) fn told(refusal: Refusal) -> u8
+pub(crate) fn refusal_number(refusal: Refusal) -> u8
     ensures { (result ≡ refusal_number refusal) × (result ≡ 0 → ⊥) }
 {
     refusal.number()
@@ -40,7 +40,7 @@ pub(crate) fn put(alloc: Global, handle: &mut Handle, object: Object) -> u8
             *handle = Handle::of(boxed);
             0
         }
-        Err(_) => told(Refusal::Memory),
+        Err(_) => refusal_number(Refusal::Memory),
     }
 }
 
@@ -48,16 +48,16 @@ pub(crate) fn put(alloc: Global, handle: &mut Handle, object: Object) -> u8
 macro_rules! put_answer {
     ($alloc:expr, $handle:expr, $text:expr, $object:ident => $answer:expr) => {{
         if $text.is_open() {
-            return told(Refusal::StillOpen);
+            return refusal_number(Refusal::StillOpen);
         }
         let Some($object) = taken($alloc, $handle) else {
-            return told(Refusal::Closed);
+            return refusal_number(Refusal::Closed);
         };
         let answer = $answer;
         *$handle = Handle::of($object);
         match answer {
             Ok(bytes) => put($alloc, $text, Object::Text(bytes)),
-            Err(refusal) => told(refusal),
+            Err(refusal) => refusal_number(refusal),
         }
     }};
 }

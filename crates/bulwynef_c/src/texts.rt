@@ -8,7 +8,7 @@ ghost use Rattle.std.specs.Prelude.{IfErr, None, OnErr, OnOk, Some};
 
 use crate::handle::Handle;
 use crate::object::Object;
-use crate::taking::{taken, told};
+use crate::taking::{refusal_number, taken};
 use byte_calls::Refusal;
 use std::alloc::Global;
 
@@ -62,12 +62,12 @@ pub extern "C" fn bulwynef_text_copy(alloc: Global, text: &mut Handle, out: &mut
     ensures same { text.new.value ≡ text.old.value }
 {
     let Some(object) = taken(alloc, text) else {
-        return told(Refusal::Closed);
+        return refusal_number(Refusal::Closed);
     };
     let answer = copy_of(&object, out);
     *text = Handle::of(object);
     match answer {
         Ok(()) => 0,
-        Err(refusal) => told(refusal),
+        Err(refusal) => refusal_number(refusal),
     }
 }

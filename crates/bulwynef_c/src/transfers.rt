@@ -13,7 +13,7 @@ ghost use Rattle.bulwynef_c.specs.Handles.{Both, Is, IsStore, IsText, Says, Stor
 use crate::handle::Handle;
 use crate::object::Object;
 use crate::of_program::of_store;
-use crate::taking::{put, put_answer, taken, told};
+use crate::taking::{put, put_answer, refusal_number, taken};
 use byte_calls::{Refusal, transfers};
 use mailbox::Mailbox;
 use ref_programs::{Relay, Tally};
@@ -137,7 +137,7 @@ pub extern "C" fn bulwynef_store_apply(
     ensures refused { (result ≡ 0 → ⊥) → store.new.value ≡ store.old.value }
 {
     let Some(mut object) = taken(alloc, store) else {
-        return told(Refusal::Closed);
+        return refusal_number(Refusal::Closed);
     };
     let answer = apply_to(alloc, &mut object, pack);
     *store = Handle::of(object);
@@ -146,6 +146,6 @@ pub extern "C" fn bulwynef_store_apply(
             *added = new;
             0
         }
-        Err(refusal) => told(refusal),
+        Err(refusal) => refusal_number(refusal),
     }
 }

@@ -38,7 +38,7 @@ fn put_basis(text: &mut Vec<u8>, name: &str, directory: &[u8; 64]) -> Result<(),
 }
 
 /// The text of an explanation behind these two lines.
-fn told_text(
+fn text_under_basis(
     alloc: Global,
     name: &str,
     directory: &[u8; 64],
@@ -66,7 +66,7 @@ pub fn store<P: Program, S: Evidence<P>>(
     ensures refused { IfErr result (λ f. f ≡ Memory) }
 {
     let explanation = explain_store::<P, S, PlainVoice>(alloc, program, &PlainVoice, store)?;
-    let text = told_text(alloc, name, directory, &explanation)?;
+    let text = text_under_basis(alloc, name, directory, &explanation)?;
     Ok(text)
 }
 
@@ -84,6 +84,6 @@ pub fn proof<P: Program>(
 {
     let (read, parts) = read_proof(alloc, directory, proof)?;
     let conviction = explain_proof(alloc, program, &PlainVoice, &read, &parts)?;
-    let text = told_text(alloc, name, &sum_of(directory), &conviction.explanation)?;
+    let text = text_under_basis(alloc, name, &sum_of(directory), &conviction.explanation)?;
     Ok(text)
 }

@@ -7,7 +7,7 @@ use commands::fault::{Fault, RefusalLine};
 use std::process::ExitCode;
 
 /// Tells a refusal on standard error. Where that cannot be written, the exit status alone tells it.
-pub fn told(rt: &HostRuntime, done: Result<(), Fault>) -> ExitCode
+pub fn ended(rt: &HostRuntime, done: Result<(), Fault>) -> ExitCode
     ensures done { OnOk done (exit_status result ≡ 0) }
     ensures refused { OnErr done (exit_status result ≡ 1) }
 {

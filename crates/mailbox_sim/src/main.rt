@@ -13,7 +13,7 @@ ghost use Rattle.commands.specs.Engines.{HasRoom, Ran};
 ghost use Rattle.explaining.specs.Explained.{Explain, without_place};
 ghost use Rattle.mailbox.specs.MailboxMeaning.{mailbox};
 
-use command_words::{Asked, read_words, told};
+use command_words::{Asked, ended, read_words};
 use commands::device::{CountedReader, CountedWriter, Sink, Source};
 use commands::fault::Fault;
 use commands::input::{LONGEST_INPUT, MOST_READS, read_input};
@@ -36,11 +36,11 @@ fn main(rt: HostRuntime) -> ExitCode {
     let mut reader = CountedReader::new(rt.stdin());
     let mut writer = CountedWriter::new(io::writer(&rt));
     match read_words(&rt, "mailbox_sim", None) {
-        Asked::Run(request) => told(
+        Asked::Run(request) => ended(
             &rt,
             answer(&rt, rt.alloc(), request.task, &mut reader, &mut writer),
         ),
-        Asked::Refused(fault) => told(&rt, Err(fault)),
+        Asked::Refused(fault) => ended(&rt, Err(fault)),
         Asked::Other => ExitCode::from(2),
     }
 }

@@ -18,7 +18,7 @@ ghost use Rattle.commands.specs.Engines.{HasRoom, Ran};
 ghost use Rattle.ref_programs.specs.RelayMeaning.{relay};
 ghost use Rattle.ref_programs.specs.TallyMeaning.{tally};
 
-use command_words::{Asked, Flag, Request, read_words, told};
+use command_words::{Asked, Flag, Request, ended, read_words};
 use commands::device::{CountedReader, CountedWriter, Sink, Source};
 use commands::fault::Fault;
 use ref_programs::{Relay, Tally};
@@ -37,8 +37,8 @@ fn main(rt: HostRuntime) -> ExitCode {
     let mut reader = CountedReader::new(rt.stdin());
     let mut writer = CountedWriter::new(io::writer(&rt));
     match read_words(&rt, "node_sim", Some(flag)) {
-        Asked::Run(request) => told(&rt, run(&rt, rt.alloc(), request, &mut reader, &mut writer)),
-        Asked::Refused(fault) => told(&rt, Err(fault)),
+        Asked::Run(request) => ended(&rt, run(&rt, rt.alloc(), request, &mut reader, &mut writer)),
+        Asked::Refused(fault) => ended(&rt, Err(fault)),
         Asked::Other => ExitCode::from(2),
     }
 }

@@ -4,4 +4,4 @@ use Rattle.bulwynef_c.proofs.Rooms.{no_room}
 use Rattle.bulwynef_c.proofs.keys.bulwynef_public_key.Goals as goal
 
 pub returns-then-key-ne56-clause-number : goal.returns-then-key-ne56-clause-number
-returns-then-key-ne56-clause-number c = λ refused. (WrongLength, c.told.ensures.0, inr (no_room (length c.args.key.now) c.args.lms_type c.args.ots_type c.args.key_id.now c.args.seed.now c.if-key-ne56.true))
+returns-then-key-ne56-clause-number c = λ refused. (WrongLength, c.refusal_number.ensures.0, inr (no_room (length c.args.key.now) c.args.lms_type c.args.ots_type c.args.key_id.now c.args.seed.now c.if-key-ne56.true))
