@@ -1,5 +1,5 @@
 -- What a scenario leaves.
-use Rattle.std.proofs.Common.{◌≡◌, ◌∙◌, ◌+◌, ◌<◌, ◌≤◌, ◌++◌, ℕ, List, [], ◌∷◌, All, ap, get_or, length, map, refl, sym, take}
+use Rattle.std.proofs.Common.{◌≡◌, ◌∙◌, ◌+◌, ◌<◌, ◌≤◌, ◌++◌, ℕ, List, [], ◌∷◌, All, ap, get_or, length, map, refl, subst, sym, take}
 use Rattle.std.proofs.lemmas.List.{length-map, map-append, map_more}
 use Rattle.std.proofs.lemmas.List.Elements.{All-map, All-weaker}
 use Rattle.authenticators.specs.Directory.{Listing}
@@ -14,7 +14,7 @@ use Rattle.shared_stores.specs.declared.history.Recorded.{Recorded}
 use Rattle.shared_stores.specs.Histories.{Notes}
 use Rattle.simulation.specs.Fixtures.{directory_of}
 use Rattle.operating.specs.declared.play.Played.{Played}
-use Rattle.operating.specs.Plays.{AreLeft}
+use Rattle.operating.specs.Plays.{AreLeft, IsEnd}
 
 map_twice : {X Y Z : Type 0} (f : Y → Z) (g : X → Y) (xs : List X) → map f (map g xs) ≡ map (λ x. f (g x)) xs
 map_twice f g [] = refl
@@ -35,7 +35,7 @@ module _ {S W X : Type 0} (program : Meaning S) (directory : Listing) (s : Scrip
 
   -- the texts of the directory and of the stores of witnesses
   pub left : (p : Played) → directory ≡ directory_of s.nodes → (0 < workers) × (workers ≤ MOST_WORKERS) → length witnesses ≡ s.witnesses → All IsOne witnesses
-      → p.directory.items ≡ directory_text directory → map (λ t. t.items) p.stores.items ≡ map (λ w. export_of (contents (store w)).items) witnesses → AreLeft s workers p
+      → p.directory.items ≡ directory_text directory → map (λ t. t.items) p.stores.items ≡ map (λ w. export_of (contents (store w)).items) witnesses → AreLeft program s workers p
   left p own allowed count held first others = record {
     contents = map (λ w. contents (store w)) witnesses;
     played = record {
@@ -44,6 +44,8 @@ module _ {S W X : Type 0} (program : Meaning S) (directory : Listing) (s : Scrip
       count = length-map witnesses (λ w. contents (store w)) ∙ count;
       under = All-map IsUnder (λ w. contents (store w)) witnesses (All-weaker IsOne (λ w. IsUnder (contents (store w))) (λ w h. h.under ∙ own) witnesses held);
     };
+    ends = All-map (IsEnd (directory_of s.nodes) program) (λ w. contents (store w)) witnesses
+        (All-weaker IsOne (λ w. IsEnd (directory_of s.nodes) program (contents (store w))) (λ w h. (history w, passes w, subst (λ (ds : Listing). IsWitness ds program (contents (store w)) (history w) (passes w)) own h)) witnesses held);
     directory = first ∙ ap directory_text own;
     stores = others ∙ sym (map_twice (λ c. export_of c.items) (λ w. contents (store w)) witnesses);
   }

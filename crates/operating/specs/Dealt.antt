@@ -1,5 +1,5 @@
 -- What `split` does: which set it deals, and what it writes of the parts.
-use Rattle.std.specs.Prelude.{ℕ, zero, suc, ◌≡◌, ◌⊎◌, ◌<◌, List, [], ◌++◌, codes, decimal, Option}
+use Rattle.std.specs.Prelude.{ℕ, zero, suc, ◌≡◌, ◌⊎◌, ◌+◌, ◌<◌, ◌≤◌, List, [], ◌++◌, codes, decimal, Option}
 use Rattle.std.specs.Io.KnownBytes.{Appends}
 use Rattle.item_forms.specs.Pieces.{Piece}
 use Rattle.evidence.specs.Exports.{export_of}
@@ -49,6 +49,16 @@ part_at dealing X k = part_of (is_dealt dealing k) X
 -- The files of the first n parts have the texts of these parts behind what they had.
 abbrev pub AreFiled : Dealing → Items → ℕ → Filed → Filed → Type 0
 AreFiled dealing X n old new = (k : ℕ) → k < n → Appends (old.files k) (new.files k) (export_of (part_at dealing X k))
+
+-- The first n parts are filed, and no file has changed from a number on.
+pub record AreFiledUpTo (dealing : Dealing) (X : Items) (n rest : ℕ) (old new : Filed) : Type 0 where
+  pub filed : AreFiled dealing X n old new
+  pub others : (k : ℕ) → rest ≤ k → new.files k ≡ old.files k
+
+-- What is left of the parts behind a fault: the first n of them are filed, and no other file has changed; but where a write failed, that of
+-- part n may have.
+abbrev pub LeavesParts : Dealing → Items → Fault → Filed → Filed → Type 0
+LeavesParts dealing X f old new = (n : ℕ) × (AreFiledUpTo dealing X n n old new ⊎ ((f ≡ fault.WriteFailed) × AreFiledUpTo dealing X n (n + 1) old new))
 
 -- A part's line: its number, how many parts there are, and how many items it has.
 abbrev pub part_line : ℕ → ℕ → ℕ → List ℕ

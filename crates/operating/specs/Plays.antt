@@ -1,8 +1,14 @@
 -- What a scenario leaves in files, and when none is left.
 use Rattle.std.specs.Prelude.{ℕ, ◌≡◌, ◌⊎◌, List, map, None, Option, Ok}
+use Rattle.std.specs.List.{All}
+use Rattle.authenticators.specs.Directory.{Listing}
 use Rattle.authenticators.specs.DirectoryText.{directory_text}
+use Rattle.replay_verifier.specs.Meaning.{Meaning}
 use Rattle.evidence.specs.Contents.{Contents}
 use Rattle.evidence.specs.Exports.{export_of}
+use Rattle.shared_stores.specs.declared.history.Recorded.{Recorded}
+use Rattle.shared_stores.specs.Histories.{Notes}
+use Rattle.scenario_run.specs.Witnesses.{IsWitness}
 use Rattle.scenarios.specs.Scenarios.{Script, scenario_of}
 use Rattle.simulation.specs.Fixtures.{directory_of}
 use Rattle.commands.specs.declared.fault.Fault.{Fault}
@@ -13,12 +19,22 @@ use Rattle.operating.specs.declared.refusal.Refusal.{Refusal}
 use Rattle.operating.specs.FileTexts.{IsUnsaid, Says}
 use Rattle.operating.specs.GatheredFiles.{IsOfFile}
 
--- The texts of the directory of a scenario's nodes and of the stores that its witnesses have in the end, with so many workers.
-pub record AreLeft (s : Script) (workers : ℕ) (p : Played) : Type 0 where
+-- A witness under the directory ends with these items: the calls of its callers, each answered under the program, led to them.
+abbrev pub IsEnd : {S : Type 0} → Listing → Meaning S → Contents → Type 0
+IsEnd directory program c = (history : List Recorded) × (passes : List Notes) × IsWitness directory program c history passes
+
+-- The texts of the directory of a scenario's nodes and of the stores that its witnesses have in the end, with so many workers, where the nodes
+-- are to follow the program.
+pub record AreLeft {S : Type 0} (program : Meaning S) (s : Script) (workers : ℕ) (p : Played) : Type 0 where
   pub contents : List Contents
   pub played : ArePlayed s workers contents
+  pub ends : All (IsEnd (directory_of s.nodes) program) contents
   pub directory : p.directory.items ≡ directory_text (directory_of s.nodes)
   pub stores : map (λ t. t.items) p.stores.items ≡ map (λ c. export_of c.items) contents
+
+-- What is left of the scenario that a file says.
+abbrev pub Leaves : {S : Type 0} → Meaning S → ℕ → ℕ → Option (List ℕ) → Played → Type 0
+Leaves program limit workers file p = (text : List ℕ) × (s : Script) × Says limit None file text × (scenario_of text ≡ Ok s) × AreLeft program s workers p
 
 -- Why nothing is left: the file says nothing; or memory ran out; or it says no scenario, or one that is not run to its end.
 abbrev pub RefusesPlay : ℕ → ℕ → Option (List ℕ) → Refusal → Type 0

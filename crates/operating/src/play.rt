@@ -1,14 +1,14 @@
 //! The engine of `play`: what a scenario leaves, as files that the other engines read.
 
-ghost use Rattle.std.specs.Prelude.{◌≡◌, ◌⊎◌, ◌<◌, ◌^◌, IfErr, IfOk, List, MatchResult, None, Ok, OnOk, map, ℕ};
+ghost use Rattle.std.specs.Prelude.{◌≡◌, ◌⊎◌, ◌<◌, ◌^◌, IfErr, IfOk, MatchResult, Ok, OnOk, map};
 ghost use Rattle.authenticators.specs.DirectoryText.{directory_text};
 ghost use Rattle.evidence.specs.Exports.{export_of};
-ghost use Rattle.scenarios.specs.Scenarios.{Script, scenario_of};
+ghost use Rattle.scenarios.specs.Scenarios.{scenario_of};
 ghost use Rattle.commands.specs.declared.fault.Fault.TheVariants as fault;
 ghost use Rattle.commands.specs.Scenarios.{IsNone, IsOfRun};
 ghost use Rattle.commands.specs.within.OwnFaults.{IsOwn};
-ghost use Rattle.operating.specs.FileTexts.{IsOfReading, Says};
-ghost use Rattle.operating.specs.Plays.{AreLeft, RefusesPlay};
+ghost use Rattle.operating.specs.FileTexts.{IsOfReading};
+ghost use Rattle.operating.specs.Plays.{AreLeft, Leaves, RefusesPlay};
 
 use crate::files::{Limits, Opener};
 use crate::reading::read_said;
@@ -80,7 +80,7 @@ fn play_out<
 >(rt: &H, alloc: Global, program: &P, scenario: &Scenario, workers: usize) -> Result<Played, Fault>
 where
     P::State: Send,
-    ensures told { MatchResult result (AreLeft scenario.now workers) (λ f. (f ≡ fault.Memory) ⊎ IsOfRun workers f) }
+    ensures told { MatchResult result (AreLeft P.means scenario.now workers) (λ f. (f ≡ fault.Memory) ⊎ IsOfRun workers f) }
     ensures own { IfErr result IsOwn }
 {
     let outcome: Outcome<S> = match scenario_run::run(rt, alloc, *program, scenario, workers) {
@@ -103,7 +103,7 @@ pub fn run<H: Threads + Wait + Sync, P: Program + Copy + Send + Sync + Drop, O: 
 where
     P::State: Send,
     requires room { (O.seen opener.old).failures < 2 ^ 63 }
-    ensures left { IfOk result (λ p. (text : List ℕ) × (s : Script) × Says limits.most_bytes None ((O.seen opener.old).files 0) text × (scenario_of text ≡ Ok s) × AreLeft s limits.workers p) }
+    ensures left { IfOk result (Leaves P.means limits.most_bytes limits.workers ((O.seen opener.old).files 0)) }
     ensures refused { IfErr result (RefusesPlay limits.most_bytes limits.workers ((O.seen opener.old).files 0)) }
     ensures blamed { IfErr result (λ r. IsOfReading (O.seen opener.old) (O.seen opener.new) r.fault) }
     ensures quiet { OnOk result ((O.seen opener.new).failures ≡ (O.seen opener.old).failures) }

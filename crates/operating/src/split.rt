@@ -9,7 +9,7 @@ ghost use Rattle.evidence.specs.Exports.{export_of};
 ghost use Rattle.evidence_set.specs.ItemSets.{Items, count, insert_all, none};
 ghost use Rattle.shards.specs.Parts.{Decodes, part, parts_of};
 ghost use Rattle.commands.specs.declared.fault.Fault.TheVariants as fault;
-ghost use Rattle.operating.specs.Dealt.{AreFiled, Filed, IsDealt, IsOfWriting, RefusesDealt, part_line, part_lines};
+ghost use Rattle.operating.specs.Dealt.{AreFiled, Filed, IsDealt, IsOfWriting, LeavesParts, RefusesDealt, part_line, part_lines};
 ghost use Rattle.operating.specs.FileTexts.{IsOfReading, Says};
 ghost use Rattle.operating.specs.Splitting.{AreExtracted, Have, RefusesExtracted, RefusesItems, RefusesStores};
 
@@ -20,7 +20,7 @@ use crate::refusal::Refusal;
 use commands::device::{Sink, WriteFailed};
 use commands::fault::Fault;
 use item_forms::Item;
-use shards::{Dealing, Parting, Shards, add_items, extracted, gathered};
+use shards::{Dealing, Part, Parting, Shards, add_items, extracted, gathered};
 use std::alloc::{AllocError, Global};
 
 // ---- the set
@@ -133,30 +133,6 @@ pub trait PartFiles {
         ensures failed { OnErr result ((seen self.old).failures < (seen self.new).failures) };
 }
 
-/// Writes part `k` of a set of items to its file, nothing else, and in one write; it answers how many items that part has.
-fn write_part<F: PartFiles>(
-    alloc: Global,
-    parting: &Parting,
-    k: u32,
-    parts: &mut F,
-) -> Result<u64, Refusal>
-    requires room { (F.seen parts.old).failures < 2 ^ 63 }
-    ensures written { OnOk result (Appends ((F.seen parts.old).files k) ((F.seen parts.new).files k) (export_of (part parting.now k))) }
-    ensures counted { IfOk result (λ n. n ≡ count (part parting.now k)) }
-    ensures others { (n : ℕ) → n ≢ k → (F.seen parts.new).files n ≡ (F.seen parts.old).files n }
-    ensures quiet { OnOk result ((F.seen parts.new).failures ≡ (F.seen parts.old).failures) }
-    ensures refused { IfErr result (λ r. (r.file ≡ None) × IsOfWriting (F.seen parts.old) (F.seen parts.new) r.fault) }
-{
-    let part = match parting.part(alloc, k) {
-        Ok(part) => part,
-        Err(_) => return Err(Refusal::of_none(Fault::Memory)),
-    };
-    match parts.write(k, &part.text) {
-        Ok(()) => Ok(part.items),
-        Err(_) => Err(Refusal::of_writing()),
-    }
-}
-
 /// A number in decimal digits.
 fn decimal_of(alloc: Global, number: u64) -> Result<String, AllocError>
     ensures { IfOk result (λ word. string_bytes word ≡ decimal number) }
@@ -185,7 +161,23 @@ fn put_line(
     lines.extend_from_slice(b"\n")
 }
 
-/// Writes part `k` to its file, and its line behind the others.
+/// Part `k`, with its line behind the others.
+fn lined_part(
+    alloc: Global,
+    parting: &Parting,
+    k: u32,
+    lines: &mut Vec<u8>,
+) -> Result<Part, AllocError>
+    ensures text { IfOk result (λ p. p.text.items ≡ export_of (part parting.now k)) }
+    ensures lines { OnOk result (lines.new.items ≡ lines.old.items ++ part_line (parts_of parting.now.dealing) k (count (part parting.now k))) }
+{
+    let count = parting.dealing().parts();
+    let part = parting.part(alloc, k)?;
+    put_line(alloc, lines, count, k, part.items)?;
+    Ok(part)
+}
+
+/// Writes part `k` to its file, nothing else, and in one write, and its line behind the others. Nothing is written where memory runs out.
 fn file_part<F: PartFiles>(
     alloc: Global,
     parting: &Parting,
@@ -199,12 +191,14 @@ fn file_part<F: PartFiles>(
     ensures others { (n : ℕ) → n ≢ k → (F.seen parts.new).files n ≡ (F.seen parts.old).files n }
     ensures quiet { OnOk result ((F.seen parts.new).failures ≡ (F.seen parts.old).failures) }
     ensures refused { IfErr result (λ r. (r.file ≡ None) × IsOfWriting (F.seen parts.old) (F.seen parts.new) r.fault) }
+    ensures unwritten { IfErr result (λ r. (parts.new ≡ parts.old) ⊎ (r.fault ≡ fault.WriteFailed)) }
 {
-    let count = parting.dealing().parts();
-    let items = write_part(alloc, parting, k, parts)?;
-    match put_line(alloc, lines, count, k, items) {
+    let Ok(part) = lined_part(alloc, parting, k, lines) else {
+        return Err(Refusal::of_none(Fault::Memory));
+    };
+    match parts.write(k, &part.text) {
         Ok(()) => Ok(()),
-        Err(_) => Err(Refusal::of_none(Fault::Memory)),
+        Err(_) => Err(Refusal::of_writing()),
     }
 }
 
@@ -220,6 +214,7 @@ fn write_parts<F: PartFiles>(
     ensures others { (k : ℕ) → parts_of parting.now.dealing ≤ k → (F.seen parts.new).files k ≡ (F.seen parts.old).files k }
     ensures quiet { OnOk result ((F.seen parts.new).failures ≡ (F.seen parts.old).failures) }
     ensures refused { IfErr result (λ r. (r.file ≡ None) × IsOfWriting (F.seen parts.old) (F.seen parts.new) r.fault) }
+    ensures left { IfErr result (λ r. LeavesParts parting.now.dealing (insert_all none parting.now.items) r.fault (F.seen parts.old) (F.seen parts.new)) }
 {
     let count = parting.dealing().parts();
     let mut lines = Vec::new(alloc);
@@ -239,7 +234,7 @@ pub struct Splitting {
 }
 
 /// Writes each part of the items of all stores to its file, and, once all parts are there, a line for each to the writer. Where a store is
-/// refused nothing was written; where memory ran out or a write failed, parts may have been.
+/// refused nothing was written; where memory ran out, the first parts may have been, whole; where a write failed, the next one in part.
 pub fn run<O: Opener, F: PartFiles, W: Sink>(
     alloc: Global,
     splitting: &Splitting,
@@ -251,7 +246,8 @@ pub fn run<O: Opener, F: PartFiles, W: Sink>(
     requires room { ((O.seen opener.old).failures < 2 ^ 63) × ((F.seen parts.old).failures < 2 ^ 63) × ((W.seen writer.old).failures < 2 ^ 63) }
     ensures done { IfOk result (λ ending. (X : Items) × IsDealt limits.most_bytes (O.seen opener.old).files splitting.now.stores splitting.now.dealing X × AreFiled splitting.now.dealing X (parts_of splitting.now.dealing) (F.seen parts.old) (F.seen parts.new) × Appends (W.seen writer.old).written (W.seen writer.new).written (part_lines splitting.now.dealing X (parts_of splitting.now.dealing)) × (ending ≡ Ending.Done)) }
     ensures others { (k : ℕ) → parts_of splitting.now.dealing ≤ k → (F.seen parts.new).files k ≡ (F.seen parts.old).files k }
-    ensures refused { IfErr result (λ r. (RefusesDealt limits.most_bytes (O.seen opener.old).files splitting.now.stores splitting.now.dealing r × (parts.new ≡ parts.old) × (writer.new ≡ writer.old)) ⊎ ((r.file ≡ None) × ((r.fault ≡ fault.Memory) ⊎ (r.fault ≡ fault.WriteFailed)))) }
+    ensures refused { IfErr result (λ r. (RefusesDealt limits.most_bytes (O.seen opener.old).files splitting.now.stores splitting.now.dealing r × (parts.new ≡ parts.old) × (writer.new ≡ writer.old)) ⊎ ((r.file ≡ None) × (((r.fault ≡ fault.Memory) × (writer.new ≡ writer.old)) ⊎ (r.fault ≡ fault.WriteFailed)))) }
+    ensures left { IfErr result (λ r. (parts.new ≡ parts.old) ⊎ ((X : Items) × IsDealt limits.most_bytes (O.seen opener.old).files splitting.now.stores splitting.now.dealing X × LeavesParts splitting.now.dealing X r.fault (F.seen parts.old) (F.seen parts.new))) }
     ensures read_failed { IfErr result (λ r. r.fault ≡ fault.ReadFailed → (O.seen opener.old).failures < (O.seen opener.new).failures) }
     ensures write_failed { IfErr result (λ r. r.fault ≡ fault.WriteFailed → ((F.seen parts.old).failures < (F.seen parts.new).failures) ⊎ ((W.seen writer.old).failures < (W.seen writer.new).failures)) }
     ensures quiet { OnOk result (((O.seen opener.new).failures ≡ (O.seen opener.old).failures) × ((F.seen parts.new).failures ≡ (F.seen parts.old).failures) × ((W.seen writer.new).failures ≡ (W.seen writer.old).failures)) }
