@@ -42,7 +42,7 @@ fn made(
 }
 
 /// How it is told that no bundle is made of the texts.
-fn told_of(directory: &[u8], proof: &[u8], fault: MakeFault) -> Refused
+fn refusal_of(directory: &[u8], proof: &[u8], fault: MakeFault) -> Refused
     ensures { IsTold fault result }
 {
     match fault {
@@ -73,7 +73,7 @@ fn bundle_of<O: Opener>(
     let proof = read_said(alloc, opener, 1, None, limits)?;
     match made(alloc, handing, &directory, &proof) {
         Ok(text) => Ok(text),
-        Err(fault) => Err(told_of(&directory, &proof, fault)),
+        Err(fault) => Err(refusal_of(&directory, &proof, fault)),
     }
 }
 

@@ -1,12 +1,15 @@
 //! What is done of files: the engine that was asked for, and what it reads, writes and tells.
 
-ghost use Rattle.std.specs.Prelude.{◌≡◌, ◌<◌, ◌≤◌, ◌^◌};
+ghost use Rattle.std.specs.Prelude.{◌≡◌, ◌<◌, ◌≤◌, ◌^◌, IfErr, IfOk, OnOk};
 ghost use Rattle.parallel_checking.specs.declared.limits.TheConstants.{MOST_WORKERS};
+ghost use Rattle.operating.specs.FileTexts.{IsOfReading};
+ghost use Rattle.operating.specs.Plays.{Leaves, RefusesPlay};
+ghost use Rattle.bulwynef.specs.Programs.{meaning_of};
 
 use crate::answering::{Asking, answered, program_for};
 use crate::noting::Noted;
 use crate::opening::{Begun, NamedFiles};
-use crate::programs::with_program;
+use crate::programs::{ProgramName, with_program};
 use crate::progress::Progress;
 use crate::splitting::NamedParts;
 use crate::unbundled::Refused;
@@ -14,12 +17,14 @@ use crate::words::{Query, Request};
 use crate::writing::Output;
 use answers::Style;
 use operating::asking::Ending;
-use operating::files::Limits;
+use operating::files::{Limits, Opener};
+use operating::play::Played;
 use operating::refusal::Refusal;
 use operating::split::Splitting;
 use operating::{play, split};
 use parallel_checking::MOST_WORKERS;
 use shards::Dealing;
+use std::alloc::Global;
 use std::io::{IsTerminal, Stderr};
 use std::sync::Wait;
 use std::thread;
@@ -194,6 +199,23 @@ pub fn split<'a, H: Threads>(
     Ok(ending)
 }
 
+/// Plays the scenario that file 0 says, of nodes that run the program of this name: what it leaves.
+fn played<H: Threads + Wait + Sync, O: Opener>(
+    threads: &H,
+    alloc: Global,
+    name: ProgramName,
+    files: &mut O,
+    limits: Limits,
+) -> Result<Played, Refusal>
+    requires room { (O.seen files.old).failures < 2 ^ 63 }
+    ensures left { IfOk result (Leaves (meaning_of name) limits.most_bytes limits.workers ((O.seen files.old).files 0)) }
+    ensures refused { IfErr result (RefusesPlay limits.most_bytes limits.workers ((O.seen files.old).files 0)) }
+    ensures blamed { IfErr result (λ r. IsOfReading (O.seen files.old) (O.seen files.new) r.fault) }
+    ensures quiet { OnOk result ((O.seen files.new).failures ≡ (O.seen files.old).failures) }
+{
+    with_program!(name, followed => play::run(threads, alloc, followed.program, files, limits))
+}
+
 /// Plays a scenario of nodes that run the program of the request's name, and writes what it leaves into a folder.
 pub fn play<'a, H: Threads + Wait + Sync>(
     rt: &'a HostRuntime,
@@ -205,8 +227,7 @@ pub fn play<'a, H: Threads + Wait + Sync>(
     };
     let (alloc, limits) = (rt.alloc(), limits_of(threads, request));
     let mut files = NamedFiles::new(rt, &request.paths, None);
-    let played =
-        with_program!(name, followed => play::run(threads, alloc, followed.program, &mut files, limits))?;
+    let played = played(threads, alloc, name, &mut files, limits)?;
     let ending = output_of(rt, request).write_folder(&played)?;
     Ok(ending)
 }

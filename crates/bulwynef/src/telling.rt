@@ -43,7 +43,7 @@ impl<'a> fmt::Display for Told<'a> {
 }
 
 /// The refusal with its file's name.
-pub fn told_of<'a>(request: &Request<'a>, refusal: Refusal) -> Told<'a> {
+pub fn named<'a>(request: &Request<'a>, refusal: Refusal) -> Told<'a> {
     let name = match refusal.file {
         Some(file) => name_of(request, file),
         None => None,

@@ -4,7 +4,7 @@ ghost use Rattle.std.specs.Prelude.{◌≡◌};
 ghost use Rattle.bulwynef.specs.Handed.{fault_of};
 ghost use Rattle.bulwynef.specs.declared.unbundled.Refused.TheVariants as refused;
 
-use crate::telling::told_of;
+use crate::telling::named;
 use crate::words::Request;
 use bundles::BundleFault;
 use bundling::TextFault;
@@ -113,7 +113,7 @@ impl<'a> fmt::Display for ToldOfBundle<'a> {
 /// Tells a refusal on standard error.
 pub fn tell(rt: &HostRuntime, request: &Request, refused: Refused) {
     if let Refused::Engine(refusal) = refused {
-        let line = told_of(request, refusal);
+        let line = named(request, refusal);
         let _ = eprintln!(rt; "{line}");
         return;
     }

@@ -18,7 +18,11 @@ use sentences::Listing;
 use std::alloc::{AllocError, Global};
 
 /// What is told of a directory.
-fn told_of(alloc: Global, is_page: bool, read: &ReadDirectory) -> Result<Vec<u8>, AllocError>
+fn text_of_listing(
+    alloc: Global,
+    is_page: bool,
+    read: &ReadDirectory,
+) -> Result<Vec<u8>, AllocError>
     ensures { IfOk result (λ text. is_page ≡ true → IsPage text.items) }
 {
     let listing = Listing::of(alloc, &read.directory, &read.text)?;
@@ -38,7 +42,7 @@ pub fn run<O: Opener, W: Sink>(
     ensures { Ran (SaysDirectory limits.most_bytes ((O.seen opener.old).files 0)) (λ r. IsOfFile 0 r × RefusesDirectory limits.most_bytes ((O.seen opener.old).files 0) r.fault) (ExplainDirectory is_page) result (O.seen opener.old) (O.seen opener.new) W.seen writer.old writer.new }
 {
     let read = read_directory_file(alloc, opener, limits)?;
-    let text = match told_of(alloc, is_page, &read) {
+    let text = match text_of_listing(alloc, is_page, &read) {
         Ok(text) => text,
         Err(_) => return Err(Refusal::of_none(Fault::Memory)),
     };

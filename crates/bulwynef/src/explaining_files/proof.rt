@@ -27,7 +27,7 @@ use sentences::{Basis, Input};
 use std::alloc::Global;
 
 /// What is told of the proof that a text is.
-fn told_of<P: Program, V: Voice>(
+fn text_of_proof<P: Program, V: Voice>(
     alloc: Global,
     explaining: &Explaining<'_, P, V>,
     read: &ReadDirectory,
@@ -51,7 +51,7 @@ fn told_of<P: Program, V: Voice>(
 }
 
 /// What is told of the proof that file 1 says.
-fn told<P: Program, V: Voice, O: Opener>(
+fn text_of_files<P: Program, V: Voice, O: Opener>(
     alloc: Global,
     explaining: &Explaining<'_, P, V>,
     opener: &mut O,
@@ -65,7 +65,7 @@ fn told<P: Program, V: Voice, O: Opener>(
 {
     let read = read_directory_file(alloc, opener, limits)?;
     let text = read_said(alloc, opener, 1, None, limits)?;
-    match told_of(alloc, explaining, &read, &text) {
+    match text_of_proof(alloc, explaining, &read, &text) {
         Ok(told) => Ok(told),
         Err(fault) => Err(Refusal::of_text(1, &text, fault)),
     }
@@ -83,7 +83,7 @@ pub fn run<P: Program, V: Voice, O: Opener, W: Sink>(
     requires room { HasRoom 1 (O.seen opener.old) (W.seen writer.old) }
     ensures { Ran (AreConvictingTexts P.means limits.most_bytes (O.seen opener.old).files) (RefusesConviction P.means limits.most_bytes (O.seen opener.old).files) (ExplainProof explaining.now.followed.name.now explaining.now.is_page) result (O.seen opener.old) (O.seen opener.new) W.seen writer.old writer.new }
 {
-    let text = told(alloc, explaining, opener, limits)?;
+    let text = text_of_files(alloc, explaining, opener, limits)?;
     write(writer, &text)?;
     Ok(Ending::Exposed)
 }

@@ -2,7 +2,7 @@ use Rattle.std.proofs.Common.{◌∙◌, ap}
 use Rattle.sha2.specs.Sha256.{sha256}
 use Rattle.std.proofs.lemmas.Result.{err_from_is_err_and}
 use Rattle.commands.proofs.Refused.{proof_own, reading_own}
-use Rattle.bulwynef.proofs.explaining_files.proof.told_of.Goals as goal
+use Rattle.bulwynef.proofs.explaining_files.proof.text_of_proof.Goals as goal
 
 pub returns : goal.returns
 returns g c =

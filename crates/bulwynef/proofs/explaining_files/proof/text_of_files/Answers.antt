@@ -8,7 +8,7 @@ use Rattle.operating.specs.ConvictingFiles.{RefusesProof, RefusesProofText}
 use Rattle.operating.specs.FileTexts.{IsOfReading, IsUnsaid, Says}
 use Rattle.operating.specs.GatheredFiles.{IsOfFile}
 use Rattle.operating.proofs.Blames.{later_blames, own_blames}
-use Rattle.bulwynef.proofs.explaining_files.proof.told.Goals as goal
+use Rattle.bulwynef.proofs.explaining_files.proof.text_of_files.Goals as goal
 
 pub returns-in_err-text-clause-refused : goal.returns-in_err-text-clause-refused
 returns-in_err-text-clause-refused g c =
