@@ -2,7 +2,6 @@
 use Rattle.std.proofs.Common.{◌≡◌, ℕ, zero, suc, ◌<◌, refl, subst, inl, inr, arith}
 use Rattle.std.specs.Prelude.{◌==◌}
 use Rattle.std.proofs.lemmas.Bool.{cases_lt, eq-eqb}
-use Rattle.item_forms.specs.Pieces.{Piece}
 use Rattle.evidence_set.specs.ItemSets.{Items, Has, IsWithin, JoinsAreLeastUpperBounds, JoinsAsExpected, SetsAsExpected}
 use Rattle.localities.specs.Parts.{PartsAsExpected}
 use Rattle.localities.specs.Ranges.{Key, RangesAreParts, has_key, keys_of, range_part, ranges_joined}
