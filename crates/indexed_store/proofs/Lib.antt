@@ -1,4 +1,5 @@
 mod Digested
 mod Gathered
+mod Known
 pub mod Listed
 mod Owed

@@ -1,12 +1,13 @@
 //! The indexed store.
 
-ghost use Rattle.std.specs.Prelude.{◌≡◌, ◌+◌, IfErr, IfOk, OnErr, OnOk, Ok, false, not};
+ghost use Rattle.std.specs.Prelude.{◌≡◌, ◌↔◌, ◌+◌, IfErr, IfOk, IsTrue, OnErr, OnOk, Ok, false, not};
 ghost use Rattle.std.specs.List.{All};
 ghost use Rattle.std.specs.List.Sorted.{IsStrictlySortedBy};
 ghost use Rattle.item_forms.specs.Pieces.{by_bytes};
 ghost use Rattle.evidence_item.specs.Checking.{IsChecked};
 ghost use Rattle.evidence_set.specs.ItemSets.{Has, Join, contains, count, insert, pieces, set_of};
 ghost use Rattle.evidence.specs.Contents.{with_items};
+ghost use Rattle.localities.specs.Known.{IsKnown};
 
 use crate::challenges::open_challenges;
 use crate::convicting::proof;
@@ -14,6 +15,7 @@ use crate::digests::Digests;
 use crate::including::{holds, includes};
 use crate::index::Index;
 use crate::indicating::indication;
+use crate::knowing::knows;
 use crate::listing::{count, digest_at, export, item_at};
 use crate::merging::{merge, take_all};
 use crate::taking::take;
@@ -58,6 +60,16 @@ impl<P: Program> Model for IndexedStore<P> {
     ghost view = { λ s. record { directory = s.directory; items = set_of s.index.items.items } };
 
     ghost invariant = { λ s. IsStoreAtRest s.directory P.means s.index s.digests };
+}
+
+impl<P: Program> IndexedStore<P> {
+    /// Whether anything is known of the node: whether the items hold a statement of it, or a challenge against it. A node that behaved well
+    /// is trusted, and so is one of which nothing is known. Of a node that is not listed nothing is known. It is a look-up.
+    pub fn knows(&self, node: NodeId) -> bool
+        ensures { IsTrue result ↔ IsKnown self.now.directory self.now.items node }
+    {
+        knows(&self.directory, &self.index, node)
+    }
 }
 
 impl<P: Program> Evidence<P> for IndexedStore<P> {
