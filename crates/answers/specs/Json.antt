@@ -13,6 +13,7 @@ use Rattle.answers.specs.declared.tally.Tally.{Tally}
 use Rattle.answers.specs.declared.showing.Contents.{Contents}
 use Rattle.answers.specs.declared.showing.Contents.TheVariants as contents
 use Rattle.answers.specs.declared.showing.Shown.{Shown}
+use Rattle.answers.specs.declared.standings.Standing.{Standing}
 use Rattle.answers.specs.Showing.{form_name}
 
 -- What parts an element from the one before it.
@@ -20,13 +21,26 @@ abbrev pub comma : Bool → List ℕ
 comma true = []
 comma false = codes ","
 
+-- A truth value, as a literal.
+abbrev pub literal_of : Bool → List ℕ
+literal_of true = codes "true"
+literal_of false = codes "false"
+
 -- ---- what is said of a node
 
-abbrev pub standing_object : ℕ × Indication → List ℕ
-standing_object row = codes "{\"node\":" ++ decimal row.0 ++ codes ",\"indication\":\"" ++ name_of row.1 ++ codes "\"}"
+-- Its number, and the word for its indication.
+unfoldable pub indication_members : ℕ → Indication → List ℕ
+indication_members node i = codes "\"node\":" ++ decimal node ++ codes ",\"indication\":\"" ++ name_of i ++ codes "\""
+
+-- Whether anything is known of it.
+unfoldable pub known_member : Bool → List ℕ
+known_member known = codes ",\"known\":" ++ literal_of known
+
+abbrev pub standing_object : ℕ × Standing → List ℕ
+standing_object row = codes "{" ++ indication_members row.0 row.1.indication ++ known_member row.1.known ++ codes "}"
 
 -- What is said of each of these nodes, behind the name of the program and the SHA-256 value of the directory's text, under which it is said.
-abbrev pub standings_json : List ℕ → List ℕ → List (ℕ × Indication) → List ℕ
+abbrev pub standings_json : List ℕ → List ℕ → List (ℕ × Standing) → List ℕ
 standings_json program directory rows =
     codes "{\"program\":\"" ++ program ++ codes "\",\"directory\":\"" ++ encode_lower (sha256 directory)
     ++ codes "\",\"nodes\":[" ++ join_by standing_object (codes ",") rows ++ codes "]}\n"

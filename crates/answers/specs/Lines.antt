@@ -5,20 +5,20 @@ use Rattle.hex.specs.Hex.{encode_lower}
 use Rattle.sha2.specs.Sha256.{sha256}
 use Rattle.authenticators.specs.Refusals as listing
 use Rattle.containers.specs.Refusals as container
-use Rattle.evidence_set.specs.declared.indication.Indication.{Indication}
 use Rattle.evidence_set.specs.Names.{name_of}
 use Rattle.answers.specs.declared.keys.KeyPrint.{KeyPrint}
 use Rattle.answers.specs.declared.tally.Tally.{Tally}
 use Rattle.answers.specs.declared.showing.Contents.{Contents}
 use Rattle.answers.specs.declared.showing.Contents.TheVariants as contents
 use Rattle.answers.specs.declared.showing.Shown.{Shown}
+use Rattle.answers.specs.declared.standings.Standing.{Standing}
 use Rattle.answers.specs.Showing.{form_name}
 
 -- ---- what is said of a node
 
 -- Its number, a blank, and the word for it.
-abbrev pub standing_line : ℕ × Indication → List ℕ
-standing_line row = decimal row.0 ++ codes " " ++ name_of row.1 ++ codes "\n"
+abbrev pub standing_line : ℕ × Standing → List ℕ
+standing_line row = decimal row.0 ++ codes " " ++ name_of row.1.indication ++ codes "\n"
 
 -- ---- whom a proof convicts
 

@@ -1,10 +1,10 @@
 -- How answers are written, each as a function of the answer and of for whom it is written.
 use Rattle.std.specs.Prelude.{ℕ, ◌≡◌, List}
 use Rattle.std.specs.List.{flat_map}
-use Rattle.evidence_set.specs.declared.indication.Indication.{Indication}
 use Rattle.answers.specs.declared.style.Style.{Style}
 use Rattle.answers.specs.declared.style.Style.TheVariants as style
 use Rattle.answers.specs.declared.showing.Shown.{Shown}
+use Rattle.answers.specs.declared.standings.Standing.{Standing}
 use Rattle.answers.specs.Json.{conviction_json, shown_json, standing_object, standings_json}
 use Rattle.answers.specs.Lines.{conviction_lines, shown_lines, standing_line}
 
@@ -14,12 +14,13 @@ shown_text style.Lines s = shown_lines s
 shown_text style.Json s = shown_json s
 
 -- What is said of a node.
-abbrev pub standing_text : Style → ℕ × Indication → List ℕ
+abbrev pub standing_text : Style → ℕ × Standing → List ℕ
 standing_text style.Lines row = standing_line row
 standing_text style.Json row = standing_object row
 
--- What is said of each of these nodes, under the program of a name and the directory of a text. Lines do not tell the two.
-abbrev pub standings_text : Style → List ℕ → List ℕ → List (ℕ × Indication) → List ℕ
+-- What is said of each of these nodes, under the program of a name and the directory of a text. Lines tell neither of the two, nor of which
+-- nodes anything is known.
+abbrev pub standings_text : Style → List ℕ → List ℕ → List (ℕ × Standing) → List ℕ
 standings_text style.Lines program directory rows = flat_map standing_line rows
 standings_text style.Json program directory rows = standings_json program directory rows
 
@@ -30,6 +31,7 @@ conviction_text style.Json node program directory = conviction_json node program
 
 -- ---- laws, which `laws` proves
 
--- What is written of a node tells what is said of it, in either style.
-abbrev pub StandingsAreTold : Type 0
-StandingsAreTold = (s : Style) (node : ℕ) (a b : Indication) → standing_text s (node, a) ≡ standing_text s (node, b) → a ≡ b
+-- What is written of a node tells its indication, in either style; as JSON it tells whether anything is known of it too.
+pub record StandingsAreTold : Type 0 where
+  pub indication : (s : Style) (node : ℕ) (a b : Standing) → standing_text s (node, a) ≡ standing_text s (node, b) → a.indication ≡ b.indication
+  pub known : (node : ℕ) (a b : Standing) → standing_text style.Json (node, a) ≡ standing_text style.Json (node, b) → a.known ≡ b.known

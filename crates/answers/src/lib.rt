@@ -1,8 +1,8 @@
 //! Answers to operators, each a value that is written in lines for people or as JSON for programs.
 //!
 //! - [`shown_of`] tells what a text is and what is in it, and checks nothing of it; [`Shown::write`] writes that.
-//! - [`standings_text`] writes what is said of each node, and [`conviction_text`] whom a proof convicts, and under which program and
-//!   directory.
+//! - [`standings_text`] writes what is said of each node, a [`Standing`], and [`conviction_text`] whom a proof convicts, and under which
+//!   program and directory.
 //!
 //! `specs/Showing.antt` says what is in a text, `specs/Lines.antt` and `specs/Json.antt` how answers are written, each as a function of
 //! the answer alone. [`laws`] has what follows.
@@ -12,7 +12,7 @@ pub use conviction::conviction_text;
 pub use form::TextForm;
 pub use keys::KeyPrint;
 pub use showing::{Contents, Shown, shown_of};
-pub use standings::standings_text;
+pub use standings::{Standing, standings_text};
 pub use style::Style;
 pub use tally::{Kind, Seen, Tally};
 

@@ -3,7 +3,7 @@
 ghost use Rattle.std.specs.Prelude.{◌≡◌, ◌++◌, IfOk, OnOk, codes};
 ghost use Rattle.std.specs.List.{flat_map, join_by};
 ghost use Rattle.evidence_set.specs.Names.{name_of};
-ghost use Rattle.answers.specs.Json.{comma, standing_object, standings_json};
+ghost use Rattle.answers.specs.Json.{comma, indication_members, known_member, standing_object, standings_json};
 ghost use Rattle.answers.specs.Lines.{standing_line};
 ghost use Rattle.answers.specs.Texts.{standings_text};
 
@@ -12,6 +12,15 @@ use crate::writing::{put_number, sum_of};
 use evidence_set::Indication;
 use std::alloc::{AllocError, Global};
 use std::collections::BTreeMap;
+
+/// What is said of a node.
+#[derive(Clone, Copy, Debug)]
+pub struct Standing {
+    /// Its indication.
+    pub indication: Indication,
+    /// Whether anything is known of it. One that behaved well is trusted, and so is one of which there is no evidence.
+    pub known: bool,
+}
 
 /// The word for an indication.
 fn word_of(indication: Indication) -> &'static str
@@ -24,18 +33,30 @@ fn word_of(indication: Indication) -> &'static str
     }
 }
 
+/// Whether anything is known of a node, as a member.
+#[tactic(auto, unfolding(crate::specs::Json::known_member))]
+fn known_member(known: bool) -> &'static str
+    ensures { result.now ≡ known_member known }
+{
+    if known {
+        ",\"known\":true"
+    } else {
+        ",\"known\":false"
+    }
+}
+
 /// Writes a node's line.
 fn put_line(
     alloc: Global,
     text: &mut Vec<u8>,
     node: u32,
-    indication: Indication,
+    standing: Standing,
 ) -> Result<(), AllocError>
-    ensures { OnOk result (text.new.items ≡ text.old.items ++ standing_line (node, indication)) }
+    ensures { OnOk result (text.new.items ≡ text.old.items ++ standing_line (node, standing)) }
 {
     put_number(alloc, text, node as u64)?;
     text.extend_from_slice(b" ")?;
-    text.extend_from_slice(word_of(indication).as_bytes())?;
+    text.extend_from_slice(word_of(standing.indication).as_bytes())?;
     text.extend_from_slice(b"\n")
 }
 
@@ -43,14 +64,31 @@ fn put_line(
 fn put_lines(
     alloc: Global,
     text: &mut Vec<u8>,
-    standings: &BTreeMap<u32, Indication>,
+    standings: &BTreeMap<u32, Standing>,
 ) -> Result<(), AllocError>
     ensures { OnOk result (text.new.items ≡ text.old.items ++ flat_map standing_line standings.now.entries) }
 {
-    for (node, indication) in standings.iter() {
-        put_line(alloc, text, *node, *indication)?;
+    for (node, standing) in standings.iter() {
+        put_line(alloc, text, *node, *standing)?;
     }
     Ok(())
+}
+
+/// Writes a node's number and its indication.
+#[tactic(auto, unfolding(crate::specs::Json::indication_members))]
+fn put_indication(
+    alloc: Global,
+    text: &mut Vec<u8>,
+    node: u32,
+    indication: Indication,
+) -> Result<(), AllocError>
+    ensures { OnOk result (text.new.items ≡ text.old.items ++ indication_members node indication) }
+{
+    text.extend_from_slice(b"\"node\":")?;
+    put_number(alloc, text, node as u64)?;
+    text.extend_from_slice(b",\"indication\":\"")?;
+    text.extend_from_slice(word_of(indication).as_bytes())?;
+    text.extend_from_slice(b"\"")
 }
 
 /// Writes what is said of a node, behind a comma unless it is the first.
@@ -59,37 +97,36 @@ fn put_object(
     text: &mut Vec<u8>,
     is_first: bool,
     node: u32,
-    indication: Indication,
+    standing: Standing,
 ) -> Result<(), AllocError>
-    ensures { OnOk result (text.new.items ≡ text.old.items ++ (comma is_first ++ standing_object (node, indication))) }
+    ensures { OnOk result (text.new.items ≡ text.old.items ++ (comma is_first ++ standing_object (node, standing))) }
 {
     if !is_first {
         text.extend_from_slice(b",")?;
     }
-    text.extend_from_slice(b"{\"node\":")?;
-    put_number(alloc, text, node as u64)?;
-    text.extend_from_slice(b",\"indication\":\"")?;
-    text.extend_from_slice(word_of(indication).as_bytes())?;
-    text.extend_from_slice(b"\"}")
+    text.extend_from_slice(b"{")?;
+    put_indication(alloc, text, node, standing.indication)?;
+    text.extend_from_slice(known_member(standing.known).as_bytes())?;
+    text.extend_from_slice(b"}")
 }
 
 /// Writes what is said of all nodes, parted by commas.
 fn put_objects(
     alloc: Global,
     text: &mut Vec<u8>,
-    standings: &BTreeMap<u32, Indication>,
+    standings: &BTreeMap<u32, Standing>,
 ) -> Result<(), AllocError>
     ensures { OnOk result (text.new.items ≡ text.old.items ++ join_by standing_object (codes ",") standings.now.entries) }
 {
     let mut is_first = true;
-    for (node, indication) in standings.iter() {
-        put_object(alloc, text, is_first, *node, *indication)?;
+    for (node, standing) in standings.iter() {
+        put_object(alloc, text, is_first, *node, *standing)?;
         is_first = false;
     }
     Ok(())
 }
 
-fn lines_of(alloc: Global, standings: &BTreeMap<u32, Indication>) -> Result<Vec<u8>, AllocError>
+fn lines_of(alloc: Global, standings: &BTreeMap<u32, Standing>) -> Result<Vec<u8>, AllocError>
     ensures { IfOk result (λ text. text.items ≡ flat_map standing_line standings.now.entries) }
 {
     let mut text = Vec::new(alloc);
@@ -101,7 +138,7 @@ fn json_of(
     alloc: Global,
     program: &[u8],
     directory: &[u8],
-    standings: &BTreeMap<u32, Indication>,
+    standings: &BTreeMap<u32, Standing>,
 ) -> Result<Vec<u8>, AllocError>
     ensures { IfOk result (λ text. text.items ≡ standings_json program.now directory.now standings.now.entries) }
 {
@@ -118,13 +155,13 @@ fn json_of(
 }
 
 /// What is said of each node, ascending by their numbers, under the program of this name and the directory of this text: JSON tells the
-/// name and the text's SHA-256 value, lines tell neither. The name is to have no character that JSON escapes. It is refused memory alone.
+/// name, the text's SHA-256 value and of which nodes anything is known, lines tell none of these. The name is to have no character that JSON escapes. It is refused memory alone.
 pub fn standings_text(
     alloc: Global,
     style: Style,
     program: &[u8],
     directory: &[u8],
-    standings: &BTreeMap<u32, Indication>,
+    standings: &BTreeMap<u32, Standing>,
 ) -> Result<Vec<u8>, AllocError>
     ensures { IfOk result (λ text. text.items ≡ standings_text style program.now directory.now standings.now.entries) }
 {

@@ -1,6 +1,6 @@
 //! Answers as they are written. The digests are those of `hashlib`.
 
-use answers::{Style, TextForm, conviction_text, shown_of, standings_text};
+use answers::{Standing, Style, TextForm, conviction_text, shown_of, standings_text};
 use authenticators::NodeId;
 use evidence_set::Indication;
 use std::alloc::Global;
@@ -61,12 +61,18 @@ fn forms_are_known(rt: HostRuntime) {
     }
 }
 
-/// What is said of three nodes under a program and a directory, in a style.
+/// What is said of a node.
+fn standing(indication: Indication, known: bool) -> Standing {
+    Standing { indication, known }
+}
+
+/// What is said of four nodes under a program and a directory, in a style.
 fn standings(alloc: Global, style: Style) -> Result<Vec<u8>, Fail> {
     let mut standings = BTreeMap::new(alloc);
-    standings.insert(7, Indication::Exposed)?;
-    standings.insert(1, Indication::Trusted)?;
-    standings.insert(2, Indication::Suspected)?;
+    standings.insert(7, standing(Indication::Exposed, true))?;
+    standings.insert(1, standing(Indication::Trusted, true))?;
+    standings.insert(2, standing(Indication::Suspected, true))?;
+    standings.insert(3, standing(Indication::Trusted, false))?;
     let text = standings_text(alloc, style, b"tally", b"PRDIREC2\0\0\0\0", &standings)?;
     Ok(text)
 }
@@ -76,8 +82,8 @@ fn standings_are_written(rt: HostRuntime) -> Result<(), Fail> {
     let lines = standings(rt.alloc(), Style::Lines)?;
     let json = standings(rt.alloc(), Style::Json)?;
     let wanted =
-        "{\"program\":\"tally\",\"directory\":\"cb5782b6e4a1735b17de2bb1a8f9b265b551ebc1ebf0a6726036c92377bf6517\",\"nodes\":[{\"node\":1,\"indication\":\"trusted\"},{\"node\":2,\"indication\":\"suspected\"},{\"node\":7,\"indication\":\"exposed\"}]}\n";
-    assert!(rt; lines.as_slice() == b"1 trusted\n2 suspected\n7 exposed\n".as_slice());
+        "{\"program\":\"tally\",\"directory\":\"cb5782b6e4a1735b17de2bb1a8f9b265b551ebc1ebf0a6726036c92377bf6517\",\"nodes\":[{\"node\":1,\"indication\":\"trusted\",\"known\":true},{\"node\":2,\"indication\":\"suspected\",\"known\":true},{\"node\":3,\"indication\":\"trusted\",\"known\":false},{\"node\":7,\"indication\":\"exposed\",\"known\":true}]}\n";
+    assert!(rt; lines.as_slice() == b"1 trusted\n2 suspected\n3 trusted\n7 exposed\n".as_slice());
     assert!(rt; json.as_slice() == wanted.as_bytes());
     Ok(())
 }
