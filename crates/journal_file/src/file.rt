@@ -1,6 +1,6 @@
 //! The file: each call on it is noted with its answer.
 
-ghost use Rattle.std.specs.Prelude.{◌≡◌, ◌<◌, ◌≤◌, ◌^◌, [], length, true, false, None, IfOk, IfSome};
+ghost use Rattle.std.specs.Prelude.{◌≡◌, ◌+◌, ◌<◌, ◌≤◌, ◌^◌, [], length, true, false, None, IfOk, IfSome};
 ghost use Rattle.journal_file.specs.Events.{seen_after};
 
 use crate::record::Record;
@@ -116,6 +116,15 @@ impl FileDevice {
         })
     }
 
+    /// How many bytes a read of so many gives: fewer only where they are the last ones.
+    fn next_len(&self, most: usize) -> usize
+        ensures most { result ≤ most }
+        ensures within { self.now.read + result ≤ self.now.len }
+        ensures end { result < most → self.now.read + result ≡ self.now.len }
+    {
+        least(most, self.len - self.read)
+    }
+
     /// Whether a write may be made: all was read, no call has failed whose effect isn't known.
     fn may_write(&self) -> bool
         ensures all { result ≡ true → self.now.is_reading ≡ true → self.now.read ≡ self.now.len }
@@ -169,7 +178,7 @@ impl Device for FileDevice {
             self.record.note(&[FAILED, 0], &[]);
             return Err(DeviceFault::Failed);
         }
-        let want = least(most, self.len - self.read);
+        let want = self.next_len(most);
         let mut piece = vec![in alloc; 0u8; want]?;
         if self
             .file
