@@ -8,7 +8,6 @@ use journal::{Device, DeviceFault};
 use std::alloc::Global;
 use std::fs::{File, OpenOptions};
 use std::io;
-use std::os::fd::AsRawFd;
 use std::os::unix::fs::{FileExt, OpenOptionsExt};
 
 const FOUND: u64 = 0;
@@ -44,8 +43,7 @@ pub struct FileDevice {
     ghost size: { is_reading ≡ true → length (seen_after record.events) ≡ read },
 }
 
-/// Opens the file, or makes it, and locks it. It and its folder are synced, and the kernel's copies of its pages are dropped: an earlier
-/// process's failed sync may have left them other than the disk has them.
+/// Opens the file, or makes it, and locks it. It and its folder are synced.
 fn open_synced(rt: &HostRuntime, path: &str) -> io::Result<File> {
     let file = OpenOptions::new()
         .read(true)
@@ -57,10 +55,6 @@ fn open_synced(rt: &HostRuntime, path: &str) -> io::Result<File> {
         return Err(io::Error::from(io::ErrorKind::WouldBlock));
     }
     file.sync_all()?;
-    let advised = libc::posix_fadvise(file.as_raw_fd(), 0, 0, libc::POSIX_FADV_DONTNEED);
-    if advised != 0 {
-        return Err(io::Error::from_raw_os_error(advised));
-    }
     sync_folder(rt, path)?;
     Ok(file)
 }
