@@ -1,10 +1,11 @@
 -- The nodes of a directory, and which of them are exposed.
 use borrow.Author.Count.{below_more}
-use Rattle.std.proofs.Common.{◌≡◌, ◌∙◌, ◌+◌, ◌<◌, ◌≤◌, ℕ, zero, suc, Bool, true, false, cond, List, [], ◌∷◌, length, get_or, Option, Some, nat_eq, refl, sym, ap, subst, arith, eq-eqb}
-use Rattle.std.specs.Prelude.{map, IsSome, IsTrue, ◌↔◌}
+use Rattle.std.proofs.Common.{◌≡◌, ◌∙◌, ◌+◌, ◌<◌, ◌≤◌, ◌||◌, ℕ, zero, suc, Bool, true, false, cond, List, [], ◌∷◌, length, get_or, Option, Some, nat_eq, refl, sym, ap, subst, arith, eq-eqb}
+use Rattle.std.specs.Prelude.{map, is_some, IsSome, IsTrue, ◌↔◌}
+use Rattle.std.specs.List.{list_any}
 use Rattle.std.proofs.lemmas.Bool.{eqb-true}
 use Rattle.std.proofs.lemmas.Grind.{get_or_default_zero}
-use Rattle.authenticators.specs.Directory.{Listing, keys_at}
+use Rattle.authenticators.specs.Directory.{Listing, is_listed, keys_at}
 use Rattle.replay_verifier.specs.Meaning.{Meaning}
 use Rattle.evidence_set.specs.declared.indication.Indication.{Indication}
 use Rattle.evidence_set.specs.declared.indication.Indication.TheVariants.{Trusted, Suspected, Exposed}
@@ -28,6 +29,16 @@ pub listed_at : (ds : Listing) (k node : ℕ) → k < length (numbers ds) → ge
 listed_at [] k node below is = absurd (omega (arith, below))
 listed_at (p ∷ ps) zero node below is = here (nat_eq node p.0) p.1 (keys_at ps node) (eq-eqb node p.0 (sym is))
 listed_at (p ∷ ps) (suc k) node below is = behind (nat_eq node p.0) p.1 (keys_at ps node) (listed_at ps k node (omega (arith, below)) is)
+
+-- ---- a node is listed where its number is among those of the directory
+
+any_or : {K : Type 0} (node : ℕ) (key : K) (rest : Option K) (ns : List ℕ) (b : Bool) → is_some rest ≡ list_any (nat_eq node) ns → is_some (cond b (Some key) rest) ≡ (b || list_any (nat_eq node) ns)
+any_or node key rest ns true h = refl
+any_or node key rest ns false h = h
+
+pub listed_any : (node : ℕ) (ds : Listing) → is_listed ds node ≡ list_any (nat_eq node) (numbers ds)
+listed_any node [] = refl
+listed_any node (p ∷ ps) = any_or node p.1 (keys_at ps node) (numbers ps) (nat_eq node p.0) (listed_any node ps)
 
 -- ---- a listed node stands at a place
 

@@ -10,12 +10,13 @@ use Rattle.std.proofs.lemmas.Map.Keys.{sorted_from_strictly_increasing}
 use Rattle.authenticators.specs.Directory.{Listing}
 use Rattle.authenticators.proofs.AscendingLists.{same_elements}
 use Rattle.replay_verifier.specs.Meaning.{Meaning}
-use Rattle.evidence_set.specs.declared.indication.Indication.{Indication}
-use Rattle.evidence_set.specs.Indications.{IndicationsAreOne, IsIndication}
+use Rattle.evidence_set.specs.Indications.{IndicationsAreOne}
 use Rattle.evidence_set.specs.ItemSets.{Items}
+use Rattle.answers.specs.declared.standings.Standing.{Standing}
 use Rattle.answers.specs.declared.style.Style.{Style}
 use Rattle.answers.specs.Texts.{standings_text}
 use Rattle.localities.specs.Extracts.{ExtractsIndicate, IsExtract}
+use Rattle.localities.specs.Known.{KnownAsExpected}
 use Rattle.localities.specs.Shards.{in_turn}
 use Rattle.shards.specs.Extracts.{QuotesAsExpected, own_shard}
 use Rattle.operating.specs.declared.asking.Ending.{Ending}
@@ -23,27 +24,40 @@ use Rattle.operating.specs.declared.asking.Ending.TheVariants as ending
 use Rattle.operating.specs.declared.scope.Scope.{Scope}
 use Rattle.operating.specs.declared.scope.Scope.TheVariants as scope
 use Rattle.operating.specs.GatheredFiles.{under}
-use Rattle.operating.specs.Questions.{AreStandings, ExposesSomebody, ExtractsAreTold, IsEnding, Status, asked, is_asked}
+use Rattle.operating.specs.Questions.{AreStandings, ExposesSomebody, ExtractsAreTold, IsEnding, IsStanding, Status, asked, is_asked}
 
 abbrev Row : Type 0
-Row = ℕ × Indication
+Row = ℕ × Standing
 
 abbrev number : Row → ℕ
 number row = row.0
 
-module _ {S : Type 0} (one : IndicationsAreOne S) (extracts : ExtractsIndicate S) (program : Meaning S) (ds : Listing) (E X : Items) (among : Scope) (each : (j : ℕ) → IsTrue (is_asked among j) → IsExtract ds j E X) where
+same_truth : (a b : Bool) → (IsTrue a → IsTrue b) → (IsTrue b → IsTrue a) → a ≡ b
+same_truth true b to from = sym (to refl)
+same_truth false true to from = from refl
+same_truth false false to from = refl
+
+same_standing : (a b : Standing) → a.indication ≡ b.indication → a.known ≡ b.known → a ≡ b
+same_standing a b indication known = λ i. record { indication = indication i; known = known i }
+
+module _ {S : Type 0} (one : IndicationsAreOne S) (extracts : ExtractsIndicate S) (knows : KnownAsExpected) (program : Meaning S) (ds : Listing) (E X : Items) (among : Scope) (each : (j : ℕ) → IsTrue (is_asked among j) → IsExtract ds j E X) where
   abbrev Whole : Row → Type 0
-  Whole row = IsIndication ds program E row.0 row.1
+  Whole row = IsStanding program (record { directory = ds; items = E }) row.0 row.1
 
   abbrev Own : Row → Type 0
-  Own row = IsIndication ds program X row.0 row.1
+  Own row = IsStanding program (record { directory = ds; items = X }) row.0 row.1
+
+  same_told : (j : ℕ) (x y : Standing) → IsTrue (is_asked among j) → Whole (j, x) → Own (j, y) → x ≡ y
+  same_told j x y in_scope whole own =
+      let told : x.indication ≡ y.indication = one ds program E j x.indication y.indication whole.indication ((extracts.indication ds program j E X (each j in_scope) y.indication).0 own.indication) in
+      let alike = knows.extract ds j E X (each j in_scope) in
+      same_standing x y told (same_truth x.known y.known (λ t. own.known.1 (alike.1 (whole.known.0 t))) (λ t. whole.known.1 (alike.0 (own.known.0 t))))
 
   same_row : (a b : Row) → IsTrue (is_asked among a.0) → a.0 ≡ b.0 → Whole a → Own b → a ≡ b
   same_row a b in_scope same whole own =
-      let here : IsIndication ds program X a.0 b.1 = subst (λ (j : ℕ). IsIndication ds program X j b.1) (sym same) own in
-      let there : IsIndication ds program E a.0 b.1 = (extracts.indication ds program a.0 E X (each a.0 in_scope) b.1).0 here in
-      let told : a.1 ≡ b.1 = one ds program E a.0 a.1 b.1 whole there in
-      ap (λ (j : ℕ). let row : Row = (j, a.1) in row) same ∙ ap (λ (i : Indication). let row : Row = (b.0, i) in row) told
+      let here : Own (a.0, b.1) = subst (λ (j : ℕ). Own (j, b.1)) (sym same) own in
+      let told : a.1 ≡ b.1 = same_told a.0 a.1 b.1 in_scope whole here in
+      ap (λ (j : ℕ). let row : Row = (j, a.1) in row) same ∙ ap (λ (x : Standing). let row : Row = (b.0, x) in row) told
 
   kept_step : (t : Bool) (a b : Row) (xs ys : List Row) → is_asked among a.0 ≡ t → a.0 ≡ b.0 → Whole a → Own b → xs ≡ ys → cond t (a ∷ xs) xs ≡ cond t (b ∷ ys) ys
   kept_step true a b xs ys is same whole own more = ap (λ (row : Row). row ∷ xs) (same_row a b is same whole own) ∙ ap (λ (rows : List Row). b ∷ rows) more
@@ -98,12 +112,12 @@ module _ {S : Type 0} (one : IndicationsAreOne S) (extracts : ExtractsIndicate S
       let ends : a.1 ≡ b.1 = same_ending a.1 b.1 last own_last in
       ap (λ (t : List ℕ). let r : List ℕ × Ending = (t, a.1) in r) told ∙ ap (λ (e : Ending). let r : List ℕ × Ending = (b.0, e) in r) ends
 
-pub are_told : {S : Type 0} → IndicationsAreOne S → ExtractsIndicate S → QuotesAsExpected → ExtractsAreTold S
-are_told one extracts quotes = record {
+pub are_told : {S : Type 0} → IndicationsAreOne S → ExtractsIndicate S → KnownAsExpected → QuotesAsExpected → ExtractsAreTold S
+are_told one extracts knows quotes = record {
   answer = λ style name directory program shards k s t a b same each whole own.
-      same_answer one extracts program s.directory s.items t.items (scope.Shard shards k) (λ j in_scope. each j (eqb-true (in_turn shards j) k in_scope)) style name directory a b whole
+      same_answer one extracts knows program s.directory s.items t.items (scope.Shard shards k) (λ j in_scope. each j (eqb-true (in_turn shards j) k in_scope)) style name directory a b whole
       (subst (λ (ds : Listing). Status style name (scope.Shard shards k) program (under directory (record { directory = ds; items = t.items })) (Ok b)) (sym same) own);
   shard = λ style name directory program shards k s X a b adds whole own.
-      same_answer one extracts program s.directory s.items (own_shard (in_turn shards) k X) (scope.Shard shards k)
+      same_answer one extracts knows program s.directory s.items (own_shard (in_turn shards) k X) (scope.Shard shards k)
       (λ j in_scope. subst (λ (n : ℕ). IsExtract s.directory j s.items (own_shard (in_turn shards) n X)) (eqb-true (in_turn shards j) k in_scope) (quotes.extract s.directory (in_turn shards) s.items X j adds)) style name directory a b whole own;
 }

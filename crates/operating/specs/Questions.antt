@@ -3,6 +3,7 @@ use Rattle.std.specs.Prelude.{ℕ, ◌≡◌, ◌↔◌, ◌==◌, Bool, true, L
 use Rattle.std.specs.List.{filter}
 use Rattle.std.specs.List.Sorted.{IsStrictlyIncreasing}
 use Rattle.answers.specs.declared.showing.Shown.{Shown}
+use Rattle.answers.specs.declared.standings.Standing.{Standing}
 use Rattle.answers.specs.declared.style.Style.{Style}
 use Rattle.answers.specs.declared.style.Style.TheVariants as style
 use Rattle.answers.specs.Showing.{IsShown}
@@ -14,9 +15,9 @@ use Rattle.proofs.specs.ProofTexts.{proof_text}
 use Rattle.evidence.specs.Exports.{export_of}
 use Rattle.evidence_set.specs.Indications.{IsExposed, IsIndication}
 use Rattle.evidence_set.specs.ItemSets.{Items}
-use Rattle.evidence_set.specs.declared.indication.Indication.{Indication}
 use Rattle.evidence.specs.Contents.{Contents, with_items}
 use Rattle.localities.specs.Extracts.{IsExtract}
+use Rattle.localities.specs.Known.{IsKnown}
 use Rattle.localities.specs.Shards.{in_turn}
 use Rattle.shards.specs.Extracts.{AddsQuotes, own_shard}
 use Rattle.commands.specs.declared.fault.Fault.{Fault}
@@ -44,20 +45,25 @@ IsEnding scope program s ending.Exposed = ExposesSomebody scope program s
 IsEnding scope program s ending.Done = ¬ ExposesSomebody scope program s
 IsEnding scope program s ending.NoProof = ⊥
 
+-- What the items say of a node: its indication, and whether anything is known of it.
+pub record IsStanding {S : Type 0} (program : Meaning S) (s : Contents) (node : ℕ) (x : Standing) : Type 0 where
+  pub indication : IsIndication s.directory program s.items node x.indication
+  pub known : IsTrue x.known ↔ IsKnown s.directory s.items node
+
 -- What the items say of each listed node, and of no other, in ascending order of the numbers.
-pub record AreStandings {S : Type 0} (program : Meaning S) (s : Contents) (rows : List (ℕ × Indication)) : Type 0 where
+pub record AreStandings {S : Type 0} (program : Meaning S) (s : Contents) (rows : List (ℕ × Standing)) : Type 0 where
   pub ascending : IsStrictlyIncreasing (map (λ row. row.0) rows)
   pub complete : (node : ℕ) → Contains (map (λ row. row.0) rows) node ↔ IsSome (keys_at s.directory node)
-  pub right : All (λ row. IsIndication s.directory program s.items row.0 row.1) rows
+  pub right : All (λ row. IsStanding program s row.0 row.1) rows
 
 -- Of these rows those of the nodes that are asked of.
-abbrev pub asked : Scope → List (ℕ × Indication) → List (ℕ × Indication)
+abbrev pub asked : Scope → List (ℕ × Standing) → List (ℕ × Standing)
 asked scope rows = filter (λ row. is_asked scope row.0) rows
 
 -- `status`: of the standings those of the nodes that are asked of, under the program of this name, as they are written in this style. It is
 -- never refused.
 abbrev pub Status : {S : Type 0} → Style → List ℕ → Scope → Meaning S → Collected → Result (List ℕ × Ending) Fault → Type 0
-Status style name scope program c (Ok told) = (rows : List (ℕ × Indication)) × AreStandings program c.contents rows × (told.0 ≡ standings_text style name c.directory (asked scope rows)) × IsEnding scope program c.contents told.1
+Status style name scope program c (Ok told) = (rows : List (ℕ × Standing)) × AreStandings program c.contents rows × (told.0 ≡ standings_text style name c.directory (asked scope rows)) × IsEnding scope program c.contents told.1
 Status style name scope program c (Err f) = ⊥
 
 -- `merge`: the text of the set of all items. It is never refused.

@@ -3,8 +3,8 @@
 ghost use Rattle.std.specs.Prelude.{◌≡◌};
 ghost use Rattle.operating.specs.Questions.{asked, is_asked};
 
+use answers::Standing;
 use authenticators::NodeId;
-use evidence_set::Indication;
 use shards::Shards;
 use std::collections::BTreeMap;
 
@@ -30,7 +30,7 @@ impl Scope {
     }
 
     /// Leaves what is said of the nodes that are asked of.
-    pub(crate) fn keep(&self, standings: &mut BTreeMap<u32, Indication>)
+    pub(crate) fn keep(&self, standings: &mut BTreeMap<u32, Standing>)
         ensures { standings.new.entries ≡ asked self.now standings.old.entries }
     {
         standings.retain(|node, _| self.asks(NodeId(*node)));

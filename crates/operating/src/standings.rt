@@ -1,32 +1,65 @@
 //! What evidence says of each node.
 
-ghost use Rattle.std.specs.Prelude.{IfOk};
-ghost use Rattle.std.specs.BTreeMap.{IsOrdered};
+ghost use Rattle.std.specs.Prelude.{◌≡◌, ℕ, IfOk, IsSome, Some, is_some};
+ghost use Rattle.std.specs.BTreeMap.{IsOrdered, get};
 ghost use Rattle.std.specs.Ordering.{nat_cmp};
-ghost use Rattle.operating.specs.Questions.{AreStandings};
+ghost use Rattle.answers.specs.declared.standings.Standing.{Standing as TheStanding};
+ghost use Rattle.authenticators.specs.Directory.{is_listed, keys_at};
+ghost use Rattle.operating.specs.Questions.{AreStandings, IsStanding};
 
-use commands::report::indications_of;
+use answers::Standing;
+use authenticators::NodeId;
+use commands::Store;
 use evidence::Evidence;
-use evidence_set::Indication;
 use replay_verifier::Program;
 use std::alloc::{AllocError, Global};
 use std::collections::BTreeMap;
 
 /// A map is in ascending order.
-fn is_ordered(indications: &BTreeMap<u32, Indication>)
-    ensures { IsOrdered nat_cmp indications.now }
+fn is_ordered(standings: &BTreeMap<u32, Standing>)
+    ensures { IsOrdered nat_cmp standings.now }
 {
-    let _ = indications.len();
+    let _ = standings.len();
+}
+
+/// What the evidence says of a listed node.
+fn standing_of<P: Program>(store: &Store<P>, node: NodeId) -> Standing
+    requires { IsSome (keys_at store.now.directory node) }
+    ensures { IsStanding P.means store.now node result }
+{
+    let Ok(indication) = store.indication(node) else {
+        unreachable!()
+    };
+    Standing {
+        indication,
+        known: store.knows(node),
+    }
+}
+
+/// The same of each node of its directory, by its number.
+fn each_standing<P: Program>(
+    alloc: Global,
+    store: &Store<P>,
+) -> Result<BTreeMap<u32, Standing>, AllocError>
+    ensures listed { IfOk result (λ m. (node : ℕ) → is_some (get nat_cmp m node) ≡ is_listed store.now.directory node) }
+    ensures right { IfOk result (λ m. (node : ℕ) (x : TheStanding) → get nat_cmp m node ≡ Some x → IsStanding P.means store.now node x) }
+{
+    let mut standings = BTreeMap::new(alloc);
+    for node in store.directory().nodes() {
+        let standing = standing_of(store, *node);
+        standings.insert(node.0, standing)?;
+    }
+    Ok(standings)
 }
 
 /// What the evidence says of each node of its directory, ascending. It is refused memory alone.
-pub(crate) fn standings_of<P: Program, S: Evidence<P>>(
+pub(crate) fn standings_of<P: Program>(
     alloc: Global,
-    store: &S,
-) -> Result<BTreeMap<u32, Indication>, AllocError>
-    ensures { IfOk result (λ m. AreStandings P.means (S.contents store.now) m.entries) }
+    store: &Store<P>,
+) -> Result<BTreeMap<u32, Standing>, AllocError>
+    ensures { IfOk result (λ m. AreStandings P.means store.now m.entries) }
 {
-    let standings = indications_of::<P, S>(alloc, store)?;
+    let standings = each_standing(alloc, store)?;
     is_ordered(&standings);
     Ok(standings)
 }

@@ -84,20 +84,21 @@ pub fn ending_of<P: Program, S: Evidence<P>>(store: &S, scope: &Scope) -> Ending
     }
 }
 
-impl<'a, P: Program, S: Evidence<P>> Question<P, S> for Reporting<'a> {
+impl<'a, P: Program> Question<P, Store<P>> for Reporting<'a> {
     ghost means = { λ q. Status q.style q.name.now q.scope P.means };
 
-    fn answer(&self, alloc: Global, read: &Gathered<S>) -> Result<Answer, Fault> {
-        let mut standings = standings_of::<P, S>(alloc, &read.store)?;
+    fn answer(&self, alloc: Global, read: &Gathered<Store<P>>) -> Result<Answer, Fault> {
+        let mut standings = standings_of(alloc, &read.store)?;
         self.scope.keep(&mut standings);
         let text = standings_text(alloc, self.style, self.name, &read.directory, &standings)?;
-        let ending = ending_of::<P, S>(&read.store, &self.scope);
+        let ending = ending_of::<P, Store<P>>(&read.store, &self.scope);
         Ok(Answer { text, ending })
     }
 }
 
 /// Reads a directory and so many stores, and writes in this style what the items of all stores say of each node of the directory that is
-/// asked of, under the program of this name: nothing else, and in one write, once everything has been decided.
+/// asked of, under the program of this name, and as JSON whether anything is known of it: nothing else, and in one write, once everything
+/// has been decided.
 pub fn run<R: Threads + Sync, P: Program + Send + Sync, O: Opener, F: StoreWatcher, W: Sink>(
     reading: &Reading<'_, R, P>,
     reporting: &Reporting<'_>,

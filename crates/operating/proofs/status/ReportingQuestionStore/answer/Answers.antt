@@ -1,7 +1,7 @@
 use Rattle.std.proofs.Common.{◌∙◌, ℕ, List, ap}
 use Rattle.answers.specs.Texts.{standings_text}
 use Rattle.operating.specs.Questions.{asked}
-use Rattle.operating.proofs.status.ReportingQuestion.answer.Goals as goal
+use Rattle.operating.proofs.status.ReportingQuestionStore.answer.Goals as goal
 
 pub returns-clause-told : goal.returns-clause-told
 returns-clause-told g c =
