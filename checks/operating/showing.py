@@ -1,10 +1,16 @@
-"""Holds what `bulwynef show` says of files to their fields and to `hashlib`, JSON to the lines, and what `play` leaves to what `node_sim run` says."""
+"""Holds what `bulwynef show` says of files to their fields and to `hashlib`, JSON to the lines and to the items that second_opinion/check.py reads, and
+what `play` leaves to what `node_sim run` says."""
 
 import hashlib
 import json
 import os
+import sys
 
 TOP = os.path.dirname(os.path.dirname(os.path.dirname(os.path.abspath(__file__))))
+sys.path[:0] = [f"{TOP}/second_opinion"]
+
+from check import Evidence, read_directory, read_store
+
 EXAMPLES = f"{TOP}/examples"
 NODE_SIM = f"{TOP}/crates/node_sim/out/node_sim"
 
@@ -122,8 +128,15 @@ def hold_shows(hold, run, build, folder):
 # ---- JSON, and the lines
 
 
+def known_by(directory, store):
+    """The nodes of which something is known: whose statements the items hold, those that segments quote genuinely too, and whom challenges are against."""
+    nodes = read_directory(directory)
+    evidence = Evidence(nodes, None, read_store(nodes, store).values())
+    return {it.node for it in [*evidence.held, *evidence.audits, *evidence.sends]}
+
+
 def hold_json(hold, run, build, folder):
-    files = EXAMPLES
+    files, seen = EXAMPLES, set()
     for name in sorted(os.listdir(files)):
         directory = f"{files}/{name.removesuffix('.store')}.dir"
         directory = directory if os.path.isfile(directory) else f"{files}/nodes.dir"
@@ -132,9 +145,13 @@ def hold_json(hold, run, build, folder):
             lines, document = run([build, "status", *words]), run([build, "status", "--json", *words])
             rows = [line.split() for line in lines[1].decode().splitlines()]
             basis = {"program": "tally", "directory": hashlib.sha256(read(directory)).hexdigest()}
-            told = {**basis, "nodes": [{"node": int(node), "indication": word} for node, word in rows]}
+            known = known_by(read(directory), read(f"{files}/{name}"))
+            told = {**basis, "nodes": [{"node": int(node), "indication": word, "known": int(node) in known} for node, word in rows]}
+            seen |= {(word, int(node) in known) for node, word in rows}
             hold(f"status of {name} tells the same basis", lines[2].decode() == "program {program}\ndirectory {directory}\n".format(**basis) and document[2] == b"", (lines, document))
             hold(f"status --json of {name}", document[0] == lines[0] and json.loads(document[1]) == told and document[1].endswith(b"}\n"), document)
+    hold("trusted nodes of which something is known, and nothing", {("trusted", True), ("trusted", False)} <= seen, seen)
+    hold("who is suspected or exposed is known", not {("suspected", False), ("exposed", False)} & seen, seen)
     found = run([build, "check", "--json", "--program", "tally", "--directory", f"{files}/nodes.dir", f"{files}/wrong_output.proof"])
     digest = hashlib.sha256(read(f"{files}/nodes.dir")).hexdigest()
     says = {"exposes": 2, "program": "tally", "directory": digest}
