@@ -1,10 +1,12 @@
 use Rattle.std.proofs.Common.{◌≡◌, ℕ, ◌+◌, ◌-◌, ◌≤◌, List, [], ◌∷◌, ◌++◌, length, take, drop, length-drop, refl, sym, ◌∙◌, ap, arith}
 use Rattle.std.proofs.lemmas.List.{take_all, drop_at, length-take-le}
 use Rattle.std.proofs.Common.{append_assoc, take-append-drop}
-use Rattle.journal.specs.Journal.{recovered, StandsFor}
+use Rattle.journal.specs.Device.{Elapses, Follows, Holds, LeavesOnly, Torn}
+use Rattle.journal.specs.Journal.{recovered, IsClosed, IsSameToGate, IsSettled, StandsFor}
 use Rattle.journal.specs.declared.blocks.TheConstants.{MOST_GROUP}
+use Rattle.journal.specs.declared.journal.Journal.{Journal}
 use Rattle.journal.proofs.Closed.{torn_each, closed_at, same_at, started_at}
-use Rattle.journal.proofs.Gate.{torn_front, rests, length-rests, gated_then, written_behind, behind_same}
+use Rattle.journal.proofs.Gate.{Gated, torn_front, rests, length-rests, gated_then, written_behind, behind_same}
 use Rattle.journal.proofs.Moments.{goes_on}
 use Rattle.journal.proofs.journal.Journal.stage.Goals as goal
 
@@ -24,101 +26,97 @@ staged_is file bytes group end gate le is =
     ∙ ap (λ (l : List ℕ). l ++ bytes) gate
     ∙ ap (λ (l : List ℕ). 0 ∷ l) is
 
+module _ {D : Type 0} {seen : D → List ℕ} {may_leave : D → List ℕ → Type 0} {journal : Journal D} (settled : IsSettled seen may_leave journal) where
+  abbrev file : List ℕ
+  file = seen journal.device
+
+  long : length file ≡ journal.end + 1
+  long = length-rests file journal.end settled.end settled.rest
+
+  gated : Gated (recovered file) journal.end file
+  gated = rests file journal.end settled.end settled.rest
+
+  -- what stands to the gate, after a write behind it that stopped and after a whole one
+  stopped : (n : ℕ) (new : List ℕ) → Torn (journal.end + 1) n file new → take (journal.end + 1) new ≡ take (journal.end + 1) file
+  stopped n new torn = torn_front (journal.end + 1) n file new (omega (arith, long)) torn
+
+  whole : (group written new : List ℕ) → length group ≤ 1 + MOST_GROUP → Holds file (journal.end + 1) (take (length group - 1) (drop 1 group)) written → new ≡ written → take (journal.end + 1) new ≡ take (journal.end + 1) file
+  whole group written new few holds is =
+      ap (λ (l : List ℕ). take (journal.end + 1) l) (is ∙ written_behind file _ written journal.end long holds)
+      ∙ (behind_same file _ journal.end long (rest_few group few)).front
+
+  each : (group : List ℕ) (new : List ℕ → Type 0) → length group ≤ 1 + MOST_GROUP → Follows (Torn (journal.end + 1) (length (take (length group - 1) (drop 1 group)))) (may_leave journal.device) new → (c : List ℕ) → new c → IsSameToGate journal.end file c
+  each group new few follows = torn_each journal.end _ file _ new long (rest_few group few) settled.durable follows
+
+  closed : (device : D) → take (journal.end + 1) (seen device) ≡ take (journal.end + 1) file → ((c : List ℕ) → may_leave device c → IsSameToGate journal.end file c) → IsClosed seen may_leave (record { device = device; end = journal.end })
+  closed = closed_at seen may_leave journal.end file settled.end settled.small gated
+
+  same : (device : D) → take (journal.end + 1) (seen device) ≡ take (journal.end + 1) file → recovered (seen device) ≡ recovered file
+  same = same_at seen may_leave journal.end file settled.end settled.small gated
+
+  module _ (moment : D → ℕ) (left_since : D → ℕ → List ℕ → Type 0) where
+    begun : ((f : D) (c : List ℕ) → left_since f (moment f) c → may_leave f c) → LeavesOnly moment left_since journal.device journal.device (StandsFor (recovered file))
+    begun only_now = started_at moment left_since may_leave only_now journal.device (StandsFor (recovered file)) here
+      where
+        here : (c : List ℕ) → may_leave journal.device c → StandsFor (recovered file) c
+        here c now = gated_then (recovered file) journal.end file c gated (record { front = ap (λ (l : List ℕ). take (journal.end + 1) l) (settled.durable c now); behind = omega (arith, long, ap length (settled.durable c now)) })
+
+    goes : (mid new : D) → LeavesOnly moment left_since journal.device mid (StandsFor (recovered file)) → Elapses (moment mid) (moment new) (left_since mid) (left_since new) (may_leave new) → ((c : List ℕ) → may_leave new c → IsSameToGate journal.end file c) → LeavesOnly moment left_since journal.device new (StandsFor (recovered file))
+    goes mid new so_far time outcomes = goes_on moment left_since journal.device mid new (StandsFor (recovered file)) (may_leave new) so_far time (λ c now. gated_then (recovered file) journal.end file c gated (outcomes c now))
+
 pub overflow_add-self : goal.overflow_add-self
 overflow_add-self g c = let small = c.requires.settled.small in omega (arith, small)
 
 pub returns-in_err-write_at-clause-closed : goal.returns-in_err-write_at-clause-closed
 returns-in_err-write_at-clause-closed g c =
     let s = c.requires.settled in
-    let end = c.args.self.now.end in
-    let file = g.D.Device.seen c.args.self.now.device in
-    let few = rest_few c.args.group.now c.requires.size.1 in
-    let long = length-rests file end s.end s.rest in
-    let each = torn_each end _ file _ _ long few s.durable c.write_at.ensures.crash in
-    closed_at g.D.Device.seen g.D.Device.may_leave end file s.end s.small (rests file end s.end s.rest) c.write_at.new.self (torn_front (end + 1) _ file _ (omega (arith, long)) c.in_err-write_at.ensures.torn) each
+    let few = c.requires.size.1 in
+    closed s c.write_at.new.self (stopped s _ _ c.in_err-write_at.ensures.torn) (each s c.args.group.now _ few c.write_at.ensures.crash)
 
 pub returns-in_err-write_at-clause-same : goal.returns-in_err-write_at-clause-same
 returns-in_err-write_at-clause-same g c =
     let s = c.requires.settled in
-    let end = c.args.self.now.end in
-    let file = g.D.Device.seen c.args.self.now.device in
-    let long = length-rests file end s.end s.rest in
-    (refl, same_at g.D.Device.seen g.D.Device.may_leave end file s.end s.small (rests file end s.end s.rest) c.write_at.new.self (torn_front (end + 1) _ file _ (omega (arith, long)) c.in_err-write_at.ensures.torn))
+    (refl, same s c.write_at.new.self (stopped s _ _ c.in_err-write_at.ensures.torn))
 
 pub returns-in_err-write_at-clause-any_moment : goal.returns-in_err-write_at-clause-any_moment
 returns-in_err-write_at-clause-any_moment g c =
     let s = c.requires.settled in
-    let old = c.args.self.now.device in
-    let end = c.args.self.now.end in
-    let file = g.D.Device.seen old in
-    let few = rest_few c.args.group.now c.requires.size.1 in
-    let long = length-rests file end s.end s.rest in
-    let gated = rests file end s.end s.rest in
-    let each = torn_each end _ file _ _ long few s.durable c.write_at.ensures.crash in
-    let P = StandsFor (recovered file) in
-    let here : (f : List ℕ) → g.D.Device.may_leave old f → P f = λ f now. gated_then (recovered file) end file f gated (record { front = ap (λ (l : List ℕ). take (end + 1) l) (s.durable f now); behind = omega (arith, long, ap length (s.durable f now)) }) in
-    let start = started_at g.D.Device.moment g.D.Device.left_since g.D.Device.may_leave g.met.D.Device.only_now old P here in
-    goes_on g.D.Device.moment g.D.Device.left_since old old c.write_at.new.self P _ start c.write_at.ensures.time (λ f now. gated_then (recovered file) end file f gated (each f now))
+    let few = c.requires.size.1 in
+    let start = begun s g.D.Device.moment g.D.Device.left_since g.met.D.Device.only_now in
+    goes s g.D.Device.moment g.D.Device.left_since c.args.self.now.device c.write_at.new.self start c.write_at.ensures.time (each s c.args.group.now _ few c.write_at.ensures.crash)
 
 pub returns-in_err-sync-clause-closed : goal.returns-in_err-sync-clause-closed
 returns-in_err-sync-clause-closed g c =
     let s = c.requires.settled in
-    let end = c.args.self.now.end in
-    let file = g.D.Device.seen c.args.self.now.device in
-    let few = rest_few c.args.group.now c.requires.size.1 in
-    let long = length-rests file end s.end s.rest in
-    let each = torn_each end _ file _ _ long few s.durable c.write_at.ensures.crash in
-    let is = c.sync.ensures.seen ∙ written_behind file _ _ end long c.in_ok-write_at.ensures.written in
-    closed_at g.D.Device.seen g.D.Device.may_leave end file s.end s.small (rests file end s.end s.rest) c.sync.new.self
-    (ap (λ (l : List ℕ). take (end + 1) l) is ∙ (behind_same file _ end long few).front) (λ f now. each f (c.sync.ensures.crash f now))
+    let few = c.requires.size.1 in
+    let outcomes = each s c.args.group.now _ few c.write_at.ensures.crash in
+    closed s c.sync.new.self (whole s c.args.group.now _ _ few c.in_ok-write_at.ensures.written c.sync.ensures.seen) (λ f now. outcomes f (c.sync.ensures.crash f now))
 
 pub returns-in_err-sync-clause-same : goal.returns-in_err-sync-clause-same
 returns-in_err-sync-clause-same g c =
     let s = c.requires.settled in
-    let end = c.args.self.now.end in
-    let file = g.D.Device.seen c.args.self.now.device in
-    let few = rest_few c.args.group.now c.requires.size.1 in
-    let long = length-rests file end s.end s.rest in
-    let is = c.sync.ensures.seen ∙ written_behind file _ _ end long c.in_ok-write_at.ensures.written in
-    (refl, same_at g.D.Device.seen g.D.Device.may_leave end file s.end s.small (rests file end s.end s.rest) c.sync.new.self (ap (λ (l : List ℕ). take (end + 1) l) is ∙ (behind_same file _ end long few).front))
+    (refl, same s c.sync.new.self (whole s c.args.group.now _ _ c.requires.size.1 c.in_ok-write_at.ensures.written c.sync.ensures.seen))
 
 pub returns-in_err-sync-clause-any_moment : goal.returns-in_err-sync-clause-any_moment
 returns-in_err-sync-clause-any_moment g c =
     let s = c.requires.settled in
-    let old = c.args.self.now.device in
-    let end = c.args.self.now.end in
-    let file = g.D.Device.seen old in
-    let few = rest_few c.args.group.now c.requires.size.1 in
-    let long = length-rests file end s.end s.rest in
-    let gated = rests file end s.end s.rest in
-    let each = torn_each end _ file _ _ long few s.durable c.write_at.ensures.crash in
-    let P = StandsFor (recovered file) in
-    let here : (f : List ℕ) → g.D.Device.may_leave old f → P f = λ f now. gated_then (recovered file) end file f gated (record { front = ap (λ (l : List ℕ). take (end + 1) l) (s.durable f now); behind = omega (arith, long, ap length (s.durable f now)) }) in
-    let start = started_at g.D.Device.moment g.D.Device.left_since g.D.Device.may_leave g.met.D.Device.only_now old P here in
-    let written = goes_on g.D.Device.moment g.D.Device.left_since old old c.write_at.new.self P _ start c.write_at.ensures.time (λ f now. gated_then (recovered file) end file f gated (each f now)) in
-    goes_on g.D.Device.moment g.D.Device.left_since old c.write_at.new.self c.sync.new.self P _ written c.sync.ensures.time (λ f now. gated_then (recovered file) end file f gated (each f (c.sync.ensures.crash f now)))
+    let few = c.requires.size.1 in
+    let outcomes = each s c.args.group.now _ few c.write_at.ensures.crash in
+    let start = begun s g.D.Device.moment g.D.Device.left_since g.met.D.Device.only_now in
+    let written = goes s g.D.Device.moment g.D.Device.left_since c.args.self.now.device c.write_at.new.self start c.write_at.ensures.time outcomes in
+    goes s g.D.Device.moment g.D.Device.left_since c.write_at.new.self c.sync.new.self written c.sync.ensures.time (λ f now. outcomes f (c.sync.ensures.crash f now))
 
 pub returns-clause-closed : goal.returns-clause-closed
 returns-clause-closed g c =
     let s = c.requires.settled in
-    let end = c.args.self.now.end in
-    let file = g.D.Device.seen c.args.self.now.device in
-    let few = rest_few c.args.group.now c.requires.size.1 in
-    let long = length-rests file end s.end s.rest in
-    let each = torn_each end _ file _ _ long few s.durable c.write_at.ensures.crash in
-    let is = c.sync.ensures.seen ∙ written_behind file _ _ end long c.in_ok-write_at.ensures.written in
-    closed_at g.D.Device.seen g.D.Device.may_leave end file s.end s.small (rests file end s.end s.rest) c.sync.new.self
-    (ap (λ (l : List ℕ). take (end + 1) l) is ∙ (behind_same file _ end long few).front) (λ f now. each f (c.sync.ensures.crash f now))
+    let few = c.requires.size.1 in
+    let outcomes = each s c.args.group.now _ few c.write_at.ensures.crash in
+    closed s c.sync.new.self (whole s c.args.group.now _ _ few c.in_ok-write_at.ensures.written c.sync.ensures.seen) (λ f now. outcomes f (c.sync.ensures.crash f now))
 
 pub returns-clause-same : goal.returns-clause-same
 returns-clause-same g c =
     let s = c.requires.settled in
-    let end = c.args.self.now.end in
-    let file = g.D.Device.seen c.args.self.now.device in
-    let few = rest_few c.args.group.now c.requires.size.1 in
-    let long = length-rests file end s.end s.rest in
-    let is = c.sync.ensures.seen ∙ written_behind file _ _ end long c.in_ok-write_at.ensures.written in
-    (refl, same_at g.D.Device.seen g.D.Device.may_leave end file s.end s.small (rests file end s.end s.rest) c.sync.new.self (ap (λ (l : List ℕ). take (end + 1) l) is ∙ (behind_same file _ end long few).front))
+    (refl, same s c.sync.new.self (whole s c.args.group.now _ _ c.requires.size.1 c.in_ok-write_at.ensures.written c.sync.ensures.seen))
 
 pub returns-clause-staged : goal.returns-clause-staged
 returns-clause-staged g c =
@@ -135,15 +133,8 @@ returns-clause-staged g c =
 pub returns-clause-any_moment : goal.returns-clause-any_moment
 returns-clause-any_moment g c =
     let s = c.requires.settled in
-    let old = c.args.self.now.device in
-    let end = c.args.self.now.end in
-    let file = g.D.Device.seen old in
-    let few = rest_few c.args.group.now c.requires.size.1 in
-    let long = length-rests file end s.end s.rest in
-    let gated = rests file end s.end s.rest in
-    let each = torn_each end _ file _ _ long few s.durable c.write_at.ensures.crash in
-    let P = StandsFor (recovered file) in
-    let here : (f : List ℕ) → g.D.Device.may_leave old f → P f = λ f now. gated_then (recovered file) end file f gated (record { front = ap (λ (l : List ℕ). take (end + 1) l) (s.durable f now); behind = omega (arith, long, ap length (s.durable f now)) }) in
-    let start = started_at g.D.Device.moment g.D.Device.left_since g.D.Device.may_leave g.met.D.Device.only_now old P here in
-    let written = goes_on g.D.Device.moment g.D.Device.left_since old old c.write_at.new.self P _ start c.write_at.ensures.time (λ f now. gated_then (recovered file) end file f gated (each f now)) in
-    goes_on g.D.Device.moment g.D.Device.left_since old c.write_at.new.self c.sync.new.self P _ written c.sync.ensures.time (λ f now. gated_then (recovered file) end file f gated (each f (c.sync.ensures.crash f now)))
+    let few = c.requires.size.1 in
+    let outcomes = each s c.args.group.now _ few c.write_at.ensures.crash in
+    let start = begun s g.D.Device.moment g.D.Device.left_since g.met.D.Device.only_now in
+    let written = goes s g.D.Device.moment g.D.Device.left_since c.args.self.now.device c.write_at.new.self start c.write_at.ensures.time outcomes in
+    goes s g.D.Device.moment g.D.Device.left_since c.write_at.new.self c.sync.new.self written c.sync.ensures.time (λ f now. outcomes f (c.sync.ensures.crash f now))
