@@ -1,6 +1,6 @@
 //! A file in memory. Each call is done at once, so a crash leaves what is there. It keeps each past content.
 
-ghost use Rattle.std.specs.Prelude.{◌≡◌, ◌⊎◌, [], ◌∷◌, ◌++◌, length, min, take, drop, refl, OnOk, OnErr};
+ghost use Rattle.std.specs.Prelude.{◌≡◌, ◌⊎◌, [], ◌∷◌, ◌++◌, length, take, drop, refl, OnOk, OnErr};
 ghost use Rattle.std.proofs.Common.{inl};
 ghost use Rattle.journal.specs.Past.{HadBeen, only_bytes};
 
@@ -42,13 +42,6 @@ impl MemoryFile {
     }
 }
 
-/// The lesser of two numbers.
-fn least(a: usize, b: usize) -> usize
-    ensures { result ≡ min a b }
-{
-    if a < b { a } else { b }
-}
-
 /// Puts other bytes in the place of those that are there, which it keeps.
 fn replace(
     alloc: Global,
@@ -86,8 +79,8 @@ impl Device for MemoryFile {
     ghost seen_may_stay = { λ m. refl };
 
     fn read(&mut self, alloc: Global, most: usize) -> Result<Vec<u8>, DeviceFault> {
-        let at = least(self.read, self.bytes.len());
-        let end = at + least(most, self.bytes.len() - at);
+        let at = self.read.min(self.bytes.len());
+        let end = at + most.min(self.bytes.len() - at);
         let piece = self.bytes[at..end].to_vec(alloc)?;
         self.read = end;
         Ok(piece)

@@ -26,9 +26,9 @@ piece_of bytes piece read at n is are =
 pub returns-clause-found : goal.returns-clause-found
 returns-clause-found c =
     let bytes = c.args.self.now.bytes.items in
-    let at = c.least-at.result in
-    let n = c.least.result in
-    let at_is = c.least-at.ensures in
+    let at = c.min-at.result in
+    let n = c.min.result in
+    let at_is = c.min-at.ensures in
     let len_is = c.len.ensures in
     let long : c.len.result ≡ length bytes = omega (arith, len_is) in
     let is : c.in_ok-piece.piece.items ≡ take n (drop at bytes) = search (rules, c.in_ok-piece.ensures, c.deref.ensures) in
