@@ -71,15 +71,6 @@ fn sync_folder(rt: &HostRuntime, path: &str) -> io::Result<()> {
     Ok(())
 }
 
-/// The lesser of two numbers.
-fn least(a: usize, b: usize) -> usize
-    ensures least { (result ≤ a) × (result ≤ b) }
-    ensures one { a < b → result ≡ a }
-    ensures other { b ≤ a → result ≡ b }
-{
-    if a < b { a } else { b }
-}
-
 /// How long the file is.
 fn len_of(file: &File) -> io::Result<usize>
     ensures { IfOk result (λ n. n < 2 ^ 63) }
@@ -116,7 +107,7 @@ impl FileDevice {
         ensures within { self.now.read + result ≤ self.now.len }
         ensures end { result < most → self.now.read + result ≡ self.now.len }
     {
-        least(most, self.len - self.read)
+        most.min(self.len - self.read)
     }
 
     /// Whether a write may be made: all was read, no call has failed whose effect isn't known.
