@@ -155,7 +155,8 @@ fn json_of(
 }
 
 /// What is said of each node, ascending by their numbers, under the program of this name and the directory of this text: JSON tells the
-/// name, the text's SHA-256 value and of which nodes anything is known, lines tell none of these. The name is to have no character that JSON escapes. It is refused memory alone.
+/// name, the text's SHA-256 value and of which nodes anything is known, lines tell none of these. The name is to have no character that
+/// JSON escapes. It is refused memory alone.
 pub fn standings_text(
     alloc: Global,
     style: Style,

@@ -4,7 +4,8 @@
 //! challenges by look-up; a statement that is new looks at the segments that its number can contradict. Segments and audit challenges meet
 //! by hashes: an open challenge is looked at again only when a longer segment comes up to an entry that it names.
 //!
-//! Its contract is that of the trait `Evidence`, and it tells beside that whether anything is known of a node. What it keeps of a node is in `node_tables`, how it keeps an item in `kept_items`.
+//! Its contract is that of the trait `Evidence`, and it tells beside that whether anything is known of a node. What it keeps of a node is in
+//! `node_tables`, how it keeps an item in `kept_items`.
 #![tactic(auto)]
 
 pub use indexed_store::IndexedStore;

@@ -23,8 +23,8 @@ use Rattle.operating.specs.GatheredFiles.{IsOfFile}
 abbrev pub IsEnd : {S : Type 0} → Listing → Meaning S → Contents → Type 0
 IsEnd directory program c = (history : List Recorded) × (passes : List Notes) × IsWitness directory program c history passes
 
--- The texts of the directory of a scenario's nodes and of the stores that its witnesses have in the end, with so many workers, where the nodes
--- are to follow the program.
+-- The texts of the directory of a scenario's nodes and of the stores that its witnesses have in the end, with so many workers, where the
+-- nodes are to follow the program.
 pub record AreLeft {S : Type 0} (program : Meaning S) (s : Script) (workers : ℕ) (p : Played) : Type 0 where
   pub contents : List Contents
   pub played : ArePlayed s workers contents
