@@ -51,9 +51,7 @@ fn open_synced(rt: &HostRuntime, path: &str) -> io::Result<File> {
         .create(true)
         .mode(0o600)
         .open(rt, path)?;
-    if file.try_lock().is_err() {
-        return Err(io::Error::from(io::ErrorKind::WouldBlock));
-    }
+    file.try_lock()?;
     file.sync_all()?;
     sync_folder(rt, path)?;
     Ok(file)
