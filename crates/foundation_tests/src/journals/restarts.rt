@@ -3,6 +3,7 @@
 use journal::{MemoryFile, Reading};
 use journal_file::FileDevice;
 use std::fs;
+use std::io::ErrorKind;
 use std::test::*;
 
 /// A text of two bytes, and behind it a group that a crash cut short before its gate was opened.
@@ -57,5 +58,20 @@ fn a_file_keeps_its_text(rt: HostRuntime) -> Result<(), Fail> {
     let text = first_of(&rt, path)?;
     fs::remove_file(&rt, path)?;
     assert!(rt; text.as_slice() == [7, 8].as_slice());
+    Ok(())
+}
+
+#[test]
+fn a_file_is_opened_once(rt: HostRuntime) -> Result<(), Fail> {
+    let path = "locked.journal";
+    let first = FileDevice::open(&rt, path)?;
+    let is_blocked = match FileDevice::open(&rt, path) {
+        Ok(_) => false,
+        Err(error) => error.kind() == ErrorKind::WouldBlock,
+    };
+    drop(first);
+    let is_free = FileDevice::open(&rt, path).is_ok();
+    fs::remove_file(&rt, path)?;
+    assert!(rt; (is_blocked, is_free) == (true, true));
     Ok(())
 }
