@@ -4,10 +4,14 @@ to what is stored in examples/explained.
 
     checks/reference/examples.py [write]
 
-The first line of a text is its directory, `nodes.dir` where it is that of most texts, else `NAME.dir`; the others are its stores: `NAME.store`, or
+The first line of a text is its directory, `nodes.dir` if it is that of most texts, else `NAME.dir`; the others are its stores: `NAME.store`, or
 `NAME.1.store`, `NAME.2.store` and so on. `NAME.proof` is the proof of `NAME.bundle`. With `write` the files are made anew.
+
+`lost_mail.store` has no text: it is the store of the scene `dropped_mail` that crates/mailbox_tour writes, under the directory `nodes.dir`. What
+`explain` writes of it is stored in checks/explained/cases.txt, below the program and the digests.
 """
 
+import hashlib
 import re
 import sys
 from collections import Counter
@@ -17,6 +21,8 @@ TOP = Path(__file__).resolve().parents[2]
 EXAMPLES = TOP / "examples"
 PAGES = ["README.md", "examples/README.md", "docs/OPERATORS.md"]
 MADE = {".dir", ".store", ".proof"}
+MAILS = TOP / "crates" / "mailbox_tour" / "stdout"
+CASES = TOP / "checks" / "explained" / "cases.txt"
 
 
 def texts():
@@ -26,10 +32,26 @@ def texts():
             yield path.stem, [bytes.fromhex(line) for line in path.read_text().splitlines()]
 
 
+def lost_mail():
+    """The directory and the store of the relay that lost a mail."""
+    scene = MAILS.read_text().split("== dropped_mail\n")[1].split("\n--")[0]
+    return [bytes.fromhex(line) for line in scene.split()]
+
+
+def told_of_lost_mail():
+    """What `explain` writes of it."""
+    directory, store = [" ".join(re.findall("....", hashlib.sha256(data).hexdigest())) for data in lost_mail()]
+    case = CASES.read_text(encoding="utf-8").split("\n== a dropped mail\n")[1].split("\n== ")[0].strip("\n")
+    return f"Program: Mailbox\nSHA-256 of the directory: {directory}\nSHA-256 of the store: {store}\n{case}\n"
+
+
 def wanted():
     """Each file's name, and its bytes."""
     common = Counter(lines[0] for _, lines in texts()).most_common(1)[0][0]
-    files = {"nodes.dir": common}
+    directory, store = lost_mail()
+    files = {"nodes.dir": common, "lost_mail.store": store}
+    if directory != common:
+        files["lost_mail.dir"] = directory
     for name, (directory, *stores) in texts():
         if directory != common:
             files[f"{name}.dir"] = directory
@@ -49,7 +71,7 @@ def name_of(words, proved):
 
 def told_otherwise():
     """What pages say that `explain` writes, where none of the stored answers is so."""
-    stored = {path.stem: path.read_text() for path in (EXAMPLES / "explained").glob("*.txt")}
+    stored = {path.stem: path.read_text() for path in (EXAMPLES / "explained").glob("*.txt")} | {"lost_mail": told_of_lost_mail()}
     for page in PAGES:
         text = (TOP / page).read_text()
         proved = {proof: f"{store}.proof{node}" for proof, node, store in re.findall(r"--output (\S+\.proof) (\d+) (\w+)\.store", text)}
@@ -60,6 +82,9 @@ def told_otherwise():
                 yield f"{page}: explain writes otherwise: {name or said.splitlines()[0]} .."
         if not texts:
             yield f"{page}: tells nothing of what explain writes"
+        for name, said in re.findall(r"^    \$ python3 \S*check\.py .*\b(\w+)\.store\n((?:    \d.*\n)+)", text, re.M):
+            if re.findall(r"\d+ [a-z]+", said) != re.findall(r"^\d+ [a-z]+", "\n".join(stored[name].split("\n")[4:]), re.M):
+                yield f"{page}: check.py answers otherwise: {name}"
 
 
 def main():

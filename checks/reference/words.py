@@ -1,11 +1,14 @@
 #!/usr/bin/env python3
-"""Counts the words that were written by hand on each page, and ends with status 1 where a page has more than its budget, has none, or does
-not begin with who reads it and how long that takes; and where the table of docs/README.md gives a page other minutes than it says, or sums
-them wrongly.
+"""Counts the words that were written by hand on each page, and ends with status 1 if a page has more than its budget, does not begin with who
+reads it and how long that takes, or does not link to the glossary; and if the table of docs/README.md gives a page other minutes than the page
+says, or sums them wrongly.
+
+Clarity comes before brevity: `LONGER` has the pages that have more words than the budget of their kind, each with the reason. sentences.py holds
+the sentences.
 
 A word is what stands between blanks and has a letter or a digit. Blocks of code do not count: commands with what they write, formats and
-programs. Nor does what a script makes: it stands between `<!-- made by NAME -->` and `<!-- end -->`. The scripts that make such parts take `Part` from here: each compares what stands on
-the page with what the sources give, and with the word `write` writes it anew.
+programs. Nor does what a script makes: it stands between `<!-- made by NAME -->` and `<!-- end -->`. The scripts that make such parts take `Part`
+from here: each compares what stands on the page with what the sources give, and with the word `write` writes it anew.
 """
 
 import re
@@ -17,20 +20,24 @@ TOP = Path(__file__).resolve().parents[2]
 # Where pages stand that are written by hand.
 PAGES = ["*.md", "docs/*.md", "checks/**/*.md", "distributed/*.md", "examples/**/*.md", "python/*.md", "c/*.md", "second_opinion/*.md"]
 # Pages, and the words that they have together at most; each other page has OTHER.
-OTHER = 1125
+OTHER = 1406
 BUDGETS = [
-    (1250, ["README.md"]),
-    (500, ["docs/README.md"]),
-    (2500, ["docs/ARCHITECTURE.md"]),
-    (5625, ["docs/PROMISES.md"]),
-    (1875, ["docs/DEFINITIONS.md"]),
-    (4375, ["docs/DECISIONS.md"]),
-    (1875, ["docs/PROVING.md"]),
-    (1550, ["distributed/README.md"]),
-    (11250, ["docs/FORMATS.md", "docs/PROGRAMS.md", "docs/OPERATORS.md", "docs/AUDITORS.md", "CONTRIBUTING.md"]),
+    (1563, ["README.md"]),
+    (625, ["docs/README.md"]),
+    (3125, ["docs/ARCHITECTURE.md"]),
+    (7031, ["docs/PROMISES.md"]),
+    (2344, ["docs/DEFINITIONS.md"]),
+    (5469, ["docs/DECISIONS.md"]),
+    (2344, ["docs/PROVING.md"]),
+    (1938, ["distributed/README.md"]),
+    (14063, ["docs/FORMATS.md", "docs/PROGRAMS.md", "docs/OPERATORS.md", "docs/AUDITORS.md", "CONTRIBUTING.md"]),
     # BENCHMARKS also says what can't be had, so that nobody looks for it again.
-    (4500, ["docs/BENCHMARKS.md", "docs/GATE.md", "docs/TESTS.md", "examples/README.md"]),
+    (5625, ["docs/BENCHMARKS.md", "docs/GATE.md", "docs/TESTS.md", "examples/README.md"]),
 ]
+# Pages that have more: how many words, and why.
+LONGER = {
+}
+GLOSSARY = "GLOSSARY.md"
 
 MADE = re.compile(r"<!-- made by [^>]*-->\n.*?<!-- end -->\n", re.S)
 CODE = re.compile(r"^```.*?^```$|^    [^\n]*$", re.M | re.S)
@@ -83,6 +90,8 @@ def faults_of(budget, pages):
         counts[page] = words_of(text)
         if not head_of(text):
             yield f"{page}: its first lines do not say, in italics, who reads it and how long that takes"
+        if path.name != GLOSSARY and f"{GLOSSARY})" not in text:
+            yield f"{page}: does not link to the glossary"
     if sum(counts.values()) > budget:
         yield f"{', '.join(f'{page} {count}' for page, count in counts.items())}: {sum(counts.values())} words, {budget} at most"
 
@@ -102,7 +111,9 @@ def faults_of_the_way_in():
 def main():
     known = {page for _, pages in BUDGETS for page in pages}
     pages = sorted(path.relative_to(TOP).as_posix() for pattern in PAGES for path in TOP.glob(pattern))
-    budgets = BUDGETS + [(OTHER, [page]) for page in pages if page not in known]
+    budgets = [(budget, [page for page in pages if page not in LONGER]) for budget, pages in BUDGETS]
+    budgets += [(OTHER, [page]) for page in pages if page not in known and page not in LONGER]
+    budgets = [(budget, pages) for budget, pages in budgets if pages] + [(budget, [page]) for page, (budget, _) in LONGER.items()]
     faults = [fault for budget, pages in budgets for fault in faults_of(budget, pages)] + list(faults_of_the_way_in())
     print(*faults, sep="\n", end="\n" if faults else "")
     if not faults:
