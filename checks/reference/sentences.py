@@ -32,13 +32,13 @@ BE = set(
 )
 # Verbs in the form of the imperative, and of "they"; a form in -s is made of each
 VERBS = set(
-    """accept accuse acknowledge act add agree allow analyse answer appear append apply ask assume audit back assert become begin believe belong borrow break
+    """accept accuse acknowledge act add agree allow analyse answer appear append apply arrive ask assume audit back assert become begin believe belong borrow break
     bring build call carry cause change check choose cite claim clear close collect come commit compare compile complete compute concern conflict conform connect
-    consist contain continue contradict contribute convict convince copy count cover create cut deal decide decode depend describe determine deviate
+    consist contain continue contradict contribute convict convince copy count cover create cut deal decide decode define depend describe determine deviate die
     differ disagree draft draw drop encode end ensure escape exchange exclude execute exist expand expect explain export expose extend fail feed fetch
     fill find finish fit fold follow forbid forge form free gain gather get give go grow guarantee halve hand hang happen hash hear help hide hold import
-    include indicate insert install interpret invent join judge keep know lack last lead learn leave let lie limit link list listen live load lock log look
-    lose lower make mangle map mark match matter mean measure meet mention mend merge miss mix move name need note occur offer omit open own part pass pay
+    include indicate insert install interpret invent join judge keep know lack last lead leak learn leave let lie limit link list listen live load lock log look
+    lose lower make mangle map mark match matter mean measure meet mention mend merge miss mix move name need note occur offer omit open outlive owe own part pass pay
     permit place play point prefer prepare present print promise protect prove provide put quote raise reach read realise receive record refer refuse reject
     remain remember remove repeat replace replay reply report represent require reserve rest restore return reveal rise run say search see seem select send
     separate serve set settle share show sign skip sleep sort speak spell split spoil stand start state stay step stop store submit subtract succeed suffice suit sum
@@ -54,11 +54,11 @@ NOUN = set(
     """a an the its their his her your our my such same own old new of by with in for from on at as per under over between against into without within
     about through whose following long short wrong good bad equal empty common half public private several different more fewer further""".split()
 )
-ONE = set("this that each every any no first second third last next one another either neither whatever".split())
+ONE = set("this each every any no first second third last next one another either neither whatever".split())
 MANY = set("these those some all both many most few other two three four five six seven eight nine ten".split())
 # Words after which a form in -ed is a verb, and those around which it is none
 PARTS = set("by in at under from with as to of and or be been , ; : . ( ) !".split()) | {""}
-SUBJECT = set("it they he she you we who that which all both nobody somebody everybody others".split())
+SUBJECT = set("never also it they he she you we who that which all both nobody somebody everybody others".split())
 INFINITIVE = set("to not may must can cannot could should would will might do does did don't doesn't can't let".split())
 NOT_FORMS = set("its this as us his less process address access always perhaps across".split())
 # Sentences that are right though the rule does not see it, by their first words
