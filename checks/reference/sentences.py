@@ -28,15 +28,15 @@ SHORT = 16  # the most words of an item that goes on with the sentence above its
 BE = set(
     """is are was were has have had does do did can cannot may might must will would could should isn't aren't doesn't don't can't won't let's
     began came fell found gave got grew held hid hold kept knew lay led left lost made meant met put ran read said sat saw sent set showed stood took went wrote
-    became built brought chose drew cost costs""".split()
+    happened existed appeared became built brought chose drew cost costs""".split()
 )
 # Verbs in the form of the imperative, and of "they"; a form in -s is made of each
 VERBS = set(
     """accept accuse acknowledge act add agree allow analyse answer appear append apply arrive ask assume audit back assert become begin believe belong borrow break
-    bring build call carry cause change check choose cite claim clear close collect come commit compare compile complete compute concern conflict conform connect
+    bring build call carry cause change check choose cite claim clear close collect collide come commit compare compile complete compute concern conflict conform connect
     consist contain continue contradict contribute convict convince copy count cover create cut deal decide decode define depend describe determine deviate die
     differ disagree draft draw drop encode end ensure escape exchange exclude execute exist expand expect explain export expose extend fail feed fetch
-    fill find finish fit fold follow forbid forge form free gain gather get give go grow guarantee halve hand hang happen hash hear help hide hold import
+    fill find finish fit flow fold follow forbid forge form free gain gather get give go grow guarantee halve hand hang happen hash hear help hide hold import
     include indicate insert install interpret invent join judge keep know lack last lead leak learn leave let lie limit link list listen live load lock log look
     lose lower make mangle map mark match matter mean measure meet mention mend merge miss mix move name need note occur offer omit open outlive owe own part pass pay
     permit place play point prefer prepare present print promise protect prove provide put quote raise reach read realise receive record refer refuse reject
@@ -51,10 +51,10 @@ CLAUSE = set("which who whom whose if when while because although unless whether
 PRONOUN_AFTER = set("after before of for by with in from on to under than like as does do at about into without against is".split())
 # Words that make a noun of what follows them; those that do so of the form without -s, and those that do so of the form in -s ("each names", "all name")
 NOUN = set(
-    """a an the its their his her your our my such same own old new of by with in for from on at as per under over between against into without within
+    """a an the its their his her your our my such own old new of by with in for from on at as per under over between against into without within
     about through whose following long short wrong good bad equal empty common half public private several different more fewer further""".split()
 )
-ONE = set("this each every any no first second third last next one another either neither whatever".split())
+ONE = set("this same each every any no first second third last next one another either neither whatever".split())
 MANY = set("these those some all both many most few other two three four five six seven eight nine ten".split())
 # Words after which a form in -ed is a verb, and those around which it is none
 PARTS = set("by in at under from with as to of and or be been , ; : . ( ) !".split()) | {""}
@@ -98,7 +98,7 @@ def clauses_in(words):
     count = sum(word in CLAUSE for word in words)
     for at, word in enumerate(words):
         before, after = words[at - 1] if at else "", words[at + 1] if at + 1 < len(words) else "."
-        count += word == "that" and at > 0 and before not in PRONOUN_AFTER and after not in ",;:.)" and not (before in ",;:(" and after in BE)
+        count += word == "that" and at > 0 and before not in PRONOUN_AFTER and after not in ",;:.)" and not (before in CLAUSE | set(",;:(") and after in BE)
     return count
 
 
