@@ -28,7 +28,7 @@ SHORT = 16  # the most words of an item that goes on with the sentence above its
 BE = set(
     """is are was were has have had does do did can cannot may might must will would could should isn't aren't doesn't don't can't won't let's
     began came fell found gave got grew held hid hold kept knew lay led left lost made meant met put ran read said sat saw sent set showed stood took went wrote
-    happened existed appeared became built brought chose drew cost costs""".split()
+    crashed happened existed appeared became built brought chose drew cost costs""".split()
 )
 # Verbs in the form of the imperative, and of "they"; a form in -s is made of each
 VERBS = set(
@@ -39,16 +39,16 @@ VERBS = set(
     fill find finish fit flow fold follow forbid forge form free gain gather get give go grow guarantee halve hand hang happen hash hear help hide hold import
     include indicate insert install interpret invent join judge keep know lack last lead leak learn leave let lie limit link list listen live load lock log look
     lose lower make mangle map mark match matter mean measure meet mention mend merge miss mix move name need note occur offer omit open outlive owe own part pass pay
-    permit place play point prefer prepare present print promise protect prove provide put quote raise reach read realise receive record refer refuse reject
+    permit pick place play point prefer prepare present print promise protect prove provide put quote raise reach read realise receive record refer refuse reject
     remain remember remove repeat replace replay reply report represent require reserve rest restore return reveal rise run say search see seem select send
     separate serve set settle share show sign skip sleep sort speak spell split spoil stand start state stay step stop store submit subtract succeed suffice suit sum
-    suspect swap tail take teach tell test think tick touch transfer translate treat trust try turn understand use vanish verify vote wait walk want warn watch
+    suspect swap tail take teach tell test think tick touch transfer translate travel treat trust try turn understand use vanish verify vote wait walk want warn watch
     win wish work wrap write yield""".split()
 )
 # Words that begin a clause that is no sentence by itself
 CLAUSE = set("which who whom whose if when while because although unless whether whoever whatever wherever whenever".split())
 # Words after which "that" stands for something, and begins no clause; and words before which it does
-PRONOUN_AFTER = set("after before of for by with in from on to under than like as does do at about into without against is".split())
+PRONOUN_AFTER = set("after before of for by with in from on to under than like as does do at about into without against is below above beyond within between until since except".split())
 # Words that make a noun of what follows them; those that do so of the form without -s, and those that do so of the form in -s ("each names", "all name")
 NOUN = set(
     """a an the its their his her your our my such own old new of by with in for from on at as per under over between against into without within
@@ -98,7 +98,7 @@ def clauses_in(words):
     count = sum(word in CLAUSE for word in words)
     for at, word in enumerate(words):
         before, after = words[at - 1] if at else "", words[at + 1] if at + 1 < len(words) else "."
-        count += word == "that" and at > 0 and before not in PRONOUN_AFTER and after not in ",;:.)" and not (before in CLAUSE | set(",;:(") and after in BE)
+        count += word == "that" and at > 0 and before not in PRONOUN_AFTER | CLAUSE and after not in ",;:.)" and not (before in ",;:(" and after in BE)
     return count
 
 
