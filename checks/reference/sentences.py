@@ -32,7 +32,7 @@ BE = set(
 )
 # Verbs in the form of the imperative, and of "they"; a form in -s is made of each
 VERBS = set(
-    """accept accuse acknowledge act add agree allow analyse answer appear append apply arrive ask assume audit back assert become begin believe belong borrow break
+    """accept accuse acknowledge act add agree allow analyse answer appear append apply arrive ascend ask assume audit back assert become begin believe belong bind borrow break
     bring build call carry cause change check choose cite claim clear close collect collide come commit compare compile complete compute concern conflict conform connect
     consist contain continue contradict contribute convict convince copy count cover create cut deal decide decode define depend describe determine deviate die
     differ disagree draft draw drop encode end ensure escape exchange exclude execute exist expand expect explain export expose extend fail feed fetch
@@ -98,7 +98,7 @@ def clauses_in(words):
     count = sum(word in CLAUSE for word in words)
     for at, word in enumerate(words):
         before, after = words[at - 1] if at else "", words[at + 1] if at + 1 < len(words) else "."
-        count += word == "that" and at > 0 and before not in PRONOUN_AFTER | CLAUSE and after not in ",;:.)" and not (before in ",;:(" and after in BE)
+        count += word == "that" and at > 0 and before not in PRONOUN_AFTER | CLAUSE and after not in ",;:.)of" and not (before in ",;:(" and after in BE)
     return count
 
 
