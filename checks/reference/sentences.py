@@ -42,13 +42,14 @@ VERBS = set(
     permit pick place play point prefer prepare present print promise protect prove provide put quote raise reach read realise receive record refer refuse reject
     remain remember remove repeat replace replay reply report represent require reserve rest restore return reveal rise run say search see seem select send
     separate serve set settle share show sign skip sleep sort speak spell split spoil stand start state stay step stop store submit subtract succeed suffice suit sum
-    suspect swap tail take teach tell test think tick touch transfer translate travel treat trust try turn understand use vanish verify vote wait walk want warn watch
+    suspect swap tail take teach tell test think tick touch transfer translate travel treat trust try turn understand use vanish verify vote wait walk want warn watch weaken
     win wish work wrap write yield""".split()
 )
 # Words that begin a clause that is no sentence by itself
 CLAUSE = set("which who whom whose if when while because although unless whether whoever whatever wherever whenever".split())
 # Words after which "that" stands for something, and begins no clause; and words before which it does
 PRONOUN_AFTER = set("after before of for by with in from on to under than like as does do at about into without against is below above beyond within between until since except".split())
+END = set(", ; : . ) of".split())  # what may come after a "that" which stands for something
 # Words that make a noun of what follows them; those that do so of the form without -s, and those that do so of the form in -s ("each names", "all name")
 NOUN = set(
     """a an the its their his her your our my such own old new of by with in for from on at as per under over between against into without within
@@ -98,7 +99,7 @@ def clauses_in(words):
     count = sum(word in CLAUSE for word in words)
     for at, word in enumerate(words):
         before, after = words[at - 1] if at else "", words[at + 1] if at + 1 < len(words) else "."
-        count += word == "that" and at > 0 and before not in PRONOUN_AFTER | CLAUSE and after not in ",;:.)of" and not (before in ",;:(" and after in BE)
+        count += word == "that" and at > 0 and before not in PRONOUN_AFTER | CLAUSE and after not in END and not (before in ",;:(" and after in BE)
     return count
 
 
