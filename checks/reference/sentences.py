@@ -59,7 +59,7 @@ ONE = set("this same each every any no first second third last next one another 
 MANY = set("these those some all both many most few other two three four five six seven eight nine ten".split())
 # Words after which a form in -ed is a verb, and those around which it is none
 PARTS = set("by in at under from with as to of and or be been , ; : . ( ) !".split()) | {""}
-SUBJECT = set("never also it they he she you we who that which all both nobody somebody everybody others".split())
+SUBJECT = set("code never also it they he she you we who that which all both nobody somebody everybody others".split())
 INFINITIVE = set("to not may must can cannot could should would will might do does did don't doesn't can't let".split())
 NOT_FORMS = set("its this as us his less process address access always perhaps across".split())
 # Sentences that are right though the rule does not see it, by their first words
