@@ -28,15 +28,15 @@ SHORT = 16  # the most words of an item that goes on with the sentence above its
 BE = set(
     """is are was were has have had does do did can cannot may might must will would could should isn't aren't doesn't don't can't won't let's
     began came fell found gave got grew held hid hold kept knew lay led left lost made meant met put ran read said sat saw sent set showed stood took went wrote
-    crashed happened existed appeared became built brought chose drew cost costs""".split()
+    changed crashed happened existed appeared became built brought chose drew cost costs""".split()
 )
 # Verbs in the form of the imperative, and of "they"; a form in -s is made of each
 VERBS = set(
-    """accept accuse acknowledge act add agree allow analyse answer appear append apply arrive ascend ask assume audit back assert become begin believe belong bind borrow break
+    """accept accuse acknowledge act add agree allow analyse answer appear append apply arrive ascend ask assume audit back assert become begin believe belong bind borrow bound break
     bring build call carry cause change check choose cite claim clear close collect collide come commit compare compile complete compute concern conflict conform connect
     consist contain continue contradict contribute convict convince copy count cover create cut deal decide decode define depend describe determine deviate die
-    differ disagree draft draw drop encode end ensure escape exchange exclude execute exist expand expect explain export expose extend fail feed fetch
-    fill find finish fit flow fold follow forbid forge form free gain gather get give go grow guarantee halve hand hang happen hash hear help hide hold import
+    differ disagree draft draw drop encode end ensure escape exchange exclude execute exist expand expect explain export expose extend fail fall feed fetch filter
+    fill find finish fit flow fold follow forbid forge form format free gain gather get give go grow guarantee halve hand hang happen hash hear help hide hold import
     include indicate insert install interpret invent join judge keep know lack last lead leak learn leave let lie limit link list listen live load lock log look
     lose lower make mangle map mark match matter mean measure meet mention mend merge miss mix move name need note occur offer omit open outlive owe own part pass pay
     permit pick place play point prefer prepare present print promise protect prove provide put quote raise reach read realise receive record refer refuse reject
