@@ -1,14 +1,14 @@
 #!/usr/bin/env python3
-"""Counts the words that were written by hand on each page, and ends with status 1 if a page has more than its budget, does not begin with who
-reads it and how long that takes, or does not link to the glossary; and if the table of docs/README.md gives a page other minutes than the page
-says, or sums them wrongly.
+"""Counts the words that were written by hand on each page, and ends with status 1 if a page has more than its budget, does not begin with
+who reads it and how long that takes, or does not link to the glossary; and if the table of docs/README.md gives a page other minutes than
+the page says, or sums them wrongly.
 
-Clarity comes before brevity: `LONGER` has the pages that have more words than the budget of their kind, each with the reason. sentences.py holds
-the sentences.
+Clarity comes before brevity: `LONGER` has the pages that have more words than the budget of their kind, each with the reason. sentences.py
+holds the sentences.
 
 A word is what stands between blanks and has a letter or a digit. Blocks of code do not count: commands with what they write, formats and
-programs. Nor does what a script makes: it stands between `<!-- made by NAME -->` and `<!-- end -->`. The scripts that make such parts take `Part`
-from here: each compares what stands on the page with what the sources give, and with the word `write` writes it anew.
+programs. Nor does what a script makes: it stands between `<!-- made by NAME -->` and `<!-- end -->`. The scripts that make such parts take
+`Part` from here: each compares what stands on the page with what the sources give, and with the word `write` writes it anew.
 """
 
 import re
@@ -35,8 +35,7 @@ BUDGETS = [
     (5625, ["docs/BENCHMARKS.md", "docs/GATE.md", "docs/TESTS.md", "examples/README.md"]),
 ]
 # Pages that have more: how many words, and why.
-LONGER = {
-}
+LONGER = {}
 GLOSSARY = "GLOSSARY.md"
 
 MADE = re.compile(r"<!-- made by [^>]*-->\n.*?<!-- end -->\n", re.S)
