@@ -4,8 +4,8 @@ and `check.py` write to what is stored in examples/explained.
 
     checks/reference/examples.py [write]
 
-The first line of a text is its directory, `nodes.dir` if it is that of most texts, else `NAME.dir`; the others are its stores: `NAME.store`,
-or `NAME.1.store`, `NAME.2.store` and so on. `NAME.proof` is the proof of `NAME.bundle`. With `write` the files are made anew.
+The first line of a text is its directory, `nodes.dir` if it is that of most texts, else `NAME.dir`. The others are its stores:
+`NAME.store`, or `NAME.1.store`, `NAME.2.store` and so on. `NAME.proof` is the proof of `NAME.bundle`. With `write` the files are made anew.
 
 `lost_mail.store` has no text: it is the store of the scene `dropped_mail` that crates/mailbox_tour writes, under the directory `nodes.dir`.
 What `explain` writes of it is stored in checks/explained/cases.txt, below the program and the digests.
