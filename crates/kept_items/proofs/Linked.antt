@@ -19,7 +19,7 @@ use Rattle.evidence_set.specs.Challenges.{answers_audit, covers}
 use Rattle.kept_evidence.specs.Telling.{IsSegmentOf}
 use Rattle.kept_entries.specs.Shared.{SharedEntry, entries_of, hashes_of}
 use Rattle.kept_items.specs.declared.link.Link.{Link}
-use Rattle.kept_items.specs.Links.{Agree, AnswersAreInherited, link_in, links}
+use Rattle.kept_items.specs.Links.{Agree, AnswersAreInherited, IsBehind, first_hash, link_in, links}
 use Rattle.kept_items.specs.within.Parts.{before}
 
 -- ---- what a segment has of them
@@ -93,16 +93,17 @@ module _ (s t : Segment) (agree : Agree (form.Segment s) (form.Segment t)) where
   begins_at zero w here is = sym (first_prev t.prev t.entries w here) ∙ is
   begins_at (suc b) w here is = let (v, hv, pv) = back t.prev t.entries b w here in absurd (agree.based b v hv (pv ∙ is))
 
-  -- one that has an entry with as many before it begins where this one does, and has what stands before the entry
+  -- one that has an entry with as many before it begins where this one does
   pub begins_too : (k i : ℕ) (a : Link) → at s k ≡ Some a → at t i ≡ Some a → k ≤ i → s.prev ≡ base → t.prev ≡ base
   begins_too k i a here there le is =
       let (w, hs, ht) = descend 0 (i - k) k k i (omega arith) (omega (arith, le)) a here there in
       begins_at (i - k) w ht (first_prev s.prev s.entries w hs ∙ is)
 
-  pub has_too : (k i : ℕ) (a : Link) → at s k ≡ Some a → at t i ≡ Some a → k ≤ i → (j : ℕ) (b : Link) → at s j ≡ Some b → j ≤ k → (n : ℕ) × (at t n ≡ Some b)
-  has_too k i a here there le j b at_j before_k =
-      let (w, hs, ht) = descend j (i - (k - j)) (k - j) k i (omega (arith, before_k)) (omega (arith, le, before_k)) a here there in
-      (i - (k - j), subst (λ l. at t (i - (k - j)) ≡ Some l) (same_Some w b (sym hs ∙ at_j)) ht)
+  -- one that has an entry, and d before it, has what stands up to d before it here
+  pub has_too : (j d k i : ℕ) (a b : Link) → j + d ≡ k → at s k ≡ Some a → at t i ≡ Some a → d ≤ i → at s j ≡ Some b → (n : ℕ) × (at t n ≡ Some b)
+  has_too j d k i a b apart here there le at_j =
+      let (w, hs, ht) = descend j (i - d) d k i (sym apart) (omega (arith, le)) a here there in
+      (i - d, subst (λ l. at t (i - d) ≡ Some l) (same_Some w b (sym hs ∙ at_j)) ht)
 
 -- ---- pairs of a number and a hash
 
@@ -156,21 +157,33 @@ both_hold : (a b : Bool) → a ≡ true → b ≡ true → (a && b) ≡ true
 both_hold true b p q = q
 both_hold false b p q = absurd cc
 
--- Each segment that agrees with s, and has that entry with as many before it, covers what is named.
+-- Each segment that agrees with s, and has that entry with d before it, covers what is named.
 abbrev Hand : Segment → Option Statement → Statement → ℕ → Link → Type 0
-Hand s first last k a = (t : Segment) (i : ℕ) → Agree (form.Segment s) (form.Segment t) → at t i ≡ Some a → k ≤ i → covers first last t ≡ true
+Hand s first last d a = (t : Segment) (i : ℕ) → Agree (form.Segment s) (form.Segment t) → at t i ≡ Some a → d ≤ i → covers first last t ≡ true
+
+abbrev Beside : Option Statement → Statement → (g h : List ℕ) → Type 0
+Beside first last g h = ((last.hash ≡ g) × (first_hash first ≡ h)) ⊎ ((f : Statement) × (first ≡ Some f) × (f.hash ≡ g) × (last.hash ≡ h))
 
 abbrev Handed : Segment → Option Statement → Statement → Type 0
-Handed s first last = (k : ℕ) × (a : Link) × (at s k ≡ Some a) × ((last.hash ≡ a.hash) ⊎ ((f : Statement) × (first ≡ Some f) × (f.hash ≡ a.hash))) × Hand s first last k a
+Handed s first last = (k d : ℕ) × (a : Link) × (h : List ℕ) × (at s k ≡ Some a) × Beside first last a.hash h × IsBehind (form.Segment s) k d h × Hand s first last d a
+
+-- the first entry, where there is one
+opens : (p : List ℕ) (es : List Entry) (k : ℕ) (x : Link) → slice_get (links p es) k ≡ Some x → (w : Link) × (slice_get (links p es) 0 ≡ Some w) × (w.prev ≡ p)
+opens p [] k x h = absurd cc
+opens p (e ∷ es) k x h = (record { prev = p; seq = e.seq; hash = entry_hash p e }, refl, refl)
 
 from_beginning : (s : Segment) (last : Statement) → covers None last s ≡ true → Handed s None last
 from_beginning s last h =
     let begins : s.prev ≡ base = (bytes_decides s.prev base).0 (first_holds (is_base s.prev) _ h) in
-    let (k, a, here, q, r) = paired s.prev s.entries last.seq last.hash (second_holds (is_base s.prev) _ h) in (
+    let (k, a, here, q, r) = paired s.prev s.entries last.seq last.hash (second_holds (is_base s.prev) _ h) in
+    let (w, at_0, before) = opens s.prev s.entries k a here in (
+      k,
       k,
       a,
+      base,
       here,
-      inl (sym r),
+      inl (sym r, refl),
+      inr (w, refl, at_0, before ∙ begins),
       λ t i agree there le.
           both_hold (is_base t.prev) _ ((bytes_decides t.prev base).1 (begins_too s t agree k i a here there le begins)) (has_at t i a last.seq last.hash there q r),
     )
@@ -180,22 +193,30 @@ from_entry s f last h =
     let (n, b, at_n, q, r) = paired s.prev s.entries f.seq f.hash (first_holds (has_pair (logged s.prev s.entries) f.seq f.hash) _ h) in
     let (k, a, here, u, v) = paired s.prev s.entries last.seq last.hash (second_holds (has_pair (logged s.prev s.entries) f.seq f.hash) _ h) in
     ⊎_elim
-    (λ (lt : n < k). (
+    (λ (lt : n < k).
+    let apart : n + (k - n) ≡ k = omega (arith, lt) in (
       k,
+      k - n,
       a,
+      f.hash,
       here,
-      inl (sym v),
+      inl (sym v, refl),
+      inl (n, b, apart, at_n, r),
       λ t i agree there le.
-          let (m, at_m) = has_too s t agree k i a here there le n b at_n (omega (arith, lt)) in
+          let (m, at_m) = has_too s t agree n (k - n) k i a b apart here there le at_n in
           both_hold (has_pair (logged t.prev t.entries) f.seq f.hash) _ (has_at t m b f.seq f.hash at_m q r) (has_at t i a last.seq last.hash there u v),
     ))
-    (λ (most : k ≤ n). (
+    (λ (most : k ≤ n).
+    let apart : k + (n - k) ≡ n = omega (arith, most) in (
       n,
+      n - k,
       b,
+      last.hash,
       at_n,
-      inr (f, refl, sym r),
+      inr (f, refl, sym r, refl),
+      inl (k, a, apart, here, v),
       λ t i agree there le.
-          let (m, at_m) = has_too s t agree n i b at_n there le k a here most in
+          let (m, at_m) = has_too s t agree k (n - k) n i b a apart at_n there le here in
           both_hold (has_pair (logged t.prev t.entries) f.seq f.hash) _ (has_at t i b f.seq f.hash there q r) (has_at t m a last.seq last.hash at_m u v),
     ))
     (cases_lt n k)
@@ -204,18 +225,18 @@ handed : (s : Segment) (first : Option Statement) (last : Statement) → covers 
 handed s None last h = from_beginning s last h
 handed s (Some f) last h = from_entry s f last h
 
-answered_too : (c : AuditChallenge) (s : Segment) (k : ℕ) (a : Link) → Hand s c.first c.last k a → (y : Fields) (i : ℕ) → IsSegmentOf c.node y → Agree (form.Segment s) y → link_in y i ≡ Some a → k ≤ i → answers_audit c y ≡ true
-answered_too c s k a hand (form.Auth b) i own agree there le = absurd own
-answered_too c s k a hand (form.Segment t) i own agree there le = both_hold (t.node == c.node) _ ((Decides-eqb t.node c.node).1 own) (hand t i agree there le)
-answered_too c s k a hand (form.Audit d) i own agree there le = absurd own
-answered_too c s k a hand (form.Send m) i own agree there le = absurd own
-answered_too c s k a hand (form.Ack b) i own agree there le = absurd own
+answered_too : (c : AuditChallenge) (s : Segment) (d : ℕ) (a : Link) → Hand s c.first c.last d a → (y : Fields) (i : ℕ) → IsSegmentOf c.node y → Agree (form.Segment s) y → link_in y i ≡ Some a → d ≤ i → answers_audit c y ≡ true
+answered_too c s d a hand (form.Auth b) i own agree there le = absurd own
+answered_too c s d a hand (form.Segment t) i own agree there le = both_hold (t.node == c.node) _ ((Decides-eqb t.node c.node).1 own) (hand t i agree there le)
+answered_too c s d a hand (form.Audit e) i own agree there le = absurd own
+answered_too c s d a hand (form.Send m) i own agree there le = absurd own
+answered_too c s d a hand (form.Ack b) i own agree there le = absurd own
 
 pub answers_are_inherited : AnswersAreInherited
 answers_are_inherited c (form.Auth b) h = absurd cc
 answers_are_inherited c (form.Segment s) h =
-    let (k, a, here, named, hand) = handed s c.first c.last (second_holds (s.node == c.node) _ h) in
-    (k, a, here, named, λ y i own agree there le. answered_too c s k a hand y i own agree there le)
+    let (k, d, a, g, here, named, stands, hand) = handed s c.first c.last (second_holds (s.node == c.node) _ h) in
+    (k, d, a, g, here, named, stands, λ y i own agree there le. answered_too c s d a hand y i own agree there le)
 answers_are_inherited c (form.Audit d) h = absurd cc
 answers_are_inherited c (form.Send m) h = absurd cc
 answers_are_inherited c (form.Ack b) h = absurd cc

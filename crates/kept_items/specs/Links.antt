@@ -1,5 +1,5 @@
 -- The entries of a segment as links of the chain of their log.
-use Rattle.std.specs.Prelude.{◌≡◌, ◌≢◌, ◌≤◌, ◌⊎◌, ℕ, true, List, [], ◌∷◌, Option, Some, None, slice_get}
+use Rattle.std.specs.Prelude.{◌≡◌, ◌≢◌, ◌+◌, ◌≤◌, ◌⊎◌, ℕ, true, List, [], ◌∷◌, Option, Some, None, slice_get}
 use Rattle.log_chain.specs.declared.entry.Entry.{Entry}
 use Rattle.log_chain.specs.Chain.{base, entry_hash}
 use Rattle.item_forms.specs.declared.forms.AuditChallenge.{AuditChallenge}
@@ -33,10 +33,24 @@ pub record Agree (x y : Fields) : Type 0 where
 abbrev pub Names : AuditChallenge → List ℕ → Type 0
 Names c hash = (c.last.hash ≡ hash) ⊎ ((f : Statement) × (c.first ≡ Some f) × (f.hash ≡ hash))
 
+-- An audit challenge names the hash g beside the hash h. Beside the last one stands the first; where there is none, the hash before a
+-- log's first entry.
+abbrev pub first_hash : Option Statement → List ℕ
+first_hash None = base
+first_hash (Some f) = f.hash
+
+abbrev pub NamesBeside : AuditChallenge → (g h : List ℕ) → Type 0
+NamesBeside c g h = ((c.last.hash ≡ g) × (first_hash c.first ≡ h)) ⊎ ((f : Statement) × (c.first ≡ Some f) × (f.hash ≡ g) × (c.last.hash ≡ h))
+
+-- The hash stands d entries before position k of a segment; before the first entry stands the hash that the segment follows.
+abbrev pub IsBehind : Fields → (k d : ℕ) → List ℕ → Type 0
+IsBehind x k d h = ((n : ℕ) × (b : Link) × (n + d ≡ k) × (link_in x n ≡ Some b) × (b.hash ≡ h)) ⊎ ((b : Link) × (d ≡ k) × (link_in x 0 ≡ Some b) × (b.prev ≡ h))
+
 -- ---- a law, which `laws` proves
 
 -- Of a segment that answers an audit challenge an entry that the challenge names is such that each segment of the node that agrees
--- with this one, and has that entry with as many before it or more, answers the challenge too.
+-- with this one, and has that entry with as many before it as the other hash stands before it here, or more, answers the challenge too.
 abbrev pub AnswersAreInherited : Type 0
-AnswersAreInherited = (c : AuditChallenge) (x : Fields) → answers_audit c x ≡ true → (k : ℕ) × (a : Link) × (link_in x k ≡ Some a) × Names c a.hash
-    × ((y : Fields) (i : ℕ) → IsSegmentOf c.node y → Agree x y → link_in y i ≡ Some a → k ≤ i → answers_audit c y ≡ true)
+AnswersAreInherited = (c : AuditChallenge) (x : Fields) → answers_audit c x ≡ true
+    → (k d : ℕ) × (a : Link) × (h : List ℕ) × (link_in x k ≡ Some a) × NamesBeside c a.hash h × IsBehind x k d h
+    × ((y : Fields) (i : ℕ) → IsSegmentOf c.node y → Agree x y → link_in y i ≡ Some a → d ≤ i → answers_audit c y ≡ true)

@@ -18,7 +18,8 @@ pub fn denials_are_within_reach()
     ensures { DenialsAreWithinReach }
 {}
 
-/// A segment that has the entry that tells it, and as much before it, answers an audit challenge as this one does.
+/// A segment that has the entry that tells it, and before it as much as the challenge asks for, answers an audit challenge as this one
+/// does.
 pub fn answers_are_inherited()
     ensures { AnswersAreInherited }
 {}
