@@ -14,7 +14,7 @@ use Rattle.evidence_item.specs.Checking.{Checked}
 use Rattle.kept_evidence.specs.Kept.{by_item}
 use Rattle.kept_evidence.proofs.Orders.{by_item_total}
 use Rattle.node_tables.specs.Places.{AscendBySpelling, item_order_by}
-use Rattle.node_tables.specs.within.Marking.{is_like}
+use Rattle.node_tables.specs.within.Named.{is_like}
 use Rattle.node_tables.specs.within.Sendings.{audited_by, told_audit}
 use Rattle.node_tables.proofs.Receipts.{both_filters}
 use Rattle.node_tables.proofs.RowLists.{named_at, same_length}

@@ -1,28 +1,35 @@
 -- A new challenge that nothing answers, beside what is kept by hashes.
-use Rattle.std.proofs.Common.{◌≡◌, ℕ, Bool, true, false, List, length, Some, refl, sym, ap, subst, ◌∙◌, ◌⊎◌, inl, inr, ⊎_elim}
+use Rattle.std.proofs.Common.{◌≡◌, ℕ, Bool, true, false, List, length, Some, refl, sym, ap, subst, ◌∙◌, ◌⊎◌, inl, inr, ⊎_elim, arith}
 use Rattle.std.specs.Prelude.{◌↔◌, slice_get}
 use Rattle.std.specs.List.{Contains, list_any}
 use Rattle.std.proofs.lemmas.Option.{same_Some}
 use Rattle.item_forms.specs.declared.forms.AuditChallenge.{AuditChallenge}
 use Rattle.item_forms.specs.declared.forms.Fields.{Fields}
 use Rattle.item_forms.specs.declared.forms.Fields.TheVariants as form
+use Rattle.item_forms.specs.declared.forms.Statement.{Statement}
 use Rattle.evidence_item.specs.Checking.{Checked}
 use Rattle.evidence_set.specs.Challenges.{is_against}
 use Rattle.kept_evidence.specs.Telling.{IsSegmentOf, is_answered, told_answers}
 use Rattle.kept_evidence.proofs.Answered.{one_suffices, some_passes}
 use Rattle.kept_items.specs.declared.link.Link.{Link}
-use Rattle.kept_items.specs.Links.{AnswersAreInherited, Names}
+use Rattle.kept_items.specs.Links.{AnswersAreInherited, Names, NamesBeside, first_hash}
 use Rattle.node_tables.specs.declared.hashes.Hashes.{Hashes}
 use Rattle.node_tables.specs.declared.mark.Mark.{Mark}
 use Rattle.node_tables.specs.declared.span.Span.{Span}
-use Rattle.node_tables.specs.Hashed.{AreHashed, AreHolders, HasMark, IsAuditAt, front_of}
+use Rattle.node_tables.specs.Hashed.{AreHashed, AreHolders, HasNaming, IsAuditAt, front_of}
 use Rattle.node_tables.specs.Tables.{IsSegmentAt, shows_at}
-use Rattle.node_tables.specs.within.Marking.{KeepMarks}
+use Rattle.node_tables.specs.within.Named.{KeepNamings}
 use Rattle.node_tables.specs.within.Placing.{AreOthers, answers_at}
 use Rattle.node_tables.proofs.Answerers.{answered_at, no_segment}
 use Rattle.node_tables.proofs.Bools.{false_by}
-use Rattle.node_tables.proofs.Hashed.{handed_on, hashed_rest, none_came, shown_at, some_shown}
+use Rattle.node_tables.proofs.Hashed.{behind_most, handed_on, hashed_rest, none_came, shown_at, some_shown}
 use Rattle.node_tables.proofs.Places.{contains_at}
+
+named_at : (c : AuditChallenge) (f g : List ℕ) → NamesBeside c f g → Names c f
+named_at c f g named = ⊎_elim
+    (λ (last : (c.last.hash ≡ f) × (first_hash c.first ≡ g)). inl last.0)
+    (λ (first : (s : Statement) × (c.first ≡ Some s) × (s.hash ≡ f) × (c.last.hash ≡ g)). inr (first.0, first.1, first.2))
+    named
 
 module _ (items : List Checked) (j n : ℕ) (x : Checked) (here : slice_get items n ≡ Some x) (against : is_against j x.item.fields ≡ true) where
   pub no_segment_here : IsSegmentAt items j n → ⊥
@@ -47,21 +54,21 @@ module _ (items : List Checked) (j n : ℕ) (x : Checked) (here : slice_get item
       cc (yes, open_so))
 
   -- It is put among those that are open.
-  pub hashed_with : (places new : List ℕ) (g h : Hashes) → ((i : ℕ) → Contains new i ↔ (Contains places i ⊎ (i ≡ n))) → h.holders.items ≡ g.holders.items → KeepMarks g h
-      → ((c : AuditChallenge) (v : List ℕ) → x.item.fields ≡ form.Audit c → Names c v → HasMark h.lasts.items n v ⊎ HasMark h.firsts.items n v)
+  pub hashed_with : (places new : List ℕ) (g h : Hashes) → ((i : ℕ) → Contains new i ↔ (Contains places i ⊎ (i ≡ n))) → h.holders.items ≡ g.holders.items → KeepNamings g h
+      → ((c : AuditChallenge) (f v : List ℕ) → x.item.fields ≡ form.Audit c → NamesBeside c f v → HasNaming h.lasts.items n f v ⊎ HasNaming h.firsts.items n f v)
       → is_answered items x.item.fields ≡ false → AreHashed items j n 0 places g → AreHashed items j (length items) 0 new h
-  hashed_with places new g h members holders keeps marked open_so are =
+  hashed_with places new g h members holders keeps naming open_so are =
       let rest = hashed_rest items j n 0 (none_came items j n no_segment_here) places places g are (λ i has. has) (λ i c has audit seg. absurd (no_segment_here seg)) in
       record {
         holders = subst (AreHolders items j (length items) 0) (sym holders) rest.holders;
         lasts = keeps.lasts;
         firsts = keeps.firsts;
-        marked = λ i c v has audit named. ⊎_elim
+        named = λ i c f v has audit named. ⊎_elim
             (λ was. ⊎_elim
-            (λ (one : HasMark g.lasts.items i v). inl (one.0, keeps.still_lasts one.0 one.1, one.2, one.3))
-            (λ (one : HasMark g.firsts.items i v). inr (one.0, keeps.still_firsts one.0 one.1, one.2, one.3))
-            (rest.marked i c v was audit named))
-            (λ (now : i ≡ n). subst (λ k. HasMark h.lasts.items k v ⊎ HasMark h.firsts.items k v) (sym now) (marked c v (audit_here c (subst (λ k. IsAuditAt items k c) now audit)) named))
+            (λ (one : HasNaming g.lasts.items i f v). inl (one.0, keeps.still_lasts one.0 one.1, one.2, one.3, one.4))
+            (λ (one : HasNaming g.firsts.items i f v). inr (one.0, keeps.still_firsts one.0 one.1, one.2, one.3, one.4))
+            (rest.named i c f v was audit named))
+            (λ (now : i ≡ n). subst (λ k. HasNaming h.lasts.items k f v ⊎ HasNaming h.firsts.items k f v) (sym now) (naming c f v (audit_here c (subst (λ k. IsAuditAt items k c) now audit)) named))
             ((members i).0 has);
         quiet = λ i m c has audit seg other. ⊎_elim
             (λ was. rest.quiet i m c was audit seg other)
@@ -87,12 +94,13 @@ module _ (items : List Checked) (j n : ℕ) (x : Checked) (here : slice_get item
         let (p, has, answered) = some_passes answers spans told in
         let seg = ((others p.item).0 (p, has, refl)).0 in
         let shows = answers_show c is p.item seg.0 seg.1 answered in
-        let (k, y, at, named, hand) = handed_on items j n 0 h.holders.items are inherited c p.item seg (none_came items j n no_segment_here p.item seg) shows in
+        let (k, d, y, g, at, named, stands, hand) = handed_on items j n 0 h.holders.items are inherited c p.item seg (none_came items j n no_segment_here p.item seg) shows in
+        let near = behind_most items p.item k d g stands in
         let (m, held, is_y, far) = are.all p.item k y (none_came items j n no_segment_here p.item seg k y at) at in
         let holder = are.each m held in
         let front : m.front ≡ front_of y.hash = holder.front ∙ ap (λ (l : Link). front_of l.hash) (same_Some holder.link y (sym holder.here ∙ is_y)) in
-        let yes = shows_answers c is m.item (hand m.item m.position holder.came.0 (none_came items j n no_segment_here m.item holder.came.0) is_y far) in
-        let not_so = none m y.hash held named front in
+        let yes = shows_answers c is m.item (hand m.item m.position holder.came.0 (none_came items j n no_segment_here m.item holder.came.0) is_y (omega (arith, near, far))) in
+        let not_so = none m y.hash held (named_at c y.hash g named) front in
         cc (yes, not_so)
 
     pub holders_tell : AnswersAreInherited → (c : AuditChallenge) → x.item.fields ≡ form.Audit c → (b : Bool)

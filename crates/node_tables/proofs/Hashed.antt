@@ -1,5 +1,5 @@
 -- What is kept by hashes: among more items, once a segment came, and what it tells of audit challenges.
-use Rattle.std.proofs.Common.{◌≡◌, ◌≢◌, ℕ, suc, ◌+◌, ◌<◌, ◌≤◌, true, false, List, [], ◌∷◌, ◌++◌, length, Option, Some, None, refl, sym, ap, subst, ◌∙◌, inl, inr, ⊎_elim, arith}
+use Rattle.std.proofs.Common.{◌≡◌, ◌≢◌, ℕ, suc, ◌+◌, ◌<◌, ◌≤◌, true, false, List, [], ◌∷◌, ◌++◌, length, Option, Some, None, refl, sym, ap, subst, ◌∙◌, ◌⊎◌, inl, inr, ⊎_elim, arith}
 use Rattle.std.specs.Prelude.{◌==◌, slice_get}
 use Rattle.std.specs.List.{Contains}
 use Rattle.std.proofs.lemmas.Bool.{cases_eq}
@@ -14,12 +14,12 @@ use Rattle.evidence_item.specs.Checking.{Checked}
 use Rattle.evidence_set.specs.Challenges.{answers_audit}
 use Rattle.kept_evidence.specs.Telling.{IsSegmentOf}
 use Rattle.kept_items.specs.declared.link.Link.{Link}
-use Rattle.kept_items.specs.Links.{Agree, AnswersAreInherited, Names, link_in, links}
+use Rattle.kept_items.specs.Links.{Agree, AnswersAreInherited, IsBehind, NamesBeside, link_in, links}
 use Rattle.kept_items.specs.Positions.{positions}
 use Rattle.node_tables.specs.declared.hashes.Hashes.{Hashes}
 use Rattle.node_tables.specs.declared.mark.Mark.{Mark}
 use Rattle.node_tables.specs.declared.table.Table.{Table}
-use Rattle.node_tables.specs.Hashed.{AreAsked, AreHashed, AreHolders, AreSame, DoNotFall, HasCome, HasMark, IsAuditAt, link_at, link_by}
+use Rattle.node_tables.specs.Hashed.{AreAsked, AreHashed, AreHolders, AreSame, HasCome, HasNaming, IsAuditAt, StandByPairs, link_at, link_by}
 use Rattle.node_tables.specs.Places.{AscendBySpelling}
 use Rattle.node_tables.specs.Tables.{IsSegmentAt, shown_by, shows_at}
 use Rattle.node_tables.proofs.Asked.{asked_more, there_by}
@@ -62,6 +62,22 @@ node_is j c (form.Ack a) h own = absurd own
 
 -- ---- a segment that answers hands it on
 
+-- In the segment at place i the hash stands d entries before position k.
+abbrev pub StandsBehind : List Checked → (i k d : ℕ) → List ℕ → Type 0
+StandsBehind items i k d g = ((l : ℕ) × (b : Link) × (l + d ≡ k) × (link_at items i l ≡ Some b) × (b.hash ≡ g)) ⊎ ((b : Link) × (d ≡ k) × (link_at items i 0 ≡ Some b) × (b.prev ≡ g))
+
+stands_there : (items : List Checked) (i k d : ℕ) (g : List ℕ) (e : Checked) → slice_get items i ≡ Some e → IsBehind e.item.fields k d g → StandsBehind items i k d g
+stands_there items i k d g e at stands = ⊎_elim
+    (λ (one : (l : ℕ) × (b : Link) × (l + d ≡ k) × (link_in e.item.fields l ≡ Some b) × (b.hash ≡ g)). inl (one.0, one.1, one.2, linked_at items i one.0 e at ∙ one.3, one.4))
+    (λ (begins : (b : Link) × (d ≡ k) × (link_in e.item.fields 0 ≡ Some b) × (b.prev ≡ g)). inr (begins.0, begins.1, linked_at items i 0 e at ∙ begins.2, begins.3))
+    stands
+
+pub behind_most : (items : List Checked) (n k d : ℕ) (g : List ℕ) → StandsBehind items n k d g → d ≤ k
+behind_most items n k d g stands = ⊎_elim
+    (λ (one : (l : ℕ) × (b : Link) × (l + d ≡ k) × (link_at items n l ≡ Some b) × (b.hash ≡ g)). let is = one.2 in omega (arith, is))
+    (λ (begins : (b : Link) × (d ≡ k) × (link_at items n 0 ≡ Some b) × (b.prev ≡ g)). let is = begins.1 in omega (arith, is))
+    stands
+
 -- All that the segment at a place has came.
 abbrev pub HasAllCome : List Checked → (j n p i : ℕ) → Type 0
 HasAllCome items j n p i = (k : ℕ) (x : Link) → link_at items i k ≡ Some x → HasCome items j n p i k
@@ -76,17 +92,22 @@ module _ (items : List Checked) (j n p : ℕ) (holders : List Mark) (are : AreHo
     based = λ m y is_y. let there = linked_at items l m e at_l ∙ is_y in are.based l m y (came_l m y there) there;
   }
 
-  -- Of a segment that answers an audit challenge an entry that the challenge names tells that each that holds it behind as many answers it.
+  -- Of a segment that answers an audit challenge an entry that the challenge names tells that each answers it that holds the entry behind
+  -- as many as the other hash stands before it here.
   pub handed_on : AnswersAreInherited → (c : AuditChallenge) (i : ℕ) → IsSegmentAt items j i → HasAllCome items j n p i → shows_at items c i ≡ true
-      → (k : ℕ) × (x : Link) × (link_at items i k ≡ Some x) × Names c x.hash × ((l m : ℕ) → IsSegmentAt items j l → HasAllCome items j n p l → link_at items l m ≡ Some x → k ≤ m → shows_at items c l ≡ true)
+      → (k d : ℕ) × (x : Link) × (g : List ℕ) × (link_at items i k ≡ Some x) × NamesBeside c x.hash g × StandsBehind items i k d g
+      × ((l m : ℕ) → IsSegmentAt items j l → HasAllCome items j n p l → link_at items l m ≡ Some x → d ≤ m → shows_at items c l ≡ true)
   handed_on inherited c i (d, at_d, own) came shows =
       let h : answers_audit c d.item.fields ≡ true = sym (shown_at items c i d at_d) ∙ shows in
-      let (k, x, here, named, hand) = inherited c d.item.fields h in
+      let (k, far_from, x, g, here, named, stands, hand) = inherited c d.item.fields h in
       let node = node_is j c d.item.fields h own in (
         k,
+        far_from,
         x,
+        g,
         linked_at items i k d at_d ∙ here,
         named,
+        stands_there items i k far_from g d at_d stands,
         λ l m (e, at_e, own_e) came_l there far.
             shown_at items c l e at_e
             ∙ hand e.item.fields m (subst (λ v. IsSegmentOf v e.item.fields) (sym node) own_e) (agree i l d e at_d at_e came came_l) (sym (linked_at items l m e at_e) ∙ there) far,
@@ -113,7 +134,7 @@ module _ (items : List Checked) (j n p : ℕ) (all_came : (i : ℕ) → IsSegmen
     holders = holders_rest h.holders.items are.holders;
     lasts = are.lasts;
     firsts = are.firsts;
-    marked = λ i c g has audit named. are.marked i c g (fewer i has) audit named;
+    named = λ i c f g has audit named. are.named i c f g (fewer i has) audit named;
     quiet = λ i m c has audit seg other. ⊎_elim
         (λ (same : m ≡ n). ap (shows_at items c) same ∙ none i c has audit (subst (IsSegmentAt items j) same seg))
         (λ (differs : m ≡ n → ⊥). are.quiet i m c (fewer i has) audit seg differs)
@@ -131,7 +152,7 @@ hashed_less items j n p old new h fewer are = record {
   holders = are.holders;
   lasts = are.lasts;
   firsts = are.firsts;
-  marked = λ i c g has audit named. are.marked i c g (fewer i has) audit named;
+  named = λ i c f g has audit named. are.named i c f g (fewer i has) audit named;
   quiet = λ i m c has audit seg other. are.quiet i m c (fewer i has) audit seg other;
 }
 
@@ -140,12 +161,12 @@ hashed_less items j n p old new h fewer are = record {
 pub hashed_same : (items : List Checked) (j n p : ℕ) (places : List ℕ) (g h : Hashes) → AreSame g h → AreHashed items j n p places g → AreHashed items j n p places h
 hashed_same items j n p places g h same are = record {
   holders = subst (AreHolders items j n p) (sym same.holders) are.holders;
-  lasts = subst DoNotFall (sym same.lasts) are.lasts;
-  firsts = subst DoNotFall (sym same.firsts) are.firsts;
-  marked = λ i c v has audit named. ⊎_elim
-      (λ one. inl (subst (λ l. HasMark l i v) (sym same.lasts) one))
-      (λ other. inr (subst (λ l. HasMark l i v) (sym same.firsts) other))
-      (are.marked i c v has audit named);
+  lasts = subst StandByPairs (sym same.lasts) are.lasts;
+  firsts = subst StandByPairs (sym same.firsts) are.firsts;
+  named = λ i c f v has audit named. ⊎_elim
+      (λ one. inl (subst (λ l. HasNaming l i f v) (sym same.lasts) one))
+      (λ other. inr (subst (λ l. HasNaming l i f v) (sym same.firsts) other))
+      (are.named i c f v has audit named);
   quiet = are.quiet;
 }
 
@@ -200,7 +221,7 @@ module _ (items : List Checked) (x : Checked) (j : ℕ) where
     holders = holders_grown h.holders.items are.holders;
     lasts = are.lasts;
     firsts = are.firsts;
-    marked = λ i c g has audit named. are.marked i c g has (old_audit places spelled i c has audit) named;
+    named = λ i c f g has audit named. are.named i c f g has (old_audit places spelled i c has audit) named;
     quiet = λ i m c has audit seg other.
         let was = old_segment m seg other in
         ap (λ (o : Option Checked). shown_by o c) (still_at items x m was.0 was.1 ∙ sym was.1)

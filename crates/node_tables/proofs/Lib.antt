@@ -19,6 +19,7 @@ pub mod Lookup
 pub mod Many
 pub mod Marked
 pub mod Meant
+pub mod Namings
 pub mod OneMore
 pub mod Opened
 pub mod Places

@@ -1,10 +1,6 @@
 -- Marks by the fronts of their hashes.
 use Rattle.std.proofs.Common.{◌≡◌, ℕ, ◌+◌, ◌<◌, ◌≤◌, true, false, leb, ltb, List, ◌∷◌, length, get_or, insert, refl, sym, ap, ◌⊎◌, inl, inr, ⊎_elim, arith}
 use Rattle.std.specs.List.{Contains, remove}
-use Rattle.std.specs.Ordering.{nat_cmp, ordering_then}
-use Rattle.std.specs.declared.cmp.Ordering.{Ordering}
-use Rattle.std.specs.declared.cmp.Ordering.TheVariants.{Less, Equal, Greater}
-use Rattle.std.proofs.lemmas.Cmp.{ranked}
 use Rattle.std.specs.List.Sorted.{IsPartitionPoint, IsPartitionedBy}
 use Rattle.std.proofs.lemmas.Bool.{cases_lt}
 use Rattle.std.proofs.lemmas.Bool.Decides.{nat_tests}
@@ -53,59 +49,58 @@ put_rises marks n m rise inside parts = IsNonDecreasingBy-insert (λ (k : Mark).
     (λ k d lt. at_most (get_or marks k d).front m.front (parts.0 k d (omega arith) lt))
     (λ k d le here. let more = above (get_or marks k d).front m.front (parts.1 k d le here) in omega (arith, more))
 
-module _ (marks : List Mark) (i : ℕ) (inside : i < length marks) where
-  stands : (k : ℕ) (d : Mark) → (n : ℕ) × (get_or (remove marks i) k d ≡ get_or marks n d) × (((n ≡ k) × (k < i)) ⊎ ((n ≡ k + 1) × (i ≤ k)))
+-- ---- one goes
+
+module _ {X : Type 0} (marks : List X) (i : ℕ) (inside : i < length marks) where
+  pub stands : (k : ℕ) (d : X) → (n : ℕ) × (get_or (remove marks i) k d ≡ get_or marks n d) × (((n ≡ k) × (k < i)) ⊎ ((n ≡ k + 1) × (i ≤ k)))
   stands k d = ⊎_elim
       (λ (lt : k < i). (k, get_or-remove_below marks i d k lt inside, inl (refl, lt)))
       (λ (le : i ≤ k). (k + 1, get_or-remove_above marks i d k le inside, inr (refl, le)))
       (cases_lt k i)
 
-  pub removed_rises : DoNotFall marks → DoNotFall (remove marks i)
-  removed_rises rise a b d le lt =
-      let (m, at_m, by_m) = stands a d in
-      let (n, at_n, by_n) = stands b d in
-      let shorter = length-remove marks i inside in
-      let up : m ≤ n = ordered m n by_m by_n in
-      let most : n < length marks = last n by_n (omega (arith, lt, shorter)) in
-      let one = ap (λ (k : Mark). k.front) at_m in
-      let other = ap (λ (k : Mark). k.front) at_n in
-      let rises = rise m n d up most in
-      omega (arith, one, other, rises)
-    where
-      ordered : (m n : ℕ) → ((m ≡ a) × (a < i)) ⊎ ((m ≡ a + 1) × (i ≤ a)) → ((n ≡ b) × (b < i)) ⊎ ((n ≡ b + 1) × (i ≤ b)) → m ≤ n
-      ordered m n (inl (p, q)) (inl (r, s)) = omega (arith, p, r, le)
-      ordered m n (inl (p, q)) (inr (r, s)) = omega (arith, p, r, le)
-      ordered m n (inr (p, q)) (inl (r, s)) = absurd (omega (arith, q, s, le))
-      ordered m n (inr (p, q)) (inr (r, s)) = omega (arith, p, r, le)
-
-      last : (n : ℕ) → ((n ≡ b) × (b < i)) ⊎ ((n ≡ b + 1) × (i ≤ b)) → b + 1 < length marks → n < length marks
-      last n (inl (r, s)) more = omega (arith, r, more)
-      last n (inr (r, s)) more = omega (arith, r, more)
-
   -- what was before it stands there, and what was behind it one place earlier
-  pub removed_before : (k : ℕ) (d : Mark) → k < i → get_or (remove marks i) k d ≡ get_or marks k d
+  pub removed_before : (k : ℕ) (d : X) → k < i → get_or (remove marks i) k d ≡ get_or marks k d
   removed_before k d lt = get_or-remove_below marks i d k lt inside
 
-  pub removed_behind : (k : ℕ) (d : Mark) → i ≤ k → get_or (remove marks i) k d ≡ get_or marks (k + 1) d
+  pub removed_behind : (k : ℕ) (d : X) → i ≤ k → get_or (remove marks i) k d ≡ get_or marks (k + 1) d
   removed_behind k d le = get_or-remove_above marks i d k le inside
 
   pub removed_length : length (remove marks i) + 1 ≡ length marks
   removed_length = length-remove marks i inside
 
-  pub removed_fewer : (m : Mark) → Contains (remove marks i) m → Contains marks m
+  pub removed_fewer : (m : X) → Contains (remove marks i) m → Contains marks m
   removed_fewer m has =
       let d = get_or marks i m in
       Contains-permutation (d ∷ remove marks i) marks m (IsPermutation-sym _ _ (IsPermutation-remove marks i d inside (get_or_default marks i m d inside))) (cons_has d (remove marks i) m (inl has))
 
-  pub removed_others : (m d : Mark) → Contains marks m → Contains (remove marks i) m ⊎ (m ≡ get_or marks i d)
+  pub removed_others : (m d : X) → Contains marks m → Contains (remove marks i) m ⊎ (m ≡ get_or marks i d)
   removed_others m d has =
       let e = get_or marks i d in
       in_cons e (remove marks i) m (Contains-permutation marks (e ∷ remove marks i) m (IsPermutation-remove marks i e inside (get_or_default marks i d e inside)) has)
 
-both_equal : (a b : Ordering) → ordering_then a b ≡ Equal → b ≡ Equal
-both_equal Less b h = absurd cc
-both_equal Equal b h = h
-both_equal Greater b h = absurd cc
+-- An order of all places, by two of those that were.
+module _ (i n : ℕ) where
+  abbrev pub Was : ℕ → ℕ → Type 0
+  Was m a = ((m ≡ a) × (a < i)) ⊎ ((m ≡ a + 1) × (i ≤ a))
 
-pub same_item : (m : Mark) (front item : ℕ) → ordering_then (nat_cmp m.front front) (nat_cmp m.item item) ≡ Equal → m.item ≡ item
-same_item m front item h = ranked m.item item Equal (sym (both_equal (nat_cmp m.front front) (nat_cmp m.item item) h))
+  pub was_ordered : (a b m k : ℕ) → a ≤ b → Was m a → Was k b → m ≤ k
+  was_ordered a b m k le (inl (p, q)) (inl (r, s)) = omega (arith, p, r, le)
+  was_ordered a b m k le (inl (p, q)) (inr (r, s)) = omega (arith, p, r, le)
+  was_ordered a b m k le (inr (p, q)) (inl (r, s)) = absurd (omega (arith, q, s, le))
+  was_ordered a b m k le (inr (p, q)) (inr (r, s)) = omega (arith, p, r, le)
+
+  pub was_inside : (b k : ℕ) → Was k b → b + 1 < n → k < n
+  was_inside b k (inl (r, s)) more = omega (arith, r, more)
+  was_inside b k (inr (r, s)) more = omega (arith, r, more)
+
+pub removed_rises : (marks : List Mark) (i : ℕ) → i < length marks → DoNotFall marks → DoNotFall (remove marks i)
+removed_rises marks i inside rise a b d le lt =
+    let (m, at_m, by_m) = stands marks i inside a d in
+    let (n, at_n, by_n) = stands marks i inside b d in
+    let shorter = removed_length marks i inside in
+    let up : m ≤ n = was_ordered i (length marks) a b m n le by_m by_n in
+    let most : n < length marks = was_inside i (length marks) b n by_n (omega (arith, lt, shorter)) in
+    let one = ap (λ (k : Mark). k.front) at_m in
+    let other = ap (λ (k : Mark). k.front) at_n in
+    let rises = rise m n d up most in
+    omega (arith, one, other, rises)

@@ -17,7 +17,7 @@ use Rattle.node_tables.specs.declared.row.Row.{Row}
 use Rattle.node_tables.specs.declared.sending.Sending.{Sending}
 use Rattle.node_tables.specs.declared.span.Span.{Span}
 use Rattle.node_tables.specs.declared.table.Table.{Table}
-use Rattle.node_tables.specs.Hashed.{AreHolders, DoNotFall}
+use Rattle.node_tables.specs.Hashed.{AreHolders, StandByPairs}
 use Rattle.node_tables.specs.Indexed.{HasNode, IsIndexed, IsTable}
 use Rattle.node_tables.specs.Receipts.{AscendBySending, by_sending}
 use Rattle.node_tables.specs.Rows.{AreRowsOf}
@@ -61,9 +61,9 @@ empty_table t rows receipts spans unanswered holders lasts firsts exposure = rec
         one = λ i k l m x y came_x came_y at_x at_y same. absurd cc;
         based = λ i k x came at is. absurd cc;
       });
-      lasts = subst DoNotFall (sym lasts) (λ i k d le inside. absurd (omega (arith, inside)));
-      firsts = subst DoNotFall (sym firsts) (λ i k d le inside. absurd (omega (arith, inside)));
-      marked = λ i c g has audit named. absurd (none_here i (subst (λ (l : List ℕ). Contains l i) unanswered has));
+      lasts = subst StandByPairs (sym lasts) (λ i k d le inside. absurd (omega (arith, inside)));
+      firsts = subst StandByPairs (sym firsts) (λ i k d le inside. absurd (omega (arith, inside)));
+      named = λ i c f g has audit named. absurd (none_here i (subst (λ (l : List ℕ). Contains l i) unanswered has));
       quiet = λ i m c has audit seg other. absurd (none_here i (subst (λ (l : List ℕ). Contains l i) unanswered has));
     };
   };

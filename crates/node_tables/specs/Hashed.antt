@@ -2,15 +2,16 @@
 use Rattle.std.specs.List.{Contains}
 use Rattle.std.specs.List.Sorted.{IsNonDecreasingBy}
 use Rattle.std.specs.Int.{from_be_bytes, w64}
-use Rattle.std.specs.Prelude.{◌≡◌, ◌≢◌, ◌<◌, ◌≤◌, ◌⊎◌, ℕ, true, false, List, [], ◌∷◌, Option, Some, None, slice_get, slice_index}
+use Rattle.std.specs.Prelude.{◌≡◌, ◌≢◌, ◌<◌, ◌≤◌, ◌⊎◌, ℕ, true, false, List, [], ◌∷◌, Option, Some, None, length, slice_get, slice_index, slice_index_or}
 use Rattle.log_chain.specs.Chain.{base}
 use Rattle.item_forms.specs.declared.forms.AuditChallenge.{AuditChallenge}
 use Rattle.item_forms.specs.declared.forms.Fields.TheVariants as form
 use Rattle.evidence_item.specs.Checking.{Checked}
 use Rattle.kept_items.specs.declared.link.Link.{Link}
-use Rattle.kept_items.specs.Links.{Names, link_in}
+use Rattle.kept_items.specs.Links.{NamesBeside, link_in}
 use Rattle.node_tables.specs.declared.hashes.Hashes.{Hashes}
 use Rattle.node_tables.specs.declared.mark.Mark.{Mark}
+use Rattle.node_tables.specs.declared.naming.Naming.{Naming}
 use Rattle.node_tables.specs.declared.table.Table.{Table}
 use Rattle.node_tables.specs.Places.{AscendBySpelling}
 use Rattle.node_tables.specs.Tables.{IsSegmentAt, shows_at}
@@ -22,6 +23,13 @@ front_of h = from_be_bytes w64 (slice_index h 0 ∷ slice_index h 1 ∷ slice_in
 -- The marks stand by these.
 abbrev pub DoNotFall : List Mark → Type 0
 DoNotFall marks = IsNonDecreasingBy (λ (m : Mark). m.front) marks
+
+-- The namings stand by the one hash, and those of one by the other hash.
+abbrev pub IsUpTo : Naming → Naming → Type 0
+IsUpTo m k = (m.front < k.front) ⊎ ((m.front ≡ k.front) × (m.other ≤ k.other))
+
+abbrev pub StandByPairs : List Naming → Type 0
+StandByPairs namings = (a b : ℕ) (d : Naming) → a ≤ b → b < length namings → IsUpTo (slice_index_or namings a d) (slice_index_or namings b d)
 
 -- The entry at a position of the item at a place.
 abbrev pub link_by : Option Checked → ℕ → Option Link
@@ -58,27 +66,27 @@ pub record AreHolders (items : List Checked) (j n p : ℕ) (holders : List Mark)
 abbrev pub IsAuditAt : List Checked → ℕ → AuditChallenge → Type 0
 IsAuditAt items i c = (x : Checked) × (slice_get items i ≡ Some x) × (x.item.fields ≡ form.Audit c)
 
--- One of the marks is that of a hash in the item at place i.
-abbrev pub HasMark : List Mark → ℕ → List ℕ → Type 0
-HasMark marks i h = (m : Mark) × Contains marks m × (m.item ≡ i) × (m.front ≡ front_of h)
+-- One of the namings is that of the hash g beside the hash h, by the item at place i.
+abbrev pub HasNaming : List Naming → ℕ → (g h : List ℕ) → Type 0
+HasNaming namings i g h = (m : Naming) × Contains namings m × (m.item ≡ i) × (m.front ≡ front_of g) × (m.other ≡ front_of h)
 
 -- Entries stand by their hashes, and each open audit challenge by the hashes that it names; none of them is answered by a segment, which
 -- that at place n need not be told of.
 pub record AreHashed (items : List Checked) (j n p : ℕ) (places : List ℕ) (h : Hashes) : Type 0 where
   pub holders : AreHolders items j n p h.holders.items
-  pub lasts : DoNotFall h.lasts.items
-  pub firsts : DoNotFall h.firsts.items
-  pub marked : (i : ℕ) (c : AuditChallenge) (g : List ℕ) → Contains places i → IsAuditAt items i c → Names c g → HasMark h.lasts.items i g ⊎ HasMark h.firsts.items i g
+  pub lasts : StandByPairs h.lasts.items
+  pub firsts : StandByPairs h.firsts.items
+  pub named : (i : ℕ) (c : AuditChallenge) (f g : List ℕ) → Contains places i → IsAuditAt items i c → NamesBeside c f g → HasNaming h.lasts.items i f g ⊎ HasNaming h.firsts.items i f g
   pub quiet : (i m : ℕ) (c : AuditChallenge) → Contains places i → IsAuditAt items i c → IsSegmentAt items j m → m ≢ n → shows_at items c m ≡ false
 
--- They have the same marks.
+-- They have the same marks and namings.
 pub record AreSame (g h : Hashes) : Type 0 where
   pub whole : h.whole ≡ g.whole
   pub holders : h.holders.items ≡ g.holders.items
   pub lasts : h.lasts.items ≡ g.lasts.items
   pub firsts : h.firsts.items ≡ g.firsts.items
 
--- The open challenges stand by their spellings; and where marks are kept, entries and audit challenges stand by hashes.
+-- The open challenges stand by their spellings; and where marks and namings are kept, entries and audit challenges stand by hashes.
 pub record AreAsked (items : List Checked) (n : ℕ) (t : Table) : Type 0 where
   pub spelled : AscendBySpelling items t.unanswered.items
   pub hashed : t.hashes.whole ≡ true → AreHashed items t.node n 0 t.unanswered.items t.hashes

@@ -2,6 +2,7 @@
 pub mod Bringing
 pub mod Coming
 pub mod Marking
+pub mod Named
 pub mod Placing
 pub mod Promising
 pub mod Sendings

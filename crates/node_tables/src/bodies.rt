@@ -7,10 +7,10 @@ ghost use Rattle.evidence_item.specs.Checking.{is_segment};
 ghost use Rattle.item_forms.specs.Forms.{shown};
 ghost use Rattle.item_forms.specs.declared.forms.AuditChallenge.{AuditChallenge as TheAudit};
 ghost use Rattle.item_forms.specs.declared.forms.Fields.TheVariants as form;
-ghost use Rattle.kept_items.specs.Links.{Names};
-ghost use Rattle.node_tables.specs.Hashed.{DoNotFall, HasMark};
+ghost use Rattle.kept_items.specs.Links.{NamesBeside};
+ghost use Rattle.node_tables.specs.Hashed.{HasNaming, StandByPairs};
 ghost use Rattle.node_tables.specs.Places.{AscendBySpelling, item_order_by};
-ghost use Rattle.node_tables.specs.within.Marking.{KeepMarks};
+ghost use Rattle.node_tables.specs.within.Named.{KeepNamings};
 ghost use Rattle.node_tables.specs.Steps.{AllTables, EachBecomes};
 ghost use Rattle.node_tables.specs.Tables.{IsSegmentAt};
 ghost use Rattle.node_tables.specs.within.Coming.{BodyCame, BodyPut, IsBodyDue, IsKept, IsToPut};
@@ -19,7 +19,8 @@ ghost use Rattle.node_tables.specs.within.Placing.{AreStanding, IsAckAt, IsNewAm
 use crate::answering::{close_acknowledged, is_answered_at};
 use crate::closing::close_by_segment;
 use crate::hashes::Hashes;
-use crate::mark::{Mark, front_of, put_where_room};
+use crate::mark::front_of;
+use crate::naming::{Naming, put_where_room};
 use crate::order::KeptProbe;
 use crate::releasing::entries_of;
 use crate::segments::put_segment;
@@ -27,6 +28,7 @@ use crate::table::Table;
 use crate::tables::place_of;
 use evidence_item::{AuditChallenge, Form};
 use kept_items::KeptItem;
+use log_chain::base_hash;
 use tiered_vec::TieredVec;
 
 /// Puts a segment: it may expose the node, and answers challenges.
@@ -88,47 +90,54 @@ fn put_by_spelling<P>(
     places.insert(gap, place);
 }
 
-/// Marks an open audit challenge by the hashes that it names, and tells whether there was memory for it.
-fn mark_audit(hashes: &mut Hashes, place: u32, audit: &AuditChallenge) -> bool
-    requires lasts { DoNotFall hashes.old.lasts.items }
-    requires firsts { DoNotFall hashes.old.firsts.items }
+/// Keeps an open audit challenge by the hashes that it names, and tells whether there was memory for it.
+fn put_namings(hashes: &mut Hashes, place: u32, audit: &AuditChallenge) -> bool
+    requires lasts { StandByPairs hashes.old.lasts.items }
+    requires firsts { StandByPairs hashes.old.firsts.items }
     ensures holders { hashes.new.holders.items ≡ hashes.old.holders.items }
-    ensures marks { KeepMarks hashes.old hashes.new }
-    ensures marked { result ≡ true → (h : List ℕ) → Names audit.now h → HasMark hashes.new.lasts.items place h ⊎ HasMark hashes.new.firsts.items place h }
+    ensures keeps { KeepNamings hashes.old hashes.new }
+    ensures named { result ≡ true → (g h : List ℕ) → NamesBeside audit.now g h → HasNaming hashes.new.lasts.items place g h ⊎ HasNaming hashes.new.firsts.items place g h }
 {
-    let last = Mark {
-        front: front_of(audit.last.hash),
-        item: place,
-        position: 0,
+    let last = front_of(audit.last.hash);
+    let Some(first) = &audit.first else {
+        let naming = Naming {
+            front: last,
+            other: front_of(base_hash()),
+            item: place,
+        };
+        return put_where_room(&mut hashes.lasts, naming);
     };
-    if !put_where_room(&mut hashes.lasts, last) {
+    let first = front_of(first.hash);
+    let naming = Naming {
+        front: last,
+        other: first,
+        item: place,
+    };
+    if !put_where_room(&mut hashes.lasts, naming) {
         return false;
     }
-    let Some(first) = &audit.first else {
-        return true;
-    };
-    let first = Mark {
-        front: front_of(first.hash),
+    let turned = Naming {
+        front: first,
+        other: last,
         item: place,
-        position: 1,
     };
-    put_where_room(&mut hashes.firsts, first)
+    put_where_room(&mut hashes.firsts, turned)
 }
 
-/// Marks an open challenge, where it is an audit challenge.
-fn mark_challenge<P>(hashes: &mut Hashes, place: u32, kept: &KeptItem<P>)
-    requires lasts { hashes.old.whole ≡ true → DoNotFall hashes.old.lasts.items }
-    requires firsts { hashes.old.whole ≡ true → DoNotFall hashes.old.firsts.items }
+/// Keeps an open challenge by the hashes that it names, where it is an audit challenge.
+fn put_by_hashes<P>(hashes: &mut Hashes, place: u32, kept: &KeptItem<P>)
+    requires lasts { hashes.old.whole ≡ true → StandByPairs hashes.old.lasts.items }
+    requires firsts { hashes.old.whole ≡ true → StandByPairs hashes.old.firsts.items }
     ensures whole { hashes.new.whole ≡ true → hashes.old.whole ≡ true }
     ensures holders { hashes.new.holders.items ≡ hashes.old.holders.items }
-    ensures marks { hashes.new.whole ≡ true → KeepMarks hashes.old hashes.new }
-    ensures marked { hashes.new.whole ≡ true → (c : TheAudit) (h : List ℕ) → kept.now.item.fields ≡ form.Audit c → Names c h → HasMark hashes.new.lasts.items place h ⊎ HasMark hashes.new.firsts.items place h }
+    ensures keeps { hashes.new.whole ≡ true → KeepNamings hashes.old hashes.new }
+    ensures named { hashes.new.whole ≡ true → (c : TheAudit) (g h : List ℕ) → kept.now.item.fields ≡ form.Audit c → NamesBeside c g h → HasNaming hashes.new.lasts.items place g h ⊎ HasNaming hashes.new.firsts.items place g h }
 {
     if !hashes.whole {
         return;
     }
     if let Some(Form::Audit(audit)) = kept.form() {
-        if !mark_audit(hashes, place, audit) {
+        if !put_namings(hashes, place, audit) {
             hashes.whole = false;
         }
     }
@@ -150,7 +159,7 @@ fn put_challenge<P>(
         return;
     }
     put_by_spelling(items, &mut table.unanswered, place, kept);
-    mark_challenge(&mut table.hashes, place, kept);
+    put_by_hashes(&mut table.hashes, place, kept);
 }
 
 /// Puts what an item that is no segment is, beside its statements, into the table of its node.

@@ -4,6 +4,7 @@ ghost use Rattle.std.specs.Prelude.{◌≡◌, [], true};
 ghost use Rattle.node_tables.specs.Hashed.{AreSame};
 
 use crate::mark::Mark;
+use crate::naming::Naming;
 use outcome::Memory;
 use std::alloc::Global;
 use tiered_vec::TieredVec;
@@ -12,14 +13,14 @@ use tiered_vec::TieredVec;
 /// refused that was promised, all would be looked through, as long as the store is.
 #[derive(Drop)]
 pub struct Hashes {
-    /// Whether the marks are kept.
+    /// Whether the marks and namings are kept.
     pub whole: bool,
     /// Of each hash of an entry the segment in which most entries stand before it.
     pub holders: TieredVec<Mark>,
     /// The open audit challenges by the hashes up to which they go.
-    pub lasts: TieredVec<Mark>,
+    pub lasts: TieredVec<Naming>,
     /// Those from an entry on, by its hash.
-    pub firsts: TieredVec<Mark>,
+    pub firsts: TieredVec<Naming>,
     /// How many entries were promised room and did not come yet.
     pub awaited: usize,
 }

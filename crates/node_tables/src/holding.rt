@@ -15,11 +15,11 @@ use tiered_vec::TieredVec;
 /// What became of an entry that came.
 #[derive(Clone, Copy, Debug, PartialEq, Eq)]
 pub(crate) enum Held {
-    /// Its segment holds it behind more entries than any did.
-    Raised,
+    /// Its segment holds it behind more entries than any did. Behind all of these but so many first ones another segment holds it.
+    Raised(u32),
     /// Another segment holds it behind as many entries.
     Known,
-    /// It cannot be told apart by its hash, or memory ran out.
+    /// It cannot be told apart by its hash, or stands twice in its segment, or memory ran out.
     Lost,
 }
 
@@ -95,8 +95,11 @@ fn put_new<P>(
     requires new { (m : TheMark) → Contains holders.old.items m → has_hash (link_at items.now m.item m.position) link.now.hash ≡ false }
     ensures { IsPut items.now node mark link.now holders.new.items result }
 {
+    let Some(entries) = mark.position.checked_add(1) else {
+        return Held::Lost;
+    };
     if put_where_room(holders, mark) {
-        Held::Raised
+        Held::Raised(entries)
     } else {
         Held::Lost
     }
@@ -126,9 +129,12 @@ fn put_over<P>(
     if old.position >= mark.position {
         return Held::Known;
     }
+    if old.item == mark.item {
+        return Held::Lost;
+    }
     take_away(holders, at);
     put(holders, mark);
-    Held::Raised
+    Held::Raised(mark.position - old.position)
 }
 
 /// Puts the entry at a mark, which comes behind the others of its segment, among the holders.

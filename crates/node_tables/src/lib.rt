@@ -4,7 +4,8 @@
 //! Items stand in a list that only grows at its end, and are named by their places in it.
 //!
 //! - A [`Table`] is what is kept of one node; [`place_of`] finds it. [`Row`] names a statement, which [`said_at`] lends, [`Span`] a
-//!   segment, [`Mark`] where a hash stands among [`Hashes`], and [`ExposingPlaces`] what exposes the node.
+//!   segment, [`Mark`] where an entry's hash stands and [`Naming`] which hashes an open challenge names, among [`Hashes`], and
+//!   [`ExposingPlaces`] what exposes the node.
 //! - [`empty_tables`] makes the tables of no items. [`index`] puts the last of the items into them, for which [`promise_item`] made room:
 //!   promises add up, and each comes back by [`index`] or by [`release_item`].
 //! - [`gap_of`] and [`gap_of_kept`] look up where an item stands in the order of spellings, or would stand.
@@ -18,6 +19,7 @@ pub use exposure::ExposingPlaces;
 pub use hashes::Hashes;
 pub use indexing::index;
 pub use mark::Mark;
+pub use naming::Naming;
 pub use opening::empty_tables;
 pub use order::{gap_of, gap_of_kept};
 pub use releasing::release_item;
@@ -42,6 +44,7 @@ mod hashes;
 mod holding;
 mod indexing;
 mod mark;
+mod naming;
 mod opening;
 mod order;
 mod quoting;
@@ -54,4 +57,5 @@ mod span;
 mod span_list;
 mod table;
 mod tables;
+mod taking;
 mod telling;

@@ -1,13 +1,12 @@
-//! Marks: where a hash stands. They are kept by the first eight bytes of their hashes, so that a search reads nothing else.
+//! Marks: where the hash of an entry stands. They are kept by the first eight bytes of their hashes, so that a search reads nothing else.
 
-ghost use Rattle.std.specs.Prelude.{◌≡◌, ◌↔◌, ◌⊎◌, ◌+◌, ◌<◌, ◌≤◌, ◌≢◌, ℕ, false, length, slice_index_or, true};
+ghost use Rattle.std.specs.Prelude.{◌≡◌, ◌↔◌, ◌⊎◌, ◌+◌, ◌<◌, ◌≤◌, ℕ, false, length, slice_index_or, true};
 ghost use Rattle.std.specs.List.{Contains, remove};
 ghost use Rattle.std.specs.List.Sorted.{IsPartitionPoint};
 ghost use Rattle.node_tables.specs.declared.mark.Mark.{Mark as TheMark};
 ghost use Rattle.node_tables.specs.Hashed.{DoNotFall, front_of};
 ghost use Rattle.node_tables.specs.within.Bringing.{side};
 ghost use Rattle.node_tables.specs.within.Marking.{is_under, is_within};
-ghost use Rattle.std.specs.Ordering.{nat_cmp, ordering_then};
 
 use crate::edge::{edge_at, side};
 use log_chain::Hash;
@@ -125,36 +124,6 @@ pub(crate) fn take_away(marks: &mut TieredVec<Mark>, place: usize)
     ensures room { marks.new.room ≡ marks.old.room + 1 }
 {
     marks.remove(place);
-}
-
-/// Looks for the mark of an item among those of a front, where they stand by their items.
-#[derive(Clone, Copy)]
-struct Of {
-    front: u64,
-    item: u32,
-}
-
-impl Probe<Mark> for Of {
-    ghost order = { λ s m. ordering_then (nat_cmp m.front s.front) (nat_cmp m.item s.item) };
-
-    fn compare(&self, mark: &Mark) -> Ordering {
-        mark.front
-            .cmp(&self.front)
-            .then_with(|| mark.item.cmp(&self.item))
-    }
-}
-
-/// Takes away the mark of an item among those of a front. It is looked up by binary search.
-pub(crate) fn unmark(marks: &mut TieredVec<Mark>, front: u64, item: u32)
-    requires { DoNotFall marks.old.items }
-    ensures order { DoNotFall marks.new.items }
-    ensures fewer { (m : TheMark) → Contains marks.new.items m → Contains marks.old.items m }
-    ensures others { (m : TheMark) → Contains marks.old.items m → m.item ≢ item → Contains marks.new.items m }
-{
-    let Ok(place) = marks.search(&Of { front, item }) else {
-        return;
-    };
-    take_away(marks, place);
 }
 
 /// Puts one behind those of its front, and tells whether there was memory for it.

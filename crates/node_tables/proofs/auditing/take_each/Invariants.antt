@@ -1,5 +1,5 @@
 use Rattle.std.proofs.Common.{◌≤◌}
-use Rattle.node_tables.specs.within.Marking.{AreClosed, AreTaken}
+use Rattle.node_tables.specs.within.Named.{AreClosed, AreTaken}
 use Rattle.node_tables.proofs.auditing.take_each.Given as goal
 
 abbrev pub invariant-loop-position : goal.invariant-loop-position

@@ -8,11 +8,11 @@ use Rattle.node_tables.proofs.bodies.put_challenge.Goals as goal
 pub put_by_spelling-requires-clause-room : goal.put_by_spelling-requires-clause-room
 put_by_spelling-requires-clause-room g c = let r = c.requires.to_put in omega (arith, (r.due.room (ap subject_by r.here ∙ r.own)).unanswered)
 
-pub mark_challenge-requires-clause-lasts : goal.mark_challenge-requires-clause-lasts
-mark_challenge-requires-clause-lasts g c = λ whole. (c.requires.to_put.due.others.kept.asked.hashed whole).lasts
+pub put_by_hashes-requires-clause-lasts : goal.put_by_hashes-requires-clause-lasts
+put_by_hashes-requires-clause-lasts g c = λ whole. (c.requires.to_put.due.others.kept.asked.hashed whole).lasts
 
-pub mark_challenge-requires-clause-firsts : goal.mark_challenge-requires-clause-firsts
-mark_challenge-requires-clause-firsts g c = λ whole. (c.requires.to_put.due.others.kept.asked.hashed whole).firsts
+pub put_by_hashes-requires-clause-firsts : goal.put_by_hashes-requires-clause-firsts
+put_by_hashes-requires-clause-firsts g c = λ whole. (c.requires.to_put.due.others.kept.asked.hashed whole).firsts
 
 pub returns-then-answered : goal.returns-then-answered
 returns-then-answered g c =
@@ -40,9 +40,9 @@ returns g c =
         asked = record {
           spelled = c.put_by_spelling.ensures.ascending;
           hashed = λ whole.
-              let marked = c.mark_challenge.ensures in
-              hashed_with items t.node c.args.place x here c.requires.against t.unanswered.items c.put_by_spelling.new.places.items t.hashes c.mark_challenge.new.hashes
-              members marked.holders (marked.marks whole) (marked.marked whole) open_so (asked.hashed (marked.whole whole));
+              let put = c.put_by_hashes.ensures in
+              hashed_with items t.node c.args.place x here c.requires.against t.unanswered.items c.put_by_spelling.new.places.items t.hashes c.put_by_hashes.new.hashes
+              members put.holders (put.keeps whole) (put.named whole) open_so (asked.hashed (put.whole whole));
         };
       };
       step = open_step items c.args.place t x here c.requires.against _ refl refl refl refl members open_so;

@@ -1,4 +1,4 @@
-use Rattle.std.proofs.Common.{refl, sym, ap, ◌≡◌, ◌∙◌, inl, inr, arith, ⊎_elim}
+use Rattle.std.proofs.Common.{◌-◌, refl, sym, ap, ◌≡◌, ◌∙◌, inl, inr, arith, ⊎_elim}
 use Rattle.std.specs.Prelude.{Some, option_copied, slice_get}
 use Rattle.std.proofs.lemmas.Option.{get_or_from_slice_get}
 use Rattle.node_tables.specs.declared.mark.Mark.{Mark}
@@ -19,7 +19,7 @@ returns g c =
     let old : Mark = c.in-Some.held.now in
     let there : slice_get items c.args.at ≡ Some old = sym c.get.ensures ∙ ap option_copied c.in-Some.is in
     put_over c.args.items.now c.args.node c.args.mark c.args.link.now c.requires.next items c.requires.held old (contains_at items c.args.at old there)
-    (c.is_at.ensures c.if-not-is_at.false) (omega (arith, c.if-old-mark.false)) c.put.new.marks.items c.put.ensures.order
+    (c.is_at.ensures c.if-not-is_at.false) (c.args.mark.position - old.position) (omega (arith, c.if-old-mark.false)) c.if-old-mark-2.false c.put.new.marks.items c.put.ensures.order
     (λ k in_new. ⊎_elim (λ was. inl (c.take_away.ensures.fewer k was)) (λ new. inr new) ((c.put.ensures.members k).0 in_new))
     (λ k was. ⊎_elim (λ still. inl ((c.put.ensures.members k).1 (inl still))) (λ same. inr (same ∙ get_or_from_slice_get items c.args.at old k there)) (c.take_away.ensures.others k k was))
     ((c.put.ensures.members c.args.mark).1 (inr refl))

@@ -4,7 +4,7 @@ use Rattle.std.proofs.lemmas.Option.{slice_get-get_or, slice_get_past}
 use Rattle.evidence_item.specs.Checking.{Checked}
 use Rattle.node_tables.proofs.Audited.{none_found, none_like, one_found, some_like}
 use Rattle.node_tables.proofs.Taken.{one_removed}
-use Rattle.node_tables.proofs.auditing.take_one.Goals as goal
+use Rattle.node_tables.proofs.taking.take_one.Goals as goal
 
 pub returns-in_default-clause-items : goal.returns-in_default-clause-items
 returns-in_default-clause-items g c = none_like c.args.items.now c.args.places.now.items (slice_get c.args.items.now c.args.place) (slice_get_past c.args.items.now c.args.place c.in_default.ensures.lookup.3)
