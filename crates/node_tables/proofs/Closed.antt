@@ -284,10 +284,10 @@ module _ (items : List Checked) (j n p : ℕ) (places : List ℕ) (h : Hashes) (
   none_answered i c has audit = false_by (shows_at items c n) (λ shows.
       let (k, d, x, g, at, named, stands, hand) = handed_on items j n p h.holders.items closed.hashed.holders inherited c n segment (came n segment) shows in
       let elsewhere : (q : ℕ) → d ≤ q → IsKnown items j n q x → ⊥ = λ q most known. (
-          let (m, l, seg, other, there, far) = known in
-          let yes = hand m l seg (came m seg) there (omega (arith, most, far)) in
-          let not_so = closed.hashed.quiet i m c has audit seg other in
-          cc (yes, not_so)
+      let (m, l, seg, other, there, far) = known in
+      let yes = hand m l seg (came m seg) there (omega (arith, most, far)) in
+      let not_so = closed.hashed.quiet i m c has audit seg other in
+      cc (yes, not_so)
       ) in
       ⊎_elim
       (λ (looked : IsLookedAt items j n places k x). by_looked i c has audit shows k d x g looked named stands elsewhere)

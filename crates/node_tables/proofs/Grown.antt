@@ -102,7 +102,7 @@ module _ (items : List Checked) (x : Checked) where
     told_more (Some (exposure.Deviates i)) ((p, has, at), h) = ((p, has, at), subst (λ n. deviates_at more n ≡ true) at (deviates_more j p (all p has) ∙ subst (λ n. deviates_at items n ≡ true) (sym at) h))
 
   -- What was told of a table before the item came is told of it then.
-  pub told_grown : (t u : Table) → u.node ≡ t.node → u.rows.items ≡ t.rows.items → u.receipts.items ≡ t.receipts.items → u.spans.items ≡ t.spans.items → u.exposure ≡ t.exposure → IsTold items t → IsTold more u
+  pub told_grown : (t u : Table) → u.node ≡ t.node → u.rows.items ≡ t.rows.items → u.receipts.sendings.items ≡ t.receipts.sendings.items → u.spans.items ≡ t.spans.items → u.exposure ≡ t.exposure → IsTold items t → IsTold more u
   told_grown t u node rows receipts spans exposure told = record {
     held = told.held;
     rows = subst (λ (l : List Row). AreRowsOf more l told.held) (sym rows) (map_still t.rows.items told.held told.rows);

@@ -97,14 +97,14 @@ module _ (items : List Checked) (j : ℕ) (m : Mark) (x : Link) (next : IsNext i
   pub put_new : (r : ℕ) → r ≡ m.position + 1 → ((k : Mark) → Contains old k → has_hash (link_at items k.item k.position) x.hash ≡ false) → (new : List Mark) → DoNotFall new
       → ((k : Mark) → Contains new k → Contains old k ⊎ (k ≡ m)) → ((k : Mark) → Contains old k → Contains new k) → Contains new m → AreHolders items j m.item (m.position + 1) new × IsKnownBut items j m.item m.position x r
   put_new r up none new order only still has = (
-      one_came items j m.item m.position x next.has.segment next.has.here old are new order next.based
-      (λ i k y came at same.
-      let (h, in_old, is, far) = are.all i k y came at in
-      let yes = hash_there (link_at items h.item h.position) y x.hash is same in
-      let no_such = none h in_old in
-      absurd (cc (yes, no_such)))
-      (λ k in_new. among new k (only k in_new)) (λ k was. inl (still k was)) (itself new has),
-      inl (omega (arith, up)),
+    one_came items j m.item m.position x next.has.segment next.has.here old are new order next.based
+        (λ i k y came at same.
+        let (h, in_old, is, far) = are.all i k y came at in
+        let yes = hash_there (link_at items h.item h.position) y x.hash is same in
+        let no_such = none h in_old in
+        absurd (cc (yes, no_such)))
+        (λ k in_new. among new k (only k in_new)) (λ k was. inl (still k was)) (itself new has),
+    inl (omega (arith, up)),
   )
 
   module _ (held : Mark) (was : Contains old held) (is : link_at items held.item held.position ≡ Some x) where
@@ -123,14 +123,14 @@ module _ (items : List Checked) (j : ℕ) (m : Mark) (x : Link) (next : IsNext i
     pub put_over : (r : ℕ) → r + held.position ≡ m.position → held.item ≢ m.item → (new : List Mark) → DoNotFall new → ((k : Mark) → Contains new k → Contains old k ⊎ (k ≡ m))
         → ((k : Mark) → Contains old k → Contains new k ⊎ (k ≡ held)) → Contains new m → AreHolders items j m.item (m.position + 1) new × IsKnownBut items j m.item m.position x r
     put_over r apart other new order only still has = (
-        one_came items j m.item m.position x next.has.segment next.has.here old are new order next.based agreed
-        (λ k in_new. among new k (only k in_new))
-        (λ k in_old. ⊎_elim
-        (λ stays. inl stays)
-        (λ (same : k ≡ held). inr (subst (λ (h : Mark). (link_at items h.item h.position ≡ Some x) × (h.position ≤ m.position)) (sym same) (is, omega (arith, apart))))
-        (still k in_old))
-        (itself new has),
-        inr (held.position, omega (arith, apart), (held.item, held.position, (are.each held was).came.0, other, is, omega arith)),
+      one_came items j m.item m.position x next.has.segment next.has.here old are new order next.based agreed
+          (λ k in_new. among new k (only k in_new))
+          (λ k in_old. ⊎_elim
+          (λ stays. inl stays)
+          (λ (same : k ≡ held). inr (subst (λ (h : Mark). (link_at items h.item h.position ≡ Some x) × (h.position ≤ m.position)) (sym same) (is, omega (arith, apart))))
+          (still k in_old))
+          (itself new has),
+      inr (held.position, omega (arith, apart), (held.item, held.position, (are.each held was).came.0, other, is, omega arith)),
     )
 
 -- Where none near has the hash, none has it.

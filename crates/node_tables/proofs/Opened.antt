@@ -29,7 +29,7 @@ use Rattle.node_tables.proofs.Places.{at_contains, contains_at}
 use Rattle.node_tables.proofs.Stepping.{by_node_total}
 
 -- A table with nothing says what no items say.
-pub empty_table : (t : Table) → t.rows.items ≡ [] → t.receipts.items ≡ [] → t.spans.items ≡ [] → t.unanswered.items ≡ [] → t.hashes.holders.items ≡ [] → t.hashes.lasts.items ≡ [] → t.hashes.firsts.items ≡ [] → t.exposure ≡ None → IsTable [] t
+pub empty_table : (t : Table) → t.rows.items ≡ [] → t.receipts.sendings.items ≡ [] → t.spans.items ≡ [] → t.unanswered.items ≡ [] → t.hashes.holders.items ≡ [] → t.hashes.lasts.items ≡ [] → t.hashes.firsts.items ≡ [] → t.exposure ≡ None → IsTable [] t
 empty_table t rows receipts spans unanswered holders lasts firsts exposure = record {
   told = record {
     held = [];
@@ -48,7 +48,7 @@ empty_table t rows receipts spans unanswered holders lasts firsts exposure = rec
     λ h. absurd (none_here h.0 (subst (λ (l : List Row). Contains l h.0) rows h.1)),
     λ h. absurd cc,
   );
-  receipts = λ s. (λ h. absurd (none_here s (subst (λ (l : List Sending). Contains l s) receipts h)), λ h. absurd cc);
+  receipts = λ whole s. (λ h. absurd (none_here s (subst (λ (l : List Sending). Contains l s) receipts h)), λ h. absurd cc);
   stands = λ i. (λ h. absurd (none_here h.0 (subst (λ (l : List Span). Contains l h.0) spans h.1)), λ h. absurd cc);
   unanswered = λ i. (λ h. absurd (none_here i (subst (λ (l : List ℕ). Contains l i) unanswered h)), λ h. absurd cc);
   asked = record {

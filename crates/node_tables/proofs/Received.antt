@@ -18,6 +18,7 @@ use Rattle.item_forms.specs.declared.forms.Fields.TheVariants as form
 use Rattle.evidence_item.specs.declared.findings.Findings.{Findings}
 use Rattle.evidence_item.specs.Checking.{Checked}
 use Rattle.kept_items.specs.Positions.{positions, stated_in}
+use Rattle.node_tables.specs.declared.receipt_list.ReceiptList.{ReceiptList}
 use Rattle.node_tables.specs.declared.row.Row.{Row}
 use Rattle.node_tables.specs.declared.sending.Sending.{Sending}
 use Rattle.node_tables.specs.declared.table.Table.{Table}
@@ -26,8 +27,8 @@ use Rattle.node_tables.specs.Receipts.{AscendBySending, IsReceived, by_sending, 
 use Rattle.node_tables.specs.Rows.{AreRowsOf, stated_at, stated_by}
 use Rattle.node_tables.specs.Steps.{room}
 use Rattle.node_tables.specs.Tables.{IsSpan, IsTold, IsUpToDate, Says}
-use Rattle.node_tables.specs.within.Bringing.{ReceiptStep, RowStep, StatementStep, StatementsStep}
-use Rattle.node_tables.specs.within.Placing.{AreOtherReceipts, BodyStep}
+use Rattle.node_tables.specs.within.Bringing.{HaveCome, ReceiptStep, RowStep, StatementStep, StatementsStep}
+use Rattle.node_tables.specs.within.Placing.{AreOtherReceipts, BodyStep, IsReceivedElsewhere}
 use Rattle.node_tables.proofs.Grown.{at_cases, still_at}
 use Rattle.node_tables.proofs.Positioned.{within}
 
@@ -115,55 +116,56 @@ module _ (items : List Checked) (row : Row) where
   receipt_still t none = record {
     node = refl;
     rows = refl;
-    receipts = λ s. (λ h. inl h, λ h. ⊎_elim (λ old. old) (λ (e : (receipt_at items row ≡ Some s) × (s.from ≡ t.node)). absurd (cc (none, e.0))) h);
+    receipts = λ whole. (whole, λ s. (λ h. inl h, λ h. ⊎_elim (λ old. old) (λ (e : (receipt_at items row ≡ Some s) × (s.from ≡ t.node)). absurd (cc (none, e.0))) h));
     spans = refl;
     unanswered = refl;
     hashes = refl;
-    room = omega arith;
   }
 
   pub receipt_step : (t u : Table) (s : Sending) → receipt_at items row ≡ Some s → ((a : Authenticator) → stated_at items row ≡ Some a → a.node ≡ t.node) → u.node ≡ t.node → u.rows ≡ t.rows → u.spans ≡ t.spans → u.unanswered ≡ t.unanswered → u.hashes ≡ t.hashes
-      → ((x : Sending) → Contains u.receipts.items x ↔ (Contains t.receipts.items x ⊎ (x ≡ s))) → t.receipts.room ≤ u.receipts.room + 1 → ReceiptStep items row t u
-  receipt_step t u s is own node rows spans unanswered hashes members room =
+      → HaveCome t.receipts u.receipts (λ x. x ≡ s) → ReceiptStep items row t u
+  receipt_step t u s is own node rows spans unanswered hashes come =
       let quoted = stated_by_receipt (slice_get items row.item) row.position s is in
       let from : s.from ≡ t.node = sym quoted.2 ∙ own quoted.0 quoted.1 in
       record {
         node = node;
         rows = rows;
-        receipts = λ x. (
-          λ h. ⊎_elim (λ old. inl old) (λ new. inr (is ∙ ap Some (sym new), ap (λ (y : Sending). y.from) new ∙ from)) ((members x).0 h),
-          λ h. (members x).1 (⊎_elim (λ old. inl old) (λ (e : (receipt_at items row ≡ Some x) × (x.from ≡ t.node)). inr (same_Some x s (sym e.0 ∙ is))) h),
-        );
+        receipts = λ whole.
+            let (was, members) = come whole in (
+              was,
+              λ x. (
+                λ h. ⊎_elim (λ old. inl old) (λ new. inr (is ∙ ap Some (sym new), ap (λ (y : Sending). y.from) new ∙ from)) ((members x).0 h),
+                λ h. (members x).1 (⊎_elim (λ old. inl old) (λ (e : (receipt_at items row ≡ Some x) × (x.from ≡ t.node)). inr (same_Some x s (sym e.0 ∙ is))) h),
+              ),
+            );
         spans = spans;
         unanswered = unanswered;
         hashes = hashes;
-        room = room;
       }
 
   -- A row and a receipt together.
   pub statement_step : (t u v w : Table) → RowStep items row t u → ReceiptStep items row u v → IsSome (stated_at items row) → ((a : Authenticator) → stated_at items row ≡ Some a → a.node ≡ t.node)
       → w.node ≡ v.node → w.rows ≡ v.rows → w.receipts ≡ v.receipts → w.spans ≡ v.spans → w.unanswered ≡ v.unanswered → w.hashes ≡ v.hashes → StatementStep items row t w
   statement_step t u v w one two there own node rows receipts spans unanswered hashes =
-      let had : u.receipts.room ≡ t.receipts.room = ap (λ r. r.room) one.receipts in
       let kept : v.rows.room ≡ u.rows.room = ap (λ r. r.room) two.rows in
       let last : w.rows.room ≡ v.rows.room = ap (λ r. r.room) rows in
-      let last_too : w.receipts.room ≡ v.receipts.room = ap (λ r. r.room) receipts in
       let some = some_of (stated_at items row) there in
       record {
         node = node ∙ two.node ∙ one.node;
         says = λ a. subst (λ r. Says items r.items a ↔ (Says items t.rows.items a ⊎ ((stated_at items row ≡ Some a) × (a.node ≡ t.node)))) (sym (rows ∙ two.rows)) (one.says a);
-        receipts = λ s. subst (λ r. Contains r.items s ↔ (Contains t.receipts.items s ⊎ ((receipt_at items row ≡ Some s) × (s.from ≡ t.node)))) (sym receipts)
-            (subst (λ r. Contains v.receipts.items s ↔ (Contains r.items s ⊎ ((receipt_at items row ≡ Some s) × (s.from ≡ t.node)))) one.receipts
-            (subst (λ n. Contains v.receipts.items s ↔ (Contains u.receipts.items s ⊎ ((receipt_at items row ≡ Some s) × (s.from ≡ n)))) one.node (two.receipts s)));
+        receipts =
+            subst (λ r. HaveCome t.receipts r (λ s. (receipt_at items row ≡ Some s) × (s.from ≡ t.node))) (sym receipts)
+            (subst (λ r. HaveCome r v.receipts (λ s. (receipt_at items row ≡ Some s) × (s.from ≡ t.node))) one.receipts
+            (subst (λ n. HaveCome u.receipts v.receipts (λ s. (receipt_at items row ≡ Some s) × (s.from ≡ n))) one.node two.receipts));
         spans = spans ∙ two.spans ∙ one.spans;
         unanswered = unanswered ∙ two.unanswered ∙ one.unanswered;
         hashes = hashes ∙ two.hashes ∙ one.hashes;
-        room = omega (arith, one.room, two.room, had, kept, last, last_too);
+        room = omega (arith, one.room, kept, last);
         other_room = λ other. absurd (other some.0 some.1 (own some.0 some.1));
       }
 
 -- What is told of a table stays so with other receipts that ascend.
-pub told_receipts : (items : List Checked) (t u : Table) → u.node ≡ t.node → u.rows ≡ t.rows → u.spans ≡ t.spans → u.exposure ≡ t.exposure → AscendBySending u.receipts.items → IsTold items t → IsTold items u
+pub told_receipts : (items : List Checked) (t u : Table) → u.node ≡ t.node → u.rows ≡ t.rows → u.spans ≡ t.spans → u.exposure ≡ t.exposure → AscendBySending u.receipts.sendings.items → IsTold items t → IsTold items u
 told_receipts items t u node rows spans exposure up told = record {
   held = told.held;
   rows = subst (λ v. AreRowsOf items v.items told.held) (sym rows) told.rows;
@@ -178,39 +180,43 @@ told_receipts items t u node rows spans exposure up told = record {
 
 -- After its statements came, the receipts are those of all items.
 pub receipts_now : (items : List Checked) (n k : ℕ) (x : Checked) (t u : Table) → slice_get items n ≡ Some x → k ≡ positions x.item.fields → AreOtherReceipts items n t → StatementsStep items n k t u → AreReceipts items u
-receipts_now items n k x t u here all before step s = subst (λ j. Contains u.receipts.items s ↔ (IsReceived items s × (s.from ≡ j))) (sym step.node) (
+receipts_now items n k x t u here all before step whole s = subst (λ j. Contains u.receipts.sendings.items s ↔ (IsReceived items s × (s.from ≡ j))) (sym step.node) (
   λ h. ⊎_elim
-      (λ old. let r = (before s).0 old in ((r.0.0, r.0.1, r.0.3), r.1))
+      (λ old. let r = (was s).0 old in ((r.0.0, r.0.1, r.0.3), r.1))
       (λ (new : (p : ℕ) × (p < k) × (receipt_by (slice_get items n) p ≡ Some s) × (s.from ≡ t.node)). ((n, new.0, new.2), new.3))
-      ((step.receipts s).0 h),
-  λ h. (step.receipts s).1 (by_place h.0.0 h.0.1 h.0.2 h.1 (h.0.0 == n) refl),
+      (((step.receipts whole).1 s).0 h),
+  λ h. ((step.receipts whole).1 s).1 (by_place h.0.0 h.0.1 h.0.2 h.1 (h.0.0 == n) refl),
 )
   where
+    was : (r : Sending) → Contains t.receipts.sendings.items r ↔ (IsReceivedElsewhere items n r × (r.from ≡ t.node))
+    was = before (step.receipts whole).0
+
     by_place : (m p : ℕ) → receipt_by (slice_get items m) p ≡ Some s → s.from ≡ t.node → (b : Bool) → (m == n) ≡ b
-        → Contains t.receipts.items s ⊎ ((q : ℕ) × (q < k) × (receipt_by (slice_get items n) q ≡ Some s) × (s.from ≡ t.node))
+        → Contains t.receipts.sendings.items s ⊎ ((q : ℕ) × (q < k) × (receipt_by (slice_get items n) q ≡ Some s) × (s.from ≡ t.node))
     by_place m p is from true e =
         let same : m ≡ n = (Decides-eqb m n).0 e in
         let at : receipt_by (slice_get items n) p ≡ Some s = subst (λ i. receipt_by (slice_get items i) p ≡ Some s) same is in
         let of_x : receipt_by (Some x) p ≡ Some s = sym (ap (λ (o : Option Checked). receipt_by o p) here) ∙ at in
         let lt = receipt_within x p s of_x in
         inr (p, omega (arith, lt, all), at, from)
-    by_place m p is from false e = inl ((before s).1 ((m, p, (λ same. let yes = (Decides-eqb m n).1 same in cc (yes, e)), is), from))
+    by_place m p is from false e = inl ((was s).1 ((m, p, (λ same. let yes = (Decides-eqb m n).1 same in cc (yes, e)), is), from))
 
 -- What an item is beside its statements changes none.
 pub receipts_still : (items : List Checked) (n : ℕ) (t u : Table) → BodyStep items n t u → AreReceipts items t → AreReceipts items u
-receipts_still items n t u step before s = subst (λ j. Contains u.receipts.items s ↔ (IsReceived items s × (s.from ≡ j))) (sym step.node) (subst (λ r. Contains r.items s ↔ (IsReceived items s × (s.from ≡ t.node))) (sym step.receipts) (before s))
+receipts_still items n t u step before = subst (λ j. u.receipts.whole ≡ true → (s : Sending) → Contains u.receipts.sendings.items s ↔ (IsReceived items s × (s.from ≡ j))) (sym step.node)
+    (subst (λ (r : ReceiptList). r.whole ≡ true → (s : Sending) → Contains r.sendings.items s ↔ (IsReceived items s × (s.from ≡ t.node))) (sym step.receipts) before)
 
 -- The receipts of the items before are those of the items at other places than the last.
 pub receipts_before : (items : List Checked) (x : Checked) (t : Table) → AreReceipts items t → AreOtherReceipts (items ++ x ∷ []) (length items) t
-receipts_before items x t before s = (
+receipts_before items x t before whole s = (
   λ h.
-      let r = (before s).0 h in
+      let r = (before whole s).0 h in
       let (c, at) = some_item (slice_get items r.0.0) r.0.1 s r.0.2 in
       let lt = slice_get_within items r.0.0 c at in
       ((r.0.0, r.0.1, (λ same. omega (arith, lt, same)), ap (λ (o : Option Checked). receipt_by o r.0.1) (still_at items x r.0.0 c at ∙ sym at) ∙ r.0.2), r.1),
   λ h.
       let (c, at) = some_item (slice_get (items ++ x ∷ []) h.0.0) h.0.1 s h.0.3 in
-      (before s).1 (⊎_elim
+      (before whole s).1 (⊎_elim
       (λ old. ((h.0.0, h.0.1, ap (λ (o : Option Checked). receipt_by o h.0.1) (old ∙ sym at) ∙ h.0.3), h.1))
       (λ (e : (h.0.0 ≡ length items) × (c ≡ x)). absurd (h.0.2 e.0))
       (at_cases items x h.0.0 c at)),

@@ -23,13 +23,13 @@ use Rattle.node_tables.proofs.Hashed.{no_same, same_then}
 use Rattle.node_tables.proofs.Stepping.{as_read, to_none, to_one, wanted_then}
 
 pub roomier_still : (t : Table) → IsRoomier t t
-roomier_still t = record { node = refl; rows = refl; receipts = refl; spans = refl; unanswered = refl; hashes = no_same t.hashes; exposure = refl; room = omega arith; span_room = omega arith; open_room = omega arith }
+roomier_still t = record { node = refl; rows = refl; receipts = record { whole = refl; sendings = refl }; spans = refl; unanswered = refl; hashes = no_same t.hashes; exposure = refl; room = omega arith; span_room = omega arith; open_room = omega arith }
 
 pub roomier_then : (t u v : Table) → IsRoomier t u → IsRoomier u v → IsRoomier t v
 roomier_then t u v a b = record {
   node = b.node ∙ a.node;
   rows = b.rows ∙ a.rows;
-  receipts = b.receipts ∙ a.receipts;
+  receipts = record { whole = b.receipts.whole ∙ a.receipts.whole; sendings = b.receipts.sendings ∙ a.receipts.sendings };
   spans = b.spans ∙ a.spans;
   unanswered = b.unanswered ∙ a.unanswered;
   hashes = same_then t.hashes u.hashes v.hashes a.hashes b.hashes;
@@ -257,7 +257,7 @@ item_rooms items n k x here is t u v one other =
     let had : span_room t ≡ span_room u = ap (λ s. s.room) (sym one.step.spans) in
     let had_asked : open_room t ≡ open_room u = ap (λ w. w.room) (sym one.step.unanswered) in
     let rows : wanted (position_of items n) k t.node ≡ rows_of x t.node = ap (λ (o : Option Checked). wanted (stated_by o) k t.node) here ∙ ap (λ m. wanted (stated x) m t.node) is in
-    let kept : room u ≡ room v = subst (λ (w : Tiered Row). room u ≡ min w.room v.receipts.room) (sym other.step.rows) (subst (λ (w : Tiered Sending). room u ≡ min u.rows.room w.room) (sym other.step.receipts) refl) in
+    let kept : room u ≡ room v = ap (λ w. w.room) (sym other.step.rows) in
     record {
       node = other.step.node ∙ one.step.node;
       rows = omega (arith, one.step.room, rows, kept);

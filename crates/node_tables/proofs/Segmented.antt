@@ -83,7 +83,7 @@ module _ (items : List Checked) (t u : Table) (p : Span) (d : Row) (node : u.nod
     own = λ a has. told.own a has ∙ sym node;
     spans = subst (λ n. AreSpans items n u.spans.items) (sym node)
         (λ q has. ⊎_elim (λ old. told.spans q old) (λ new. subst (IsSpan items t.node) (sym new) is) ((members q).0 has));
-    receipts = subst (λ v. AscendBySending v.items) (sym receipts) told.receipts;
+    receipts = subst (λ v. AscendBySending v.sendings.items) (sym receipts) told.receipts;
     told = next_told items t.spans.items u.spans.items p members t.rows.items told.held told.rows d t.exposure u.exposure told.told next;
   }
 

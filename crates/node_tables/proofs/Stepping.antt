@@ -83,7 +83,7 @@ module _ (items : List Checked) (row : Row) where
   statement_still t other = record {
     node = refl;
     says = λ a. (λ has. inl has, λ h. ⊎_elim (λ has. has) (λ (e : (stated_at items row ≡ Some a) × (a.node ≡ t.node)). absurd (other a e.0 e.1)) h);
-    receipts = λ s. (λ has. inl has, λ h. ⊎_elim (λ has. has) (λ (e : (receipt_at items row ≡ Some s) × (s.from ≡ t.node)). let quoted = stated_by_receipt (slice_get items row.item) row.position s e.0 in absurd (other quoted.0 quoted.1 (quoted.2 ∙ e.1))) h);
+    receipts = λ whole. (whole, λ s. (λ has. inl has, λ h. ⊎_elim (λ has. has) (λ (e : (receipt_at items row ≡ Some s) × (s.from ≡ t.node)). let quoted = stated_by_receipt (slice_get items row.item) row.position s e.0 in absurd (other quoted.0 quoted.1 (quoted.2 ∙ e.1))) h));
     spans = refl;
     unanswered = refl;
     hashes = refl;
@@ -167,7 +167,7 @@ module _ (items : List Checked) (n : ℕ) where
   none_yet t = record {
     node = refl;
     says = λ a. (λ has. inl has, λ h. ⊎_elim (λ has. has) (λ (e : (p : ℕ) × (p < zero) × (position_of items n p ≡ Some a) × (a.node ≡ t.node)). absurd (omega (arith, e.1))) h);
-    receipts = λ s. (λ has. inl has, λ h. ⊎_elim (λ has. has) (λ (e : (p : ℕ) × (p < zero) × (receipt_by (slice_get items n) p ≡ Some s) × (s.from ≡ t.node)). absurd (omega (arith, e.1))) h);
+    receipts = λ whole. (whole, λ s. (λ has. inl has, λ h. ⊎_elim (λ has. has) (λ (e : (p : ℕ) × (p < zero) × (receipt_by (slice_get items n) p ≡ Some s) × (s.from ≡ t.node)). absurd (omega (arith, e.1))) h));
     spans = refl;
     unanswered = refl;
     hashes = refl;
@@ -188,7 +188,12 @@ module _ (items : List Checked) (n : ℕ) where
       record {
         node = step.node ∙ before.node;
         says = λ a. one_further k t.node u.node a.node (Says items t.rows.items a) (Says items u.rows.items a) (Says items v.rows.items a) (λ p. position_of items n p ≡ Some a) before.node (before.says a) (step.says a);
-        receipts = λ s. one_further k t.node u.node s.from (Contains t.receipts.items s) (Contains u.receipts.items s) (Contains v.receipts.items s) (λ p. receipt_by (slice_get items n) p ≡ Some s) before.node (before.receipts s) (step.receipts s);
+        receipts = λ whole.
+            let (mid, last) = step.receipts whole in
+            let (start, first) = before.receipts mid in (
+              start,
+              λ s. one_further k t.node u.node s.from (Contains t.receipts.sendings.items s) (Contains u.receipts.sendings.items s) (Contains v.receipts.sendings.items s) (λ p. receipt_by (slice_get items n) p ≡ Some s) before.node (first s) (last s),
+            );
         spans = step.spans ∙ before.spans;
         unanswered = step.unanswered ∙ before.unanswered;
         hashes = step.hashes ∙ before.hashes;

@@ -172,7 +172,7 @@ module _ (items : List Checked) (row : Row) (t : Table) (told : IsTold items t) 
       ascending = more_ascend items t.rows.items told.held told.rows row a is i told.ascending inside place;
       own = λ b has. ⊎_elim (λ old. told.own b old ∙ sym node) (λ new. ap (λ (z : Authenticator). z.node) new ∙ of_node ∙ sym node) ((members-insert told.held i a b).0 has);
       spans = subst (λ (l : List Span). AreSpans items u.node l) (sym (ap (λ v. v.items) spans)) (subst (λ (n : ℕ). AreSpans items n t.spans.items) (sym node) told.spans);
-      receipts = subst (λ v. AscendBySending v.items) (sym receipts) told.receipts;
+      receipts = subst (λ v. AscendBySending v.sendings.items) (sym receipts) told.receipts;
       told = subst (λ (l : List Span). IsUpToDate items (insert told.held i a) l u.exposure) (sym (ap (λ v. v.items) spans))
           (next_told items t.rows.items told.held told.rows row a is i told.ascending inside place own t.spans.items t.exposure u.exposure told.told next);
     }

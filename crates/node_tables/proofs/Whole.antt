@@ -215,12 +215,12 @@ table_roomier items t u same before = record {
     rows = subst (λ (l : List Row). AreRowsOf items l before.told.held) (sym same.rows) before.told.rows;
     ascending = before.told.ascending;
     own = λ a has. before.told.own a has ∙ sym same.node;
-    receipts = subst AscendBySending (sym same.receipts) before.told.receipts;
+    receipts = subst AscendBySending (sym same.receipts.sendings) before.told.receipts;
     spans = subst (λ (l : List Span). AreSpans items u.node l) (sym same.spans) (subst (λ j. AreSpans items j t.spans.items) (sym same.node) before.told.spans);
     told = subst (λ (l : List Span). IsUpToDate items before.told.held l u.exposure) (sym same.spans) (subst (IsUpToDate items before.told.held t.spans.items) (sym same.exposure) before.told.told);
   };
   says = λ a. subst (λ j. Says items u.rows.items a ↔ (IsSaid items a × (a.node ≡ j))) (sym same.node) (subst (λ (l : List Row). Says items l a ↔ (IsSaid items a × (a.node ≡ t.node))) (sym same.rows) (before.says a));
-  receipts = λ s. subst (λ j. Contains u.receipts.items s ↔ (IsReceived items s × (s.from ≡ j))) (sym same.node) (subst (λ (l : List Sending). Contains l s ↔ (IsReceived items s × (s.from ≡ t.node))) (sym same.receipts) (before.receipts s));
+  receipts = λ whole s. subst (λ j. Contains u.receipts.sendings.items s ↔ (IsReceived items s × (s.from ≡ j))) (sym same.node) (subst (λ (l : List Sending). Contains l s ↔ (IsReceived items s × (s.from ≡ t.node))) (sym same.receipts.sendings) (before.receipts (sym same.receipts.whole ∙ whole) s));
   stands = λ i. subst (λ j. HasSpanAt u.spans.items i ↔ IsSegmentAt items j i) (sym same.node) (subst (λ (l : List Span). HasSpanAt l i ↔ IsSegmentAt items t.node i) (sym same.spans) (before.stands i));
   unanswered = λ i. subst (λ j. Contains u.unanswered.items i ↔ IsOpenAt items j i) (sym same.node) (subst (λ (l : List ℕ). Contains l i ↔ IsOpenAt items t.node i) (sym same.unanswered) (before.unanswered i));
   asked = asked_roomier items (length items) t u same.node same.unanswered same.hashes before.asked;

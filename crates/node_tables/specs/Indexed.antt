@@ -18,9 +18,9 @@ use Rattle.node_tables.specs.declared.exposure.ExposingPlaces.{ExposingPlaces}
 use Rattle.node_tables.specs.declared.sending.Sending.{Sending}
 use Rattle.node_tables.specs.declared.table.Table.{Table}
 
--- Segments have receipts of just these messages of the node.
+-- Where receipts are kept, segments have some of just these messages of the node.
 abbrev pub AreReceipts : List Checked → Table → Type 0
-AreReceipts items t = (s : Sending) → Contains t.receipts.items s ↔ (IsReceived items s × (s.from ≡ t.node))
+AreReceipts items t = t.receipts.whole ≡ true → (s : Sending) → Contains t.receipts.sendings.items s ↔ (IsReceived items s × (s.from ≡ t.node))
 
 -- The statement stands in some item.
 abbrev pub IsSaid : List Checked → Authenticator → Type 0

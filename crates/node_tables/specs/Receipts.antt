@@ -9,6 +9,7 @@ use Rattle.item_forms.specs.declared.forms.Fields.{Fields}
 use Rattle.evidence_item.specs.declared.findings.Findings.{Findings}
 use Rattle.evidence_item.specs.Checking.{Checked}
 use Rattle.kept_items.specs.Positions.{stated_in}
+use Rattle.node_tables.specs.declared.receipt_list.ReceiptList.{ReceiptList}
 use Rattle.node_tables.specs.declared.row.Row.{Row}
 use Rattle.node_tables.specs.declared.sending.Sending.{Sending}
 
@@ -43,3 +44,8 @@ by_sending s t = ordering_then (nat_cmp s.from t.from) (ordering_then (nat_cmp s
 
 abbrev pub AscendBySending : List Sending → Type 0
 AscendBySending sendings = IsStrictlySortedBy by_sending sendings
+
+-- They are the same, and kept as before.
+pub record AreSameReceipts (r q : ReceiptList) : Type 0 where
+  pub whole : q.whole ≡ r.whole
+  pub sendings : q.sendings.items ≡ r.sendings.items

@@ -5,6 +5,7 @@ use Rattle.kept_items.specs.Keeping.{subject}
 use Rattle.kept_items.specs.Positions.{stated, positions}
 use Rattle.node_tables.specs.Hashed.{AreSame}
 use Rattle.node_tables.specs.Places.{HasBodyRoom, bodies, open_room, span_room}
+use Rattle.node_tables.specs.Receipts.{AreSameReceipts}
 use Rattle.node_tables.specs.Steps.{room, wanted}
 use Rattle.node_tables.specs.declared.table.Table.{Table}
 
@@ -12,7 +13,7 @@ use Rattle.node_tables.specs.declared.table.Table.{Table}
 pub record IsRoomier (t u : Table) : Type 0 where
   pub node : u.node ≡ t.node
   pub rows : u.rows.items ≡ t.rows.items
-  pub receipts : u.receipts.items ≡ t.receipts.items
+  pub receipts : AreSameReceipts t.receipts u.receipts
   pub spans : u.spans.items ≡ t.spans.items
   pub unanswered : u.unanswered.items ≡ t.unanswered.items
   pub hashes : AreSame t.hashes u.hashes

@@ -1,7 +1,7 @@
 -- What happens to the tables of all nodes.
 use Rattle.std.specs.List.Sorted.{IsStrictlySortedBy}
 use Rattle.std.specs.Ordering.{nat_cmp}
-use Rattle.std.specs.Prelude.{◌≡◌, ℕ, Bool, false, List, Option, Some, None, slice_get, ◌+◌, ◌==◌, if◌then◌else◌, min, zero, suc}
+use Rattle.std.specs.Prelude.{◌≡◌, ℕ, Bool, false, List, Option, Some, None, slice_get, ◌+◌, ◌==◌, if◌then◌else◌, zero, suc}
 use Rattle.std.specs.declared.cmp.Ordering.{Ordering}
 use Rattle.authenticators.specs.declared.authenticator.Authenticator.{Authenticator}
 use Rattle.evidence_item.specs.Checking.{Checked}
@@ -22,9 +22,9 @@ by_node t u = nat_cmp t.node u.node
 abbrev pub AscendByNode : List Table → Type 0
 AscendByNode tables = IsStrictlySortedBy by_node tables
 
--- The room that a table has for statements: for a row, and for a receipt.
+-- The room that a table has for statements.
 abbrev pub room : Table → ℕ
-room t = min t.rows.room t.receipts.room
+room t = t.rows.room
 
 -- ---- the statements of one item
 

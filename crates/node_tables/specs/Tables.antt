@@ -90,7 +90,7 @@ pub record IsTold (items : List Checked) (t : Table) : Type 0 where
   pub ascending : IsAscending held
   pub own : (a : Authenticator) → Contains held a → a.node ≡ t.node
   pub spans : AreSpans items t.node t.spans.items
-  pub receipts : AscendBySending t.receipts.items
+  pub receipts : AscendBySending t.receipts.sendings.items
   pub told : IsUpToDate items held t.spans.items t.exposure
 
 -- A statement is named by one of the rows.

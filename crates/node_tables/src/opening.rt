@@ -10,6 +10,7 @@ ghost use Rattle.node_tables.specs.Rooms.{Owes};
 ghost use Rattle.node_tables.specs.Steps.{AllTables, AscendByNode};
 
 use crate::hashes::Hashes;
+use crate::receipt_list::ReceiptList;
 use crate::span_list::SpanList;
 use crate::table::Table;
 use authenticators::{Directory, NodeId};
@@ -26,7 +27,7 @@ fn empty(alloc: Global, node: NodeId) -> Table
     Table {
         node,
         rows: TieredVec::new(alloc),
-        receipts: TieredVec::new(alloc),
+        receipts: ReceiptList::new(alloc),
         spans: SpanList::new(alloc),
         unanswered: TieredVec::new(alloc),
         hashes: Hashes::new(alloc),

@@ -1,20 +1,20 @@
 //! Receipts: of which messages of a node segments have any.
 
-ghost use Rattle.std.specs.Prelude.{◌≡◌, ◌↔◌, ◌⊎◌, ◌+◌, ◌≤◌, IfSome, IsTrue, Some, length};
+ghost use Rattle.std.specs.Prelude.{◌≡◌, ◌↔◌, IfSome, IsTrue, Some, length};
 ghost use Rattle.std.specs.List.{Contains};
 ghost use Rattle.std.specs.List.Sorted.{IsBinarySearchResult, IsSearchInRange};
 ghost use Rattle.authenticators.specs.declared.authenticator.Authenticator.{Authenticator as Statement};
-ghost use Rattle.node_tables.specs.declared.sending.Sending.{Sending as TheSending};
 ghost use Rattle.node_tables.specs.Indexed.{AreReceipts};
 ghost use Rattle.node_tables.specs.Receipts.{AscendBySending, by_sending, receipt_at, receipt_in};
 ghost use Rattle.node_tables.specs.Rooms.{KeepsPromises};
 ghost use Rattle.node_tables.specs.Rows.{stated_at};
 ghost use Rattle.node_tables.specs.Steps.{AllTables, AscendByNode};
 ghost use Rattle.node_tables.specs.Tables.{IsTold};
-ghost use Rattle.node_tables.specs.within.Bringing.{ReceiptStep};
+ghost use Rattle.node_tables.specs.within.Bringing.{HaveCome, ReceiptStep};
 ghost use Rattle.node_tables.specs.within.Placing.{IsReceiptTold, sent};
 
 use crate::closing::received;
+use crate::receipt_list::ReceiptList;
 use crate::row::Row;
 use crate::sending::Sending;
 use crate::table::Table;
@@ -65,18 +65,30 @@ fn is_among(receipts: &TieredVec<Sending>, sending: &Sending) -> bool
     gap_among(receipts, sending).is_ok()
 }
 
-/// Puts a message among receipts, where it is not there yet. There is room for it.
-fn put(receipts: &mut TieredVec<Sending>, sending: Sending)
-    requires ascending { AscendBySending receipts.old.items }
-    requires room { 1 ≤ receipts.old.room }
-    ensures ascending { AscendBySending receipts.new.items }
-    ensures members { (s : TheSending) → Contains receipts.new.items s ↔ (Contains receipts.old.items s ⊎ (s ≡ sending)) }
-    ensures room { receipts.old.room ≤ receipts.new.room + 1 }
+/// Puts a message among receipts, where it is not there yet, and takes back that it was promised. Were there no memory for it, they would
+/// be kept no more.
+fn put(receipts: &mut ReceiptList, sending: Sending)
+    requires { AscendBySending receipts.old.sendings.items }
+    ensures ascending { AscendBySending receipts.new.sendings.items }
+    ensures come { HaveCome receipts.old receipts.new (λ s. s ≡ sending) }
 {
-    let Err(place) = gap_among(receipts, &sending) else {
+    receipts.release(1);
+    let Err(place) = gap_among(&receipts.sendings, &sending) else {
         return;
     };
-    receipts.insert(place, sending);
+    let Ok(()) = receipts.sendings.reserve(1) else {
+        receipts.whole = false;
+        return;
+    };
+    receipts.sendings.insert(place, sending);
+}
+
+/// How many receipts the statement at a position of an item is: one, where an entry of a segment quotes it.
+pub(crate) fn receipts_of<P>(kept: &KeptItem<P>, position: u32) -> usize {
+    if position == 0 || kept.form().is_some() {
+        return 0;
+    }
+    1
 }
 
 /// The message of which the entry at a position of a segment is the receipt.
@@ -102,11 +114,10 @@ fn receipt_at<P>(items: &[KeptItem<P>], row: Row) -> Option<Sending>
     }
 }
 
-/// Puts what the row's statement is a receipt of into the table of its node, if it is one. There is room for it.
+/// Puts what the row's statement is a receipt of into the table of its node, if it is one, and takes back that it was promised.
 pub(crate) fn put_receipt<P>(items: &[KeptItem<P>], table: &mut Table, row: Row)
     requires told { IsTold items.now table.old }
     requires own { (a : Statement) → stated_at items.now row ≡ Some a → a.node ≡ table.old.node }
-    requires room { 1 ≤ table.old.receipts.room }
     ensures told { IsTold items.now table.new }
     ensures step { ReceiptStep items.now row table.old table.new }
     ensures counts { KeepsPromises table.old table.new }
@@ -133,8 +144,8 @@ fn sent<P>(challenge: &KeptItem<P>) -> Option<Sending>
     }
 }
 
-/// Whether segments have a receipt of the message of a send challenge, by the table of its sender; nothing where that has none, or where
-/// the item is no send challenge.
+/// Whether segments have a receipt of the message of a send challenge, by the table of its sender; nothing where that has none, or keeps
+/// none, or where the item is no send challenge.
 pub(crate) fn is_received<P>(
     items: &[KeptItem<P>],
     tables: &[Table],
@@ -151,5 +162,9 @@ pub(crate) fn is_received<P>(
     let Some(i) = place_of(tables, sending.from) else {
         return None;
     };
-    Some(is_among(&tables[i].receipts, &sending))
+    let receipts = &tables[i].receipts;
+    if !receipts.whole {
+        return None;
+    }
+    Some(is_among(&receipts.sendings, &sending))
 }

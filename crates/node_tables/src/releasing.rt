@@ -5,25 +5,27 @@ ghost use Rattle.node_tables.specs.Rooms.{AreBack, IsReleased, TakesBack, bodies
 ghost use Rattle.node_tables.specs.Steps.{AscendByNode, EachBecomes, wanted};
 ghost use Rattle.node_tables.specs.within.Promising.{nothing, one_at, one_for};
 
+use crate::quoting::receipts_of;
 use crate::table::Table;
 use crate::tables::place_of;
 use authenticators::NodeId;
 use kept_items::KeptItem;
 
-/// Takes back what was promised of one statement.
-fn release_here(table: &mut Table)
+/// Takes back what was promised of one statement, which is so many receipts.
+fn release_here(table: &mut Table, receipts: usize)
     ensures { AreBack 1 0 table.old table.new }
 {
     table.promised = table.promised.saturating_sub(1);
+    table.receipts.release(receipts);
 }
 
-/// Takes back what was promised of one statement of the node.
-fn release(tables: &mut [Table], node: NodeId)
+/// Takes back what was promised of one statement of the node, which is so many receipts.
+fn release(tables: &mut [Table], node: NodeId, receipts: usize)
     requires { AscendByNode tables.old }
     ensures { EachBecomes (TakesBack (one_for node) nothing) tables.old tables.new }
 {
     if let Some(i) = place_of(tables, node) {
-        release_here(&mut tables[i]);
+        release_here(&mut tables[i], receipts);
     }
 }
 
@@ -33,7 +35,7 @@ fn release_at<P>(tables: &mut [Table], kept: &KeptItem<P>, position: u32)
     ensures { EachBecomes (TakesBack (one_at kept.now position) nothing) tables.old tables.new }
 {
     if let Some(said) = kept.statement(position) {
-        release(tables, said.node);
+        release(tables, said.node, receipts_of(kept, position));
     }
 }
 

@@ -6,6 +6,7 @@ ghost use Rattle.node_tables.specs.Rooms.{AreMany, IsReady, IsRoomier, KeepsProm
 ghost use Rattle.node_tables.specs.Steps.{AscendByNode, EachBecomes, wanted};
 ghost use Rattle.node_tables.specs.within.Promising.{nothing, one_at, one_for};
 
+use crate::quoting::receipts_of;
 use crate::releasing::{entries_of, release_first};
 use crate::table::Table;
 use crate::tables::place_of;
@@ -13,8 +14,8 @@ use authenticators::NodeId;
 use kept_items::KeptItem;
 use outcome::Memory;
 
-/// Promises the table one statement more, and makes room for all that were promised.
-fn promise_here(table: &mut Table) -> Result<(), Memory>
+/// Promises the table one statement more, which is so many receipts, and makes room for all that were promised.
+fn promise_here(table: &mut Table, receipts: usize) -> Result<(), Memory>
     ensures same { IsRoomier table.old table.new }
     ensures ok { OnOk result (AreMany 1 0 table.old table.new) }
     ensures refused { OnErr result (KeepsPromises table.old table.new) }
@@ -23,13 +24,13 @@ fn promise_here(table: &mut Table) -> Result<(), Memory>
         return Err(Memory);
     };
     table.rows.reserve(count)?;
-    table.receipts.reserve(count)?;
+    table.receipts.promise(receipts)?;
     table.promised = count;
     Ok(())
 }
 
-/// Promises the node's table one statement more.
-fn promise(tables: &mut [Table], node: NodeId) -> Result<(), Memory>
+/// Promises the node's table one statement more, which is so many receipts.
+fn promise(tables: &mut [Table], node: NodeId, receipts: usize) -> Result<(), Memory>
     requires { AscendByNode tables.old }
     ensures same { EachBecomes IsRoomier tables.old tables.new }
     ensures ok { OnOk result (EachBecomes (Promises (one_for node) nothing) tables.old tables.new) }
@@ -38,7 +39,7 @@ fn promise(tables: &mut [Table], node: NodeId) -> Result<(), Memory>
     let Some(i) = place_of(tables, node) else {
         return Ok(());
     };
-    promise_here(&mut tables[i])
+    promise_here(&mut tables[i], receipts)
 }
 
 /// Promises the table of its node the statement at a position of the item, if one stands there.
@@ -50,7 +51,7 @@ fn promise_at<P>(tables: &mut [Table], kept: &KeptItem<P>, position: u32) -> Res
 {
     match kept.statement(position) {
         None => Ok(()),
-        Some(said) => promise(tables, said.node),
+        Some(said) => promise(tables, said.node, receipts_of(kept, position)),
     }
 }
 

@@ -2,8 +2,8 @@
 
 use crate::exposure::ExposingPlaces;
 use crate::hashes::Hashes;
+use crate::receipt_list::ReceiptList;
 use crate::row::Row;
-use crate::sending::Sending;
 use crate::span_list::SpanList;
 use authenticators::NodeId;
 use tiered_vec::TieredVec;
@@ -15,8 +15,8 @@ pub struct Table {
     pub node: NodeId,
     /// Its statements, ascending by number, hash and signature.
     pub rows: TieredVec<Row>,
-    /// The messages of it of which segments have receipts, each once, ascending by receiver and number.
-    pub receipts: TieredVec<Sending>,
+    /// The messages of it of which segments have receipts.
+    pub receipts: ReceiptList,
     /// Its segments, by their least numbers.
     pub spans: SpanList,
     /// The places of the challenges against it that nothing answers, ascending by their spellings.

@@ -15,6 +15,7 @@ use Rattle.node_tables.specs.Steps.{room, wanted, position_of, is_of}
 use Rattle.node_tables.specs.Tables.{HasSpanAt, Says, denies_at, deviates_at}
 use Rattle.node_tables.specs.declared.exposure.ExposingPlaces.TheVariants as exposure
 use Rattle.node_tables.specs.declared.exposure.ExposingPlaces.{ExposingPlaces}
+use Rattle.node_tables.specs.declared.receipt_list.ReceiptList.{ReceiptList}
 use Rattle.node_tables.specs.declared.row.Row.{Row}
 use Rattle.node_tables.specs.declared.sending.Sending.{Sending}
 use Rattle.node_tables.specs.declared.span.Span.{Span}
@@ -90,21 +91,24 @@ pub record RowStep (items : List Checked) (row : Row) (t u : Table) : Type 0 whe
   pub hashes : u.hashes ≡ t.hashes
   pub room : t.rows.room ≤ u.rows.room + 1
 
+-- Where receipts are kept, they were kept before, and just those messages came to them.
+abbrev pub HaveCome : ReceiptList → ReceiptList → (Sending → Type 0) → Type 0
+HaveCome r q P = q.whole ≡ true → (r.whole ≡ true) × ((s : Sending) → Contains q.sendings.items s ↔ (Contains r.sendings.items s ⊎ P s))
+
 -- A receipt comes, where the statement is quoted.
 pub record ReceiptStep (items : List Checked) (row : Row) (t u : Table) : Type 0 where
   pub node : u.node ≡ t.node
   pub rows : u.rows ≡ t.rows
-  pub receipts : (s : Sending) → Contains u.receipts.items s ↔ (Contains t.receipts.items s ⊎ ((receipt_at items row ≡ Some s) × (s.from ≡ t.node)))
+  pub receipts : HaveCome t.receipts u.receipts (λ s. (receipt_at items row ≡ Some s) × (s.from ≡ t.node))
   pub spans : u.spans ≡ t.spans
   pub unanswered : u.unanswered ≡ t.unanswered
   pub hashes : u.hashes ≡ t.hashes
-  pub room : t.receipts.room ≤ u.receipts.room + 1
 
 -- A statement comes.
 pub record StatementStep (items : List Checked) (row : Row) (t u : Table) : Type 0 where
   pub node : u.node ≡ t.node
   pub says : (a : Authenticator) → Says items u.rows.items a ↔ (Says items t.rows.items a ⊎ ((stated_at items row ≡ Some a) × (a.node ≡ t.node)))
-  pub receipts : (s : Sending) → Contains u.receipts.items s ↔ (Contains t.receipts.items s ⊎ ((receipt_at items row ≡ Some s) × (s.from ≡ t.node)))
+  pub receipts : HaveCome t.receipts u.receipts (λ s. (receipt_at items row ≡ Some s) × (s.from ≡ t.node))
   pub spans : u.spans ≡ t.spans
   pub unanswered : u.unanswered ≡ t.unanswered
   pub hashes : u.hashes ≡ t.hashes
@@ -168,7 +172,7 @@ pub record SegmentStep (items : List Checked) (place : ℕ) (t u : Table) : Type
 pub record StatementsStep (items : List Checked) (n k : ℕ) (t u : Table) : Type 0 where
   pub node : u.node ≡ t.node
   pub says : (a : Authenticator) → Says items u.rows.items a ↔ (Says items t.rows.items a ⊎ ((p : ℕ) × (p < k) × (position_of items n p ≡ Some a) × (a.node ≡ t.node)))
-  pub receipts : (s : Sending) → Contains u.receipts.items s ↔ (Contains t.receipts.items s ⊎ ((p : ℕ) × (p < k) × (receipt_by (slice_get items n) p ≡ Some s) × (s.from ≡ t.node)))
+  pub receipts : HaveCome t.receipts u.receipts (λ s. (p : ℕ) × (p < k) × (receipt_by (slice_get items n) p ≡ Some s) × (s.from ≡ t.node))
   pub spans : u.spans ≡ t.spans
   pub unanswered : u.unanswered ≡ t.unanswered
   pub hashes : u.hashes ≡ t.hashes

@@ -46,12 +46,12 @@ sent (form.Ack a) = None
 abbrev pub IsReceiptTold : List Checked → Fields → Bool → Type 0
 IsReceiptTold items x b = (s : Sending) × (sent x ≡ Some s) × (IsTrue b ↔ IsReceived items s)
 
--- The segments that stand at other places than n have receipts of just these messages of the node.
+-- Where receipts are kept, the segments that stand at other places than n have some of just these messages of the node.
 abbrev pub IsReceivedElsewhere : List Checked → ℕ → Sending → Type 0
 IsReceivedElsewhere items n s = (m k : ℕ) × (m ≢ n) × (receipt_by (slice_get items m) k ≡ Some s)
 
 abbrev pub AreOtherReceipts : List Checked → ℕ → Table → Type 0
-AreOtherReceipts items n t = (s : Sending) → Contains t.receipts.items s ↔ (IsReceivedElsewhere items n s × (s.from ≡ t.node))
+AreOtherReceipts items n t = t.receipts.whole ≡ true → (s : Sending) → Contains t.receipts.sendings.items s ↔ (IsReceivedElsewhere items n s × (s.from ≡ t.node))
 
 -- Some item acknowledges a message of a send challenge.
 abbrev pub HasAcknowledgement : List Checked → Fields → Type 0

@@ -13,5 +13,5 @@ returns g c =
     let i = c.in-Some-place_of.i in
     let s = c.in-Some.sending in
     let (at, own) = as_read c.args.tables.now i s.from c.index-tables-i.result c.in-Some-place_of.ensures.some in
-    let are = c.requires.receipts i (get_or c.args.tables.now i c.index-tables-i.result) at s in
+    let are = c.requires.receipts i (get_or c.args.tables.now i c.index-tables-i.result) at c.if-not-receipts.false s in
     (s, sym c.sent.ensures ∙ c.in-Some.is, (λ h. (are.0 (c.is_among.ensures.0 h)).0, λ r. c.is_among.ensures.1 (are.1 (r, sym own))))

@@ -12,7 +12,7 @@ pub returns-in-Some-clause-step : goal.returns-in-Some-clause-step
 returns-in-Some-clause-step g c =
     let t = c.args.table.now in
     receipt_step c.args.items.now c.args.row t (record { node = t.node; rows = t.rows; receipts = c.put.new.receipts; spans = t.spans; unanswered = t.unanswered; hashes = t.hashes; exposure = t.exposure; promised = t.promised; bodies = t.bodies })
-    c.in-Some.sending (sym c.receipt_at.ensures ∙ c.in-Some.is) c.requires.own refl refl refl refl refl c.put.ensures.members c.put.ensures.room
+    c.in-Some.sending (sym c.receipt_at.ensures ∙ c.in-Some.is) c.requires.own refl refl refl refl refl c.put.ensures.come
 
 pub returns-in_default-clause-step : goal.returns-in_default-clause-step
 returns-in_default-clause-step g c = receipt_still c.args.items.now c.args.row c.args.table.now (sym c.receipt_at.ensures ∙ c.in_default.is)

@@ -17,8 +17,3 @@ returns g c =
 
 pub put_receipt-requires-clause-own : goal.put_receipt-requires-clause-own
 put_receipt-requires-clause-own g c = λ a is. c.requires.own a is ∙ sym c.put_row.ensures.step.node
-
-pub put_receipt-requires-clause-room : goal.put_receipt-requires-clause-room
-put_receipt-requires-clause-room g c =
-    let same = ap (λ r. r.room) c.put_row.ensures.step.receipts in
-    omega (arith, same, c.requires.room)
