@@ -1,5 +1,5 @@
 -- Marks by the fronts of their hashes.
-use Rattle.std.proofs.Common.{◌≡◌, ℕ, ◌+◌, ◌<◌, ◌≤◌, true, false, leb, ltb, List, ◌∷◌, length, get_or, insert, refl, sym, ap, ◌⊎◌, inl, inr, ⊎_elim, arith}
+use Rattle.std.proofs.Common.{◌≡◌, ℕ, ◌+◌, ◌<◌, ◌≤◌, true, false, leb, ltb, List, ◌∷◌, length, get_or, insert, refl, ap, ◌⊎◌, inl, inr, ⊎_elim, arith}
 use Rattle.std.specs.List.{Contains, remove}
 use Rattle.std.specs.List.Sorted.{IsPartitionPoint, IsPartitionedBy}
 use Rattle.std.proofs.lemmas.Bool.{cases_lt}

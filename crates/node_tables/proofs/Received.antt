@@ -1,5 +1,5 @@
 -- Receipts: in one table, and in the tables of all nodes.
-use Rattle.std.proofs.Common.{◌≡◌, ℕ, zero, suc, ◌+◌, ◌<◌, ◌≤◌, Bool, true, false, List, [], ◌∷◌, ◌++◌, length, get_or, Result, Ok, Err, is_ok, Option, Some, None, refl, sym, ap, subst, ◌∙◌, ◌⊎◌, inl, inr, ⊎_elim, arith}
+use Rattle.std.proofs.Common.{◌≡◌, ℕ, zero, suc, ◌<◌, ◌≤◌, Bool, true, false, List, [], ◌∷◌, ◌++◌, length, get_or, Result, Ok, Err, is_ok, Option, Some, None, refl, sym, ap, subst, ◌∙◌, ◌⊎◌, inl, inr, ⊎_elim, arith}
 use Rattle.std.specs.Prelude.{◌↔◌, ◌==◌, IsSome, IsTrue, slice_get}
 use Rattle.std.specs.List.{Contains, insert}
 use Rattle.std.specs.List.Sorted.{IsBinarySearchResult, IsSearchInRange}
@@ -25,7 +25,6 @@ use Rattle.node_tables.specs.declared.table.Table.{Table}
 use Rattle.node_tables.specs.Indexed.{AreReceipts}
 use Rattle.node_tables.specs.Receipts.{AscendBySending, IsReceived, by_sending, receipt_at, receipt_by, receipt_in, received}
 use Rattle.node_tables.specs.Rows.{AreRowsOf, stated_at, stated_by}
-use Rattle.node_tables.specs.Steps.{room}
 use Rattle.node_tables.specs.Tables.{IsSpan, IsTold, IsUpToDate, Says}
 use Rattle.node_tables.specs.within.Bringing.{HaveCome, ReceiptStep, RowStep, StatementStep, StatementsStep}
 use Rattle.node_tables.specs.within.Placing.{AreOtherReceipts, BodyStep, IsReceivedElsewhere}

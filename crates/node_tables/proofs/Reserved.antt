@@ -1,5 +1,5 @@
 -- Room for the statements of an item, and for what it is beside them; promises, and taking them back.
-use Rattle.std.proofs.Common.{◌≡◌, ◌≢◌, ℕ, ◌+◌, ◌-◌, ◌≤◌, ◌==◌, min, Bool, true, false, List, [], ◌∷◌, ◌++◌, get_or, Option, Some, None, Result, Ok, Err, refl, sym, ap, subst, ◌∙◌, ⊎_elim, arith}
+use Rattle.std.proofs.Common.{◌≡◌, ◌≢◌, ℕ, ◌+◌, ◌-◌, ◌≤◌, ◌==◌, Bool, true, false, List, [], ◌∷◌, ◌++◌, get_or, Option, Some, None, Result, Ok, Err, refl, sym, ap, subst, ◌∙◌, ⊎_elim, arith}
 use Rattle.std.specs.Prelude.{OnErr, OnOk, slice_get, slice_set}
 use Rattle.std.specs.List.{Contains}
 use Rattle.std.proofs.lemmas.Bool.{cases_lt}
@@ -8,9 +8,6 @@ use Rattle.std.proofs.lemmas.Option.{same_Some}
 use Rattle.evidence_item.specs.Checking.{Checked}
 use Rattle.kept_items.specs.Keeping.{subject}
 use Rattle.kept_items.specs.Positions.{positions, stated}
-use Rattle.tiered_vec.specs.Tiers.{Tiered}
-use Rattle.node_tables.specs.declared.row.Row.{Row}
-use Rattle.node_tables.specs.declared.sending.Sending.{Sending}
 use Rattle.node_tables.specs.declared.table.Table.{Table}
 use Rattle.node_tables.specs.Places.{bodies, is_subject, open_room, span_room}
 use Rattle.node_tables.specs.Rows.{stated_by}

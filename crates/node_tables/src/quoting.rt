@@ -83,14 +83,6 @@ fn put(receipts: &mut ReceiptList, sending: Sending)
     receipts.sendings.insert(place, sending);
 }
 
-/// How many receipts the statement at a position of an item is: one, where an entry of a segment quotes it.
-pub(crate) fn receipts_of<P>(kept: &KeptItem<P>, position: u32) -> usize {
-    if position == 0 || kept.form().is_some() {
-        return 0;
-    }
-    1
-}
-
 /// The message of which the entry at a position of a segment is the receipt.
 fn receipt<P>(kept: &KeptItem<P>, position: u32) -> Option<Sending>
     ensures { result ≡ receipt_in kept.now.item.fields kept.now.findings position }
@@ -104,7 +96,15 @@ fn receipt<P>(kept: &KeptItem<P>, position: u32) -> Option<Sending>
     }
 }
 
-/// The same of the item and the position that a row names.
+/// How many receipts the statement at a position of an item is: one, where an entry of a segment quotes it.
+pub(crate) fn receipts_of<P>(kept: &KeptItem<P>, position: u32) -> usize {
+    match receipt(kept, position) {
+        None => 0,
+        Some(_) => 1,
+    }
+}
+
+/// The message of which the statement that a row names is the receipt.
 fn receipt_at<P>(items: &[KeptItem<P>], row: Row) -> Option<Sending>
     ensures { result ≡ receipt_at items.now row }
 {

@@ -1,6 +1,6 @@
 -- What becomes of open audit challenges, and of their namings, while a segment comes.
 use Rattle.std.specs.List.{Contains, filter}
-use Rattle.std.specs.Prelude.{◌≡◌, ◌+◌, ◌<◌, ◌⊎◌, ◌==◌, ℕ, Bool, true, false, List, Option, Some, None, not, nat_le, nat_lt, slice_get, if◌then◌else◌}
+use Rattle.std.specs.Prelude.{◌≡◌, ◌<◌, ◌⊎◌, ◌==◌, ℕ, Bool, true, false, List, Option, Some, None, not, nat_le, nat_lt, slice_get, if◌then◌else◌}
 use Rattle.std.specs.Ordering.{is_eq}
 use Rattle.item_forms.specs.declared.forms.AuditChallenge.{AuditChallenge}
 use Rattle.evidence_item.specs.Checking.{Checked}

@@ -1,4 +1,4 @@
-use Rattle.std.proofs.Common.{◌≡◌, ◌-◌, refl, sym, ap, ◌∙◌, arith, rules}
+use Rattle.std.proofs.Common.{◌≡◌, ◌-◌, refl, sym, ◌∙◌, arith, rules}
 use Rattle.node_tables.proofs.Received.{statement_step}
 use Rattle.node_tables.proofs.Stepping.{taken_back}
 use Rattle.node_tables.proofs.telling.put_statement.Goals as goal
