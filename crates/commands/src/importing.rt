@@ -10,9 +10,8 @@ ghost use Rattle.evidence.specs.Importing.{fed_by, import_set};
 ghost use Rattle.evidence.specs.Exports.{magic_of, set_text};
 ghost use Rattle.evidence_set.specs.ItemSets.{Items, Join};
 
-use crate::pending::{LONGEST_STRIDE, Pending};
 use authenticators::Directory;
-use containers::{Cause, ImportFault};
+use containers::{Cause, ImportFault, LONGEST_STRIDE, Pending};
 use evidence::laws::refused_pieces_stay;
 use evidence::{Evidence, Importer};
 use outcome::Memory;

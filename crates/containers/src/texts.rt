@@ -1,6 +1,6 @@
 //! The count of a container's items, their texts, and its end.
 
-ghost use Rattle.std.specs.Prelude.{◌≡◌, [], IfErr, IfOk, OnErr, OnOk, Err, Ok, length, suc, List, ℕ};
+ghost use Rattle.std.specs.Prelude.{◌≡◌, ◌++◌, [], IfErr, IfOk, OnErr, OnOk, Err, Ok, length, suc, List, ℕ};
 ghost use Rattle.log_chain.specs.Fields.{bytes_at};
 ghost use Rattle.item_forms.specs.declared.forms.Fields.{Fields};
 ghost use Rattle.item_forms.specs.declared.limits.TheConstants.{LONGEST_ITEM};
@@ -30,6 +30,7 @@ fn field_fault(item: u64, fault: FieldFault) -> ImportFault
 /// count.
 pub fn read_count(reader: &mut FieldReader, magic: &[u8; 8]) -> Result<u64, ImportFault>
     ensures counted { IfOk result (λ count. (reads : ItemReader) → import_of magic.now reads reader.old ≡ rest_of reads count [] [] reader.new) }
+    ensures behind { OnOk result ((front : List ℕ) × (reader.old ≡ front ++ reader.new)) }
     ensures refused { IfErr result (λ f. (reads : ItemReader) → import_of magic.now reads reader.old ≡ Err f) }
     ensures memory { IfErr result (λ f. ¬ (f.cause ≡ cause.Memory)) }
 {

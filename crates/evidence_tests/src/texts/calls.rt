@@ -2,6 +2,7 @@
 //! in pieces.
 
 mod decoding;
+mod pending;
 mod pieces;
 
 use authenticators::{Authenticator, Directory, NodeId, statement_text};
