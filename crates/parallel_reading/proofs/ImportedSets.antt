@@ -1,6 +1,6 @@
 -- What a text is of which items were read.
 use Rattle.std.proofs.Common.{◌≡◌, ◌∙◌, ℕ, List, [], ◌∷◌, Result, Ok, Err, refl, ap}
-use Rattle.std.specs.Prelude.{IsOk, OnOk}
+use Rattle.std.specs.Prelude.{OnOk}
 use Rattle.outcome.specs.Bytes.{IsBytes}
 use Rattle.authenticators.specs.Directory.{Listing}
 use Rattle.item_forms.specs.declared.forms.Fields.{Fields}
@@ -8,7 +8,6 @@ use Rattle.evidence_item.specs.Checking.{Checked}
 use Rattle.containers.specs.declared.fault.ImportFault.{ImportFault}
 use Rattle.containers.specs.CheckedItems.{checked_of, fields_of as checked_fields}
 use Rattle.containers.specs.Container.{import_of}
-use Rattle.containers.specs.Refusals.{IsBehindFront}
 use Rattle.evidence.specs.Exports.{IsTextOf, SetsHaveOneText}
 use Rattle.evidence_set.specs.Valid.{fields_of}
 use Rattle.evidence_set.specs.ItemSets.{pieces}

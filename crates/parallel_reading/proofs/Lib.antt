@@ -1,4 +1,5 @@
 mod Apart
+mod Front
 mod Gathering
 mod ImportedSets
 pub mod Items

@@ -17,7 +17,7 @@ use crate::reading::read_all_by;
 use crate::watching::Watcher;
 use crate::workers::Workers;
 use authenticators::Directory;
-use containers::ImportFault;
+use containers::{ImportFault, Pending};
 use evidence::laws::sets_have_one_text;
 use evidence::{Evidence, add_all, magic_of};
 use evidence_item::Checked;
@@ -30,7 +30,7 @@ fn items_of<R: Threads + Sync, P: Program + Send + Sync, W: Watcher>(
     workers: &Workers<'_, R>,
     program: &P,
     directory: &Directory,
-    bytes: &[u8],
+    text: &mut Pending,
     watcher: &mut W,
 ) -> Result<Vec<Checked<P>>, ImportFault>
 where
@@ -38,35 +38,38 @@ where
     requires workers { (0 < workers.now.count) × (workers.now.count ≤ MOST_WORKERS) }
     ensures checked { IfOk result (λ items. All (IsChecked directory.now P.means) items.items) }
     ensures ascending { IfOk result (λ items. IsStrictlySortedBy by_bytes (pieces items.items)) }
-    ensures text { IfOk result (λ items. bytes.now ≡ set_text (magic_of bytes.now) (set_of items.items)) }
-    ensures read { OnOk result (IsOk (import_set directory.now bytes.now)) }
-    ensures fault { IfErr result (λ f. Refuses f (import_set directory.now bytes.now)) }
-    ensures memory { IfErr result (λ f. f.cause ≡ cause.Memory → IsBehindFront (import_set directory.now bytes.now)) }
+    ensures text { IfOk result (λ items. text.old ≡ set_text (magic_of text.old) (set_of items.items)) }
+    ensures read { OnOk result (IsOk (import_set directory.now text.old)) }
+    ensures fault { IfErr result (λ f. Refuses f (import_set directory.now text.old)) }
+    ensures memory { IfErr result (λ f. f.cause ≡ cause.Memory → IsBehindFront (import_set directory.now text.old)) }
 {
+    let bytes = text.rest();
     bytes_fit(bytes);
     sets_have_one_text();
-    let items = read_all_by(workers, program, directory, magic_of(bytes), bytes, watcher)?;
+    let magic = magic_of(bytes);
+    let items = read_all_by(workers, program, directory, magic, text, watcher)?;
     Ok(items)
 }
 
 /// Reads the text of a set, behind `PRSTORE2` or `PRSTORE1`, checks its items by workers, and adds them: all, or none. It answers how many
-/// are new, as `Evidence::import` does, and tells the same refusals. The watcher is told as of [`read_all_by`].
+/// are new, as `Evidence::import` does, and tells the same refusals. The text is let go as it is read, and the watcher is told, as of
+/// [`read_all_by`].
 pub fn import_by<R: Threads + Sync, P: Program + Send + Sync, S: Evidence<P>, W: Watcher>(
     workers: &Workers<'_, R>,
     store: &mut S,
     program: &P,
-    bytes: &[u8],
+    text: &mut Pending,
     watcher: &mut W,
 ) -> Result<u64, ImportFault>
 where
     P::State: Send,
     requires workers { (0 < workers.now.count) × (workers.now.count ≤ MOST_WORKERS) }
     ensures told { IfOk result (λ new. count (S.contents store.old).items + new ≡ count (S.contents store.new).items) }
-    ensures joined { OnOk result ((added : Items) × (bytes.now ≡ set_text (magic_of bytes.now) added) × (S.contents store.new ≡ with_items (S.contents store.old) (Join (S.contents store.old).items added))) }
-    ensures fault { IfErr result (λ f. Refuses f (import_set (S.contents store.old).directory bytes.now)) }
-    ensures memory { IfErr result (λ f. f.cause ≡ cause.Memory → IsBehindFront (import_set (S.contents store.old).directory bytes.now)) }
+    ensures joined { OnOk result ((added : Items) × (text.old ≡ set_text (magic_of text.old) added) × (S.contents store.new ≡ with_items (S.contents store.old) (Join (S.contents store.old).items added))) }
+    ensures fault { IfErr result (λ f. Refuses f (import_set (S.contents store.old).directory text.old)) }
+    ensures memory { IfErr result (λ f. f.cause ≡ cause.Memory → IsBehindFront (import_set (S.contents store.old).directory text.old)) }
     ensures refused { OnErr result (S.contents store.new ≡ S.contents store.old) }
 {
-    let items = items_of(workers, program, store.directory(), bytes, watcher)?;
+    let items = items_of(workers, program, store.directory(), text, watcher)?;
     add_all::<P, S>(store, items)
 }

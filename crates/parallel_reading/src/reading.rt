@@ -1,6 +1,6 @@
 //! Reading a container by several workers.
 
-ghost use Rattle.std.specs.Prelude.{◌≡◌, ◌<◌, ◌≤◌, [], IfErr, IfOk, OnOk, Err, Ok, length, List, ℕ, suc};
+ghost use Rattle.std.specs.Prelude.{◌≡◌, ◌+◌, ◌<◌, ◌≤◌, [], IfErr, IfOk, MatchOption, OnErr, OnOk, Err, Ok, drop, length, take, List, ℕ, suc};
 ghost use Rattle.std.specs.List.{All};
 ghost use Rattle.evidence_item.specs.Checking.{IsChecked};
 ghost use Rattle.containers.specs.declared.fault.Cause.TheVariants as cause;
@@ -10,6 +10,7 @@ ghost use Rattle.containers.specs.Feeding.{AreItems};
 ghost use Rattle.containers.specs.Refusals.{IsBehindFront, Refuses};
 ghost use Rattle.parallel_checking.specs.declared.limits.TheConstants.{MOST_WORKERS};
 ghost use Rattle.containers.specs.Rest.{rest_of};
+ghost use Rattle.parallel_reading.specs.within.Texts.{IsBegun, StandsBefore, still_of};
 
 use crate::batch::{keep_all, read_texts};
 use crate::item::read_item;
@@ -17,7 +18,7 @@ use crate::texts::next_texts;
 use crate::watching::Watcher;
 use crate::workers::{Checkers, Workers};
 use authenticators::Directory;
-use containers::{Cause, ImportFault, next_text, read_count, read_end};
+use containers::{Cause, ImportFault, Pending, next_text, read_count, read_end};
 use evidence_item::Checked;
 use log_chain::FieldReader;
 use replay_verifier::Program;
@@ -34,6 +35,7 @@ fn read_first<'a, P: Program>(
 ) -> Result<&'a [u8], ImportFault>
     requires none { items.old.items ≡ [] }
     ensures on { IfOk result (λ text. (n : ℕ) → rest_of (checked_of directory.now) (suc n) [] [] reader.old ≡ rest_of (checked_of directory.now) n text.now (fields_of items.new.items) reader.new) }
+    ensures stands { IfOk result (λ text. StandsBefore text.now reader.new reader.old) }
     ensures some { OnOk result (length items.new.items ≡ 1) }
     ensures checked { OnOk result (All (IsChecked directory.now P.means) items.new.items) }
     ensures refused { IfErr result (λ f. (n : ℕ) → Refuses f (rest_of (checked_of directory.now) (suc n) [] [] reader.old)) }
@@ -66,6 +68,7 @@ where
     requires workers { (0 < checkers.now.workers.now.count) × (checkers.now.workers.now.count ≤ MOST_WORKERS) }
     requires left { 0 < left }
     ensures on { IfOk result (λ x. rest_of (checked_of checkers.now.directory.now) left last.now (fields_of items.old.items) reader.old ≡ rest_of (checked_of checkers.now.directory.now) x.1 x.0.now (fields_of items.new.items) reader.new) }
+    ensures stands { IfOk result (λ x. StandsBefore x.0.now reader.new reader.old) }
     ensures falls { IfOk result (λ x. x.1 < left) }
     ensures checked { OnOk result (All (IsChecked checkers.now.directory.now P.means) items.old.items → All (IsChecked checkers.now.directory.now P.means) items.new.items) }
     ensures refused { IfErr result (λ f. Refuses f (rest_of (checked_of checkers.now.directory.now) left last.now (fields_of items.old.items) reader.old)) }
@@ -91,40 +94,115 @@ where
     Ok((texts[read], left - read as u64))
 }
 
-/// Reads the items that are left, behind those that were read.
-fn read_rest<'a, R: Threads + Sync, P: Program + Send + Sync, W: Watcher>(
+/// How far a text is read.
+#[derive(Clone, Copy, Debug)]
+struct Reached {
+    /// How many bytes stand in front of the text of the last item that was read.
+    passed: usize,
+    /// How many bytes that text has.
+    last: usize,
+    /// How many items are left behind it.
+    left: u64,
+}
+
+/// Reads the next items of bytes in front of which the last one's text stands, of so many bytes.
+fn read_behind<R: Threads + Sync, P: Program + Send + Sync>(
     checkers: &Checkers<'_, R, P>,
-    reader: &mut FieldReader<'a>,
+    bytes: &[u8],
+    items: &mut Vec<Checked<P>>,
+    last: usize,
+    left: u64,
+) -> Result<Reached, ImportFault>
+where
+    P::State: Send,
+    requires workers { (0 < checkers.now.workers.now.count) × (checkers.now.workers.now.count ≤ MOST_WORKERS) }
+    requires last { last ≤ length bytes.now }
+    requires left { 0 < left }
+    ensures inside { IfOk result (λ r. r.passed + r.last ≤ length bytes.now) }
+    ensures on { IfOk result (λ r. still_of (checked_of checkers.now.directory.now) left last (fields_of items.old.items) bytes.now ≡ still_of (checked_of checkers.now.directory.now) r.left r.last (fields_of items.new.items) (drop r.passed bytes.now)) }
+    ensures falls { IfOk result (λ r. r.left < left) }
+    ensures checked { OnOk result (All (IsChecked checkers.now.directory.now P.means) items.old.items → All (IsChecked checkers.now.directory.now P.means) items.new.items) }
+    ensures refused { IfErr result (λ f. Refuses f (still_of (checked_of checkers.now.directory.now) left last (fields_of items.old.items) bytes.now)) }
+{
+    let (last, rest) = bytes.split_at(last);
+    let mut reader = FieldReader::new(rest);
+    let (text, left) = read_some(checkers, &mut reader, items, last, left)?;
+    Ok(Reached {
+        passed: bytes.len() - reader.left() - text.len(),
+        last: text.len(),
+        left,
+    })
+}
+
+/// Reads the items that are left, behind those that were read. What was read is let go, up to the last item's text.
+fn read_rest<R: Threads + Sync, P: Program + Send + Sync, W: Watcher>(
+    checkers: &Checkers<'_, R, P>,
+    text: &mut Pending,
     mut items: Vec<Checked<P>>,
-    mut last: &'a [u8],
+    mut last: usize,
     mut left: u64,
     watcher: &mut W,
 ) -> Result<Vec<Checked<P>>, ImportFault>
 where
     P::State: Send,
     requires workers { (0 < checkers.now.workers.now.count) × (checkers.now.workers.now.count ≤ MOST_WORKERS) }
+    requires last { last ≤ length text.old }
     requires checked { All (IsChecked checkers.now.directory.now P.means) items.items }
-    ensures items { IfOk result (λ v. AreItems checkers.now.directory.now P.means (rest_of (checked_of checkers.now.directory.now) left last.now (fields_of items.items) reader.old) v.items) }
-    ensures refused { IfErr result (λ f. Refuses f (rest_of (checked_of checkers.now.directory.now) left last.now (fields_of items.items) reader.old)) }
+    ensures items { IfOk result (λ v. AreItems checkers.now.directory.now P.means (still_of (checked_of checkers.now.directory.now) left last (fields_of items.items) text.old) v.items) }
+    ensures refused { IfErr result (λ f. Refuses f (still_of (checked_of checkers.now.directory.now) left last (fields_of items.items) text.old)) }
 {
-    watcher.read(items.len() as u64, reader.left() as u64);
+    watcher.read(items.len() as u64, (text.rest().len() - last) as u64);
     while left > 0 {
-        (last, left) = read_some(checkers, reader, &mut items, last, left)?;
-        watcher.read(items.len() as u64, reader.left() as u64);
+        let reached = read_behind(checkers, text.rest(), &mut items, last, left)?;
+        text.skip(reached.passed);
+        last = reached.last;
+        left = reached.left;
+        watcher.read(items.len() as u64, (text.rest().len() - last) as u64);
     }
-    read_end(reader, items.len() as u64)?;
+    let reader = FieldReader::new(&text.rest()[last..]);
+    read_end(&reader, items.len() as u64)?;
     Ok(items)
 }
 
+/// Reads the header and the first item, where there is one.
+fn read_front<P: Program>(
+    alloc: Global,
+    program: &P,
+    directory: &Directory,
+    magic: &[u8; 8],
+    bytes: &[u8],
+    items: &mut Vec<Checked<P>>,
+) -> Result<Option<Reached>, ImportFault>
+    requires none { items.old.items ≡ [] }
+    ensures front { IfOk result (λ o. MatchOption o ((import_of magic.now (checked_of directory.now) bytes.now ≡ Ok []) × (items.new.items ≡ [])) (λ r. IsBegun (checked_of directory.now) magic.now bytes.now (fields_of items.new.items) r.passed r.last r.left)) }
+    ensures checked { OnOk result (All (IsChecked directory.now P.means) items.new.items) }
+    ensures refused { IfErr result (λ f. Refuses f (import_of magic.now (checked_of directory.now) bytes.now)) }
+    ensures memory { IfErr result (λ f. f.cause ≡ cause.Memory → IsBehindFront (import_of magic.now (checked_of directory.now) bytes.now)) }
+{
+    let mut reader = FieldReader::new(bytes);
+    let count = read_count(&mut reader, magic)?;
+    if count == 0 {
+        read_end(&reader, 0)?;
+        return Ok(None);
+    }
+    let text = read_first(alloc, program, directory, &mut reader, items)?;
+    Ok(Some(Reached {
+        passed: bytes.len() - reader.left() - text.len(),
+        last: text.len(),
+        left: count - 1,
+    }))
+}
+
 /// The items of a text that is there at once, each checked, by workers. It answers what `containers::read_all` answers, whoever read
-/// which item.
+/// which item. The text is let go as it is read, so that text and items are never in memory together.
 ///
 /// The first of these is told, at the first item that shows it: `Truncated` (40) and `BadMagic` (60) in the header; `Truncated` of
 /// an item's length, `TooLong` (42) of it, `Truncated` of its bytes, its own fault of reading (40 to 43), `NotAscending` (61), its
 /// fault of checking (44 to 49); and `Trailing` (43) at the count. `Memory` may come in place of any of them, but not before the
 /// first item was read: what is wrong with the header or with the first item's text is told, whether there is memory or not.
 ///
-/// The watcher is told once the first item is read, and then whenever those are that the workers were given at once.
+/// The watcher is told once the first item is read, and then whenever those are that the workers were given at once. With a refusal, what
+/// is left of the text begins with the text of the last item of which the watcher was told, or is the whole text.
 ///
 /// Beside the text and the items it takes memory for those that workers are given at once: about four mebibytes of texts, or one item.
 pub fn read_all_by<R: Threads + Sync, P: Program + Send + Sync, W: Watcher>(
@@ -132,28 +210,33 @@ pub fn read_all_by<R: Threads + Sync, P: Program + Send + Sync, W: Watcher>(
     program: &P,
     directory: &Directory,
     magic: [u8; 8],
-    bytes: &[u8],
+    text: &mut Pending,
     watcher: &mut W,
 ) -> Result<Vec<Checked<P>>, ImportFault>
 where
     P::State: Send,
     requires workers { (0 < workers.now.count) × (workers.now.count ≤ MOST_WORKERS) }
-    ensures items { IfOk result (λ items. AreItems directory.now P.means (import_of magic (checked_of directory.now) bytes.now) items.items) }
-    ensures refused { IfErr result (λ f. Refuses f (import_of magic (checked_of directory.now) bytes.now)) }
-    ensures memory { IfErr result (λ f. f.cause ≡ cause.Memory → IsBehindFront (import_of magic (checked_of directory.now) bytes.now)) }
+    ensures items { IfOk result (λ items. AreItems directory.now P.means (import_of magic (checked_of directory.now) text.old) items.items) }
+    ensures refused { IfErr result (λ f. Refuses f (import_of magic (checked_of directory.now) text.old)) }
+    ensures memory { IfErr result (λ f. f.cause ≡ cause.Memory → IsBehindFront (import_of magic (checked_of directory.now) text.old)) }
 {
-    let mut reader = FieldReader::new(bytes);
-    let count = read_count(&mut reader, &magic)?;
     let mut items = Vec::new(workers.alloc);
-    if count == 0 {
-        read_end(&reader, 0)?;
+    let front = read_front(
+        workers.alloc,
+        program,
+        directory,
+        &magic,
+        text.rest(),
+        &mut items,
+    )?;
+    let Some(reached) = front else {
         return Ok(items);
-    }
-    let last = read_first(workers.alloc, program, directory, &mut reader, &mut items)?;
+    };
+    text.skip(reached.passed);
     let checkers = Checkers {
         workers,
         program,
         directory,
     };
-    read_rest(&checkers, &mut reader, items, last, count - 1, watcher)
+    read_rest(&checkers, text, items, reached.last, reached.left, watcher)
 }

@@ -6,7 +6,7 @@ ghost use Rattle.parallel_checking.specs.declared.limits.TheConstants.{MOST_WORK
 
 use crate::reading::samples::{header, put_item, statement};
 use authenticators::Directory;
-use containers::Cause;
+use containers::{Cause, Pending};
 use evidence_samples::make_nodes;
 use parallel_reading::{Unwatched, Watcher, Workers, read_all_by};
 use ref_programs::Tally;
@@ -19,6 +19,9 @@ type Told = (u64, u8);
 
 /// The number of no refusal.
 const READ: u8 = 0;
+
+/// The number of a copy that was refused memory.
+const NO_MEMORY: u8 = 255;
 
 /// What so many workers answer of the text.
 fn answer_by<R: Threads + Sync>(
@@ -35,12 +38,15 @@ fn answer_by<R: Threads + Sync>(
         alloc,
         count: workers,
     };
+    let Ok(copy) = text.to_vec(alloc) else {
+        return (0, NO_MEMORY);
+    };
     match read_all_by(
         &workers,
         &Tally,
         directory,
         *b"PRSTORE2",
-        text,
+        &mut Pending::new(copy),
         &mut Unwatched,
     ) {
         Ok(items) => (items.len() as u64, READ),
@@ -282,7 +288,7 @@ fn a_watcher_is_told_of_the_first_item_and_of_those_that_are_read_at_once(
         &Tally,
         &nodes.directory,
         *b"PRSTORE2",
-        &text,
+        &mut Pending::new(text),
         &mut notes,
     );
     let expected = Notes {

@@ -4,6 +4,7 @@ ghost use Rattle.std.specs.Prelude.{◌<◌, ◌≤◌};
 ghost use Rattle.parallel_checking.specs.declared.limits.TheConstants.{MOST_WORKERS};
 
 use crate::reading::samples::{header, put_item, statement};
+use containers::Pending;
 use evidence_samples::make_nodes;
 use evidence_store::{Evidence, IndexedStore};
 use parallel_reading::{Unwatched, Workers, import_by};
@@ -37,7 +38,8 @@ fn left_by<R: Threads + Sync>(rt: &R, alloc: Global, workers: usize) -> Result<L
         alloc,
         count: workers,
     };
-    let new = import_by(&workers, &mut store, &Tally, &text, &mut Unwatched)?;
+    let mut pending = Pending::new(text.to_vec(alloc)?);
+    let new = import_by(&workers, &mut store, &Tally, &mut pending, &mut Unwatched)?;
     Ok(Left {
         new,
         count: store.count(),

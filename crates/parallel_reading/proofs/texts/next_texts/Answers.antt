@@ -1,4 +1,4 @@
-use Rattle.std.proofs.Common.{◌≡◌, ◌∙◌, ◌-◌, inl, inr, refl, suc, ap, arith}
+use Rattle.std.proofs.Common.{◌≡◌, ◌∙◌, ◌-◌, inr, suc, ap, arith}
 use Rattle.std.proofs.lemmas.Result.{err_from_is_err_and}
 use Rattle.containers.specs.Rest.{rest_of}
 use Rattle.parallel_reading.proofs.texts.next_texts.Goals as goal
