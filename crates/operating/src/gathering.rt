@@ -12,10 +12,11 @@ ghost use Rattle.parallel_checking.specs.declared.limits.TheConstants.{MOST_WORK
 
 use crate::files::{Limits, Opener};
 use crate::reading::{Front, read_front, read_said};
-use crate::refusal::Refusal;
-use crate::watching::StoreWatcher;
+use crate::refusal::{Far, Refusal};
+use crate::watching::{StoreWatcher, Watcher};
 use commands::fault::Fault;
 use commands::laws::texts_are_added;
+use containers::Pending;
 use evidence::Evidence;
 use evidence_set::laws::sets_are_as_expected;
 use parallel_reading::{Workers, import_by};
@@ -58,7 +59,7 @@ fn front_of(text: &[u8]) -> [u8; 8] {
 }
 
 /// What every store's items are: valid under its directory, and fewer than a number of 64 bits can count.
-fn items_fit<P: Program, S: Evidence<P>>(store: &S)
+fn items_are_valid<P: Program, S: Evidence<P>>(store: &S)
     ensures valid { AreValid (S.contents store.now).directory (S.contents store.now).items }
     ensures few { count (S.contents store.now).items < 2 ^ 64 }
 {
@@ -66,19 +67,33 @@ fn items_fit<P: Program, S: Evidence<P>>(store: &S)
     let _ = store.count();
 }
 
-/// Adds the items of the text of a file.
+/// Notes how far a text was read, and tells a watcher.
+#[derive(Drop)]
+struct Noting<'a, F> {
+    watcher: &'a mut F,
+    far: Far,
+}
+
+impl<'a, F: StoreWatcher> Watcher for Noting<'a, F> {
+    fn read(&mut self, items: u64, left: u64) {
+        self.far.note(items, left);
+        self.watcher.read(items, left);
+    }
+}
+
+/// Adds the items of the text of a file. The text is let go as it is read.
 fn add_text<R: Threads + Sync, P: Program + Send + Sync, S: Evidence<P>, F: StoreWatcher>(
     reading: &Reading<'_, R, P>,
     store: &mut S,
-    text: &[u8],
+    text: Vec<u8>,
     file: usize,
     watcher: &mut F,
 ) -> Result<(), Refusal>
 where
     P::State: Send,
     requires workers { (0 < reading.now.limits.workers) × (reading.now.limits.workers ≤ MOST_WORKERS) }
-    ensures added { OnOk result (AddsStore (S.contents store.old) (S.contents store.new) text.now) }
-    ensures refused { IfErr result (λ r. (r.file ≡ Some file) × RefusesText (S.contents store.old).directory text.now r) }
+    ensures added { OnOk result (AddsStore (S.contents store.old) (S.contents store.new) text.items) }
+    ensures refused { IfErr result (λ r. (r.file ≡ Some file) × RefusesText (S.contents store.old).directory text.items r) }
     ensures own { IfErr result (λ r. IsOwn r.fault) }
 {
     texts_are_added();
@@ -87,12 +102,16 @@ where
         alloc: reading.alloc,
         count: reading.limits.workers,
     };
-    match import_by(&workers, store, reading.program, text, watcher) {
+    let far = Far::none(&text);
+    watcher.begin(file, far.len);
+    let mut noting = Noting { watcher, far };
+    let mut left = Pending::new(text);
+    match import_by(&workers, store, reading.program, &mut left, &mut noting) {
         Ok(_) => {
-            items_fit::<P, S>(store);
+            items_are_valid::<P, S>(store);
             Ok(())
         }
-        Err(fault) => Err(Refusal::of_import(file, text, fault)),
+        Err(fault) => Err(Refusal::of_reading(file, &noting.far, left.rest(), fault)),
     }
 }
 
@@ -122,9 +141,9 @@ where
     ensures quiet { OnOk result ((O.seen opener.new).failures ≡ (O.seen opener.old).failures) }
 {
     let text = read_said(reading.alloc, opener, file, Some(directory), reading.limits)?;
-    watcher.begin(file, text.len() as u64);
-    add_text::<R, P, S, F>(reading, store, &text, file, watcher)?;
-    Ok(front_of(&text))
+    let front = front_of(&text);
+    add_text::<R, P, S, F>(reading, store, text, file, watcher)?;
+    Ok(front)
 }
 
 /// A store without items, under the directory that file 0 says, and what stands under the directory there.
@@ -193,12 +212,12 @@ where
             store,
         });
     };
-    watcher.begin(0, text.len() as u64);
-    add_text::<R, P, S, F>(reading, &mut store, &text, 0, watcher)?;
+    let front = front_of(&text);
+    add_text::<R, P, S, F>(reading, &mut store, text, 0, watcher)?;
     Ok(Gathered {
         directory,
         stores: 1,
-        front: front_of(&text),
+        front,
         store,
     })
 }

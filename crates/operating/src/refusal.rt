@@ -24,13 +24,9 @@ pub struct Refusal {
     pub form: TextForm,
 }
 
-/// How many bytes stand before the length of an item that stands behind so many others.
-fn byte_of(text: &[u8], item: u64) -> Option<u64> {
-    let mut reader = FieldReader::new(text);
-    if reader.take(16).is_err() {
-        return None;
-    }
-    for _ in 0..item {
+/// How many bytes stand behind so many items of a text.
+fn left_behind(mut reader: FieldReader<'_>, items: u64) -> Option<usize> {
+    for _ in 0..items {
         let Ok(len) = reader.u32() else {
             return None;
         };
@@ -38,10 +34,53 @@ fn byte_of(text: &[u8], item: u64) -> Option<u64> {
             return None;
         }
     }
-    if reader.left() > text.len() {
-        return None;
+    Some(reader.left())
+}
+
+/// How far a store's text was read.
+#[derive(Clone, Copy, Debug)]
+pub(crate) struct Far {
+    /// How many bytes the text has.
+    pub(crate) len: u64,
+    /// What it is.
+    form: TextForm,
+    /// How many items were read.
+    items: u64,
+    /// How many bytes stand behind them.
+    left: u64,
+}
+
+impl Far {
+    /// Nothing was read of the text.
+    pub(crate) fn none(text: &[u8]) -> Far {
+        let len = text.len() as u64;
+        Far {
+            len,
+            form: TextForm::known(text),
+            items: 0,
+            left: len,
+        }
     }
-    Some((text.len() - reader.left()) as u64)
+
+    /// So many items were read, and so many bytes stand behind them.
+    pub(crate) fn note(&mut self, items: u64, left: u64) {
+        self.items = items;
+        self.left = left;
+    }
+
+    /// How many bytes of the text stand before the length of an item that stands behind so many others, where `rest` is left of the text.
+    fn byte_of(&self, rest: &[u8], item: u64) -> Option<u64> {
+        let read = (rest.len() as u64).saturating_sub(self.left);
+        let mut reader = FieldReader::new(rest);
+        if reader.take(read as usize).is_err() {
+            return None;
+        }
+        if self.items == 0 && reader.take(16).is_err() {
+            return None;
+        }
+        let left = left_behind(reader, item.saturating_sub(self.items))?;
+        Some(self.len.saturating_sub(left as u64))
+    }
 }
 
 impl Refusal {
@@ -91,16 +130,23 @@ impl Refusal {
         }
     }
 
-    /// A fault of a store's text.
-    pub(crate) fn of_import(file: usize, text: &[u8], fault: ImportFault) -> Refusal
+    /// A fault of a store's text that was read so far, and of which `rest` is left.
+    pub(crate) fn of_reading(file: usize, far: &Far, rest: &[u8], fault: ImportFault) -> Refusal
         ensures { (result.fault ≡ of_import fault) × (result.file ≡ Some file) × (result.item ≡ Some fault.item) }
     {
         Refusal {
             fault: Fault::from(fault),
             file: Some(file),
             item: Some(fault.item),
-            byte: byte_of(text, fault.item),
-            form: TextForm::known(text),
+            byte: far.byte_of(rest, fault.item),
+            form: far.form,
         }
+    }
+
+    /// A fault of a store's text.
+    pub(crate) fn of_import(file: usize, text: &[u8], fault: ImportFault) -> Refusal
+        ensures { (result.fault ≡ of_import fault) × (result.file ≡ Some file) × (result.item ≡ Some fault.item) }
+    {
+        Refusal::of_reading(file, &Far::none(text), text, fault)
     }
 }
