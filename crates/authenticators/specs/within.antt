@@ -2,3 +2,4 @@
 pub mod Inserted
 pub mod Joins
 pub mod Noted
+pub mod Resolved
