@@ -1,6 +1,6 @@
 //! Signature texts: how they name one of a node's keys, and whether that key verifies them.
 
-use authenticators::{Authenticator, Directory, NodeId, split_signature};
+use authenticators::{Authenticator, Claim, Directory, NodeId, split_signature};
 use lms_sign::PublicKey;
 use log_chain::{ByteString, Hash};
 use std::alloc::Global;
@@ -205,6 +205,40 @@ fn a_key_is_named_by_its_place(rt: HostRuntime) -> Result<(), Fail> {
         (first, Change::Nothing, false),
     ] {
         assert!(rt; is_valid(alloc, &directory, 1, text, change)? == valid);
+    }
+    Ok(())
+}
+
+/// For each of so many claims of seven kinds, one after the other, whether it is signed by the claims that are verified together.
+fn answers_to(alloc: Global, count: usize) -> Result<Vec<bool>, Fail> {
+    let directory = directory_of(alloc, [first_key_text(), second_key_text()])?;
+    let first = changed(alloc, first_signature_text(), Change::Nothing)?;
+    let second = changed(alloc, second_signature_text(), Change::Nothing)?;
+    let spoilt = changed(alloc, first_signature_text(), Change::First(1))?;
+    let hash = Hash([7; 32]);
+    let kinds = [
+        Claim::new(NodeId(1), 5, hash, &first),
+        Claim::new(NodeId(1), 5, hash, &second),
+        Claim::new(NodeId(1), 6, hash, &first),
+        Claim::new(NodeId(2), 5, hash, &first),
+        Claim::new(NodeId(3), 5, hash, &first),
+        Claim::new(NodeId(1), 5, hash, &spoilt),
+        Claim::new(NodeId(1), 5, hash, &[]),
+    ];
+    let mut claims = Vec::new(alloc);
+    for k in 0..count {
+        claims.push(kinds[k % 7])?;
+    }
+    let answers = directory.verifies_all(alloc, &claims)?;
+    Ok(answers)
+}
+
+#[test]
+fn claims_are_verified_together_as_alone(rt: HostRuntime) -> Result<(), Fail> {
+    for count in [0, 1, 2, 3, 8, 9, 17] {
+        let answers = answers_to(rt.alloc(), count)?;
+        assert!(rt; answers.len() == count);
+        assert!(rt; answers.iter().enumerate().all(|(k, answer)| *answer == (k % 7 < 2)));
     }
     Ok(())
 }

@@ -1,14 +1,18 @@
 //! Checking a list of items by several workers.
 
-ghost use Rattle.std.specs.Prelude.{◌≡◌, ◌↔◌, ◌<◌, ◌⊎◌, Err, IfOk, length};
-ghost use Rattle.parallel_checking.specs.Checks.{AreAnswers, IsAnswer, IsAnswerAt};
+ghost use Rattle.std.specs.Prelude.{◌≡◌, ◌↔◌, ◌+◌, ◌<◌, ◌≤◌, ◌^◌, ◌⊎◌, All, Err, IfOk, IfSome, length};
+ghost use Rattle.evidence_item.specs.Examining.{IsExamined};
+ghost use Rattle.parallel_checking.specs.Checks.{AreAnswers, IsAnswer};
+ghost use Rattle.parallel_checking.specs.within.Blocks.{AreBlocksAnswered, AreKnown, IsBlockAnsweredAt};
 ghost use Rattle.parallel_checking.specs.declared.fault.CheckAllFault.TheVariants as all;
 ghost use Rattle.parallel_checking.specs.declared.limits.TheConstants.{MOST_WORKERS};
 
+use crate::blocks::{Block, block_size, blocks_of, joined};
 use crate::fault::CheckAllFault;
 use crate::limits::MOST_WORKERS;
 use authenticators::Directory;
-use evidence_item::{Checked, Item, ItemFault, check_item};
+use evidence_item::{Checked, Examined, Item, ItemFault, check_examined, check_item, examine_all};
+use outcome::Memory;
 use parallel_map::map_claimed;
 use replay_verifier::Program;
 use std::alloc::{AllocError, Global};
@@ -46,6 +50,84 @@ pub(crate) fn check_copy<P: Program>(
     check_item(alloc, program, directory, copy)
 }
 
+/// The same of an item of which something may be known.
+fn check_known<P: Program>(
+    alloc: Global,
+    program: &P,
+    directory: &Directory,
+    item: &Item,
+    examined: Option<&Examined>,
+) -> Result<Checked<P>, ItemFault>
+    requires { IfSome examined (λ e. IsExamined directory.now item.now.fields e.now) }
+    ensures { IsAnswer directory.now P.means item.now result }
+{
+    let Some(examined) = examined else {
+        return check_copy(alloc, program, directory, item);
+    };
+    let copy = item.try_clone(alloc)?;
+    check_examined(alloc, program, directory, copy, *examined)
+}
+
+/// What is known of the items before they are checked: nothing of fewer than three, and nothing where there is no memory for it.
+fn examine_some(alloc: Global, directory: &Directory, items: &[Item]) -> Vec<Examined>
+    ensures { AreKnown directory.now items.now result.items }
+{
+    if items.len() < 3 {
+        return Vec::new(alloc);
+    }
+    match examine_all(alloc, directory, items) {
+        Ok(examined) => examined,
+        Err(AllocError) => Vec::new(alloc),
+    }
+}
+
+/// What checking gives of a copy of each item of the block, whose signatures are verified together.
+fn check_block<P: Program, G: Gate>(
+    alloc: Global,
+    program: &P,
+    directory: &Directory,
+    block: &Block,
+    gate: &G,
+) -> Result<Vec<Result<Checked<P>, ItemFault>>, Memory>
+    requires { block.now.start + length block.now.items.now < 2 ^ 64 }
+    ensures { IfOk result (λ v. AreAnswers directory.now P.means block.now.items.now v.items) }
+{
+    let items = block.items;
+    let examined = examine_some(alloc, directory, items);
+    let mut answers = Vec::with_capacity(alloc, items.len())?;
+    for k in 0..items.len() {
+        gate.enter(block.start + k);
+        let answer = check_known(alloc, program, directory, &items[k], examined.get(k));
+        gate.leave(block.start + k);
+        answers.push(answer)?;
+    }
+    Ok(answers)
+}
+
+/// What checking gives of each block, by so many workers.
+fn check_blocks<R: Threads + Sync, P: Program + Send + Sync, G: Gate + Sync>(
+    rt: &R,
+    alloc: Global,
+    program: &P,
+    directory: &Directory,
+    blocks: &[Block],
+    workers: usize,
+    gate: &G,
+) -> Result<Vec<Result<Vec<Result<Checked<P>, ItemFault>>, Memory>>, Memory>
+where
+    P::State: Send,
+    requires workers { (0 < workers) × (workers ≤ MOST_WORKERS) }
+    requires places { All (λ b. b.start + length b.items.now < 2 ^ 64) blocks.now }
+    ensures { IfOk result (λ v. AreBlocksAnswered directory.now P.means blocks.now v.items) }
+{
+    let check = |n: usize| -> Result<Vec<Result<Checked<P>, ItemFault>>, Memory>
+        requires { (n < length blocks.now) × All (λ b. b.start + length b.items.now < 2 ^ 64) blocks.now }
+        ensures { IsBlockAnsweredAt directory.entry.now P.means blocks.entry.now n result }
+    { check_block(alloc, program, directory, &blocks[n], gate) };
+    let answers = map_claimed(rt, alloc, blocks.len(), workers, &check)?;
+    Ok(answers)
+}
+
 /// Checks each item under the directory, by so many workers: place `n` of the answer has what `check_item`
 /// gives of a copy of item `n`. The gate is told before and after each check.
 ///
@@ -69,16 +151,15 @@ where
     if workers == 0 || workers > MOST_WORKERS {
         return Err(CheckAllFault::BadWorkers);
     }
-    let check = |n: usize| -> Result<Checked<P>, ItemFault>
-        requires { n < length items.now }
-        ensures { IsAnswerAt directory.entry.now P.means items.entry.now n result }
-    {
-        gate.enter(n);
-        let answer = check_copy(alloc, program, directory, &items[n]);
-        gate.leave(n);
-        answer
+    let blocks = match blocks_of(alloc, items, block_size(items.len(), workers)) {
+        Ok(blocks) => blocks,
+        Err(AllocError) => return Err(CheckAllFault::Memory),
     };
-    match map_claimed(rt, alloc, items.len(), workers, &check) {
+    let parts = match check_blocks(rt, alloc, program, directory, &blocks, workers, gate) {
+        Ok(parts) => parts,
+        Err(AllocError) => return Err(CheckAllFault::Memory),
+    };
+    match joined(alloc, parts) {
         Ok(answers) => Ok(answers),
         Err(AllocError) => Err(CheckAllFault::Memory),
     }

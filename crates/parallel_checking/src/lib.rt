@@ -15,6 +15,7 @@ pub use fault::CheckAllFault;
 pub use limits::MOST_WORKERS;
 
 mod again;
+mod blocks;
 mod checking;
 mod fault;
 pub mod laws;

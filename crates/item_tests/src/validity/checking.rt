@@ -3,7 +3,7 @@
 use crate::validity::idle::Idle;
 use crate::validity::valid_items::{valid_ack, valid_auth, valid_send};
 use authenticators::{Authenticator, Directory, NodeId};
-use evidence_item::{Item, ItemFault, Statement, check_item};
+use evidence_item::{Item, ItemFault, Statement, check_examined, check_item, examine_all};
 use evidence_samples::{Nodes, ZEROS, entry, make_nodes};
 use log_chain::{ByteString, Hash, base_hash, kind};
 use messages::Message;
@@ -165,6 +165,56 @@ fn faults_of_signed(alloc: Global, nodes: &mut Nodes) -> Result<[Option<ItemFaul
 fn what_is_signed_is_valid(rt: HostRuntime) -> Result<(), Fail> {
     let mut nodes = make_nodes(rt.alloc())?;
     assert_eq!(rt; faults_of_signed(rt.alloc(), &mut nodes)?, [None; 4]);
+    Ok(())
+}
+
+/// A valid item of each form that is no segment, and a statement without a signature and one of an unlisted node.
+fn some_items(alloc: Global, nodes: &mut Nodes) -> Result<Vec<Item>, Fail> {
+    let mut items = Vec::new(alloc);
+    items.push(Box::into_inner(valid_auth(alloc, nodes)?))?;
+    items.push(Box::into_inner(nodes.one.audit(alloc, Some(5))?))?;
+    items.push(Box::into_inner(valid_send(alloc, nodes)?))?;
+    items.push(Box::into_inner(valid_ack(alloc, nodes)?))?;
+    for node in [1, 3] {
+        items.push(Item::auth(Authenticator {
+            node: NodeId(node),
+            seq: 5,
+            hash: ZEROS,
+            sig: no_bytes(alloc),
+        })?)?;
+    }
+    Ok(items)
+}
+
+/// Why the items are refused that are examined together, if they are.
+fn faults_together(
+    alloc: Global,
+    directory: &Directory,
+    items: Vec<Item>,
+) -> Result<Vec<Option<ItemFault>>, Fail> {
+    let examined = examine_all(alloc, directory, &items)?;
+    let mut faults = Vec::new(alloc);
+    for (item, known) in items.into_iter().zip(examined) {
+        let checked = check_examined(alloc, &Idle, directory, item, known);
+        faults.push(checked.err())?;
+    }
+    Ok(faults)
+}
+
+#[test]
+fn items_that_are_examined_together_are_valid_as_alone(rt: HostRuntime) -> Result<(), Fail> {
+    let mut nodes = make_nodes(rt.alloc())?;
+    let items = some_items(rt.alloc(), &mut nodes)?;
+    let faults = faults_together(rt.alloc(), &nodes.directory, items)?;
+    let expected = [
+        None,
+        None,
+        None,
+        None,
+        Some(ItemFault::BadSignature),
+        Some(ItemFault::UnknownNode),
+    ];
+    assert!(rt; faults.as_slice() == expected.as_slice());
     Ok(())
 }
 

@@ -62,6 +62,32 @@ fn the_same_answers_with_any_number_of_workers(rt: HostRuntime) -> Result<(), Fa
     Ok(())
 }
 
+/// So many items: copies of these, over and over.
+fn repeated(alloc: Global, items: &[Item], count: usize) -> Result<Vec<Item>, Fail> {
+    let mut all = Vec::new(alloc);
+    for k in 0..count {
+        if let Some(item) = items.get(k % 4) {
+            all.push(item.try_clone(alloc)?)?;
+        }
+    }
+    Ok(all)
+}
+
+#[test]
+fn items_that_are_checked_in_blocks_have_the_same_answers(rt: HostRuntime) -> Result<(), Fail> {
+    let alloc = rt.alloc();
+    let (four, directory) = items_and_directory(alloc)?;
+    for count in [0, 1, 3, 8, 17, 33] {
+        let items = repeated(alloc, &four, count)?;
+        let answers = check_all(&rt, alloc, &Tally, &directory, &items, 1, &OpenGate)?;
+        let told = numbers(alloc, &items, &answers)?;
+        let expected = [0, 0, 0, 49];
+        assert!(rt; told.len() == count);
+        assert!(rt; told.iter().enumerate().all(|(k, number)| *number == expected[k % 4]));
+    }
+    Ok(())
+}
+
 #[test]
 fn no_worker_and_too_many_are_refused(rt: HostRuntime) -> Result<(), Fail> {
     let alloc = rt.alloc();

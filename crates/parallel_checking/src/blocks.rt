@@ -1,0 +1,70 @@
+//! Blocks of neighbouring items.
+
+ghost use Rattle.std.specs.Prelude.{◌≡◌, ◌+◌, ◌<◌, ◌≤◌, ◌^◌, All, IfOk, length};
+ghost use Rattle.std.specs.List.{flat_map};
+ghost use Rattle.parallel_checking.specs.within.Blocks.{AllWhole, items_of};
+
+use evidence_item::Item;
+use outcome::Memory;
+use std::alloc::{AllocError, Global};
+
+/// How many items are checked together at most.
+const MOST_TOGETHER: usize = 32;
+
+/// Neighbouring items, and the place of the first one.
+#[derive(Clone, Copy)]
+pub(crate) struct Block<'a> {
+    pub(crate) start: usize,
+    pub(crate) items: &'a [Item],
+}
+
+/// How many items a block has, so that there are four blocks and more for each worker, where there are so many items.
+pub(crate) fn block_size(count: usize, workers: usize) -> usize
+    requires { (0 < workers) × (workers < 16) }
+    ensures { 0 < result }
+{
+    let size = count / (workers * 4);
+    size.min(MOST_TOGETHER).max(1)
+}
+
+/// The items in blocks of this size. The last one has what is left.
+pub(crate) fn blocks_of<'a>(
+    alloc: Global,
+    items: &'a [Item],
+    size: usize,
+) -> Result<Vec<Block<'a>>, Memory>
+    requires { 0 < size }
+    ensures items { IfOk result (λ blocks. flat_map (λ b. b.items.now) blocks.items ≡ items.now) }
+    ensures places { IfOk result (λ blocks. All (λ b. b.start + length b.items.now < 2 ^ 64) blocks.items) }
+{
+    let mut all = Vec::new(alloc);
+    let mut start = 0;
+    while start < items.len() {
+        let end = start + size.min(items.len() - start);
+        all.push(Block {
+            start,
+            items: &items[start..end],
+        })?;
+        start = end;
+    }
+    Ok(all)
+}
+
+/// The parts one after the other, where all are there.
+pub(crate) fn joined<T: Drop>(
+    alloc: Global,
+    parts: Vec<Result<Vec<T>, Memory>>,
+) -> Result<Vec<T>, Memory>
+    ensures whole { IfOk result (λ all. AllWhole parts.items) }
+    ensures items { IfOk result (λ all. all.items ≡ items_of parts.items) }
+{
+    let mut all = Vec::new(alloc);
+    for one in parts {
+        let mut part = match one {
+            Ok(part) => part,
+            Err(AllocError) => return Err(AllocError),
+        };
+        all.append(&mut part)?;
+    }
+    Ok(all)
+}
