@@ -108,10 +108,7 @@ fn resolve_all<'a>(
 }
 
 /// Those that are there, in order.
-fn signed_in<'a>(
-    alloc: Global,
-    all: &[Option<Signed<'a>>],
-) -> Result<Vec<Signed<'a>>, AllocError>
+fn signed_in<'a>(alloc: Global, all: &[Option<Signed<'a>>]) -> Result<Vec<Signed<'a>>, AllocError>
     ensures { IfOk result (λ signed. signed.items ≡ flat_map signed_in all.now) }
 {
     let mut signed = Vec::with_capacity(alloc, all.len())?;
@@ -124,11 +121,7 @@ fn signed_in<'a>(
 }
 
 /// An answer for each: the next one of those that are there, and none for the others.
-fn spread(
-    alloc: Global,
-    all: &[Option<Signed>],
-    verified: &[bool],
-) -> Result<Vec<bool>, AllocError>
+fn spread(alloc: Global, all: &[Option<Signed>], verified: &[bool]) -> Result<Vec<bool>, AllocError>
     requires { verified.now ≡ map is_signed_message (flat_map signed_in all.now) }
     ensures { IfOk result (λ answers. answers.items ≡ map stands all.now) }
 {

@@ -238,7 +238,12 @@ fn claims_are_verified_together_as_alone(rt: HostRuntime) -> Result<(), Fail> {
     for count in [0, 1, 2, 3, 8, 9, 17] {
         let answers = answers_to(rt.alloc(), count)?;
         assert!(rt; answers.len() == count);
-        assert!(rt; answers.iter().enumerate().all(|(k, answer)| *answer == (k % 7 < 2)));
+        assert!(rt;
+            answers
+                .iter()
+                .enumerate()
+                .all(|(k, answer)| *answer == (k % 7 < 2))
+        );
     }
     Ok(())
 }

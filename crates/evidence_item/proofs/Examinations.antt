@@ -90,7 +90,7 @@ next_answers ds stages k at answers stage low below is left =
     let own : List Bool = map (is_claim_signed ds) (claims_in stage) in
     let opened : drop k stages ≡ stage ∷ drop (k + 1) stages = drop_more stages k stage below ∙ ap (λ (s : Stage). s ∷ drop (k + 1) stages) is in
     let split : drop at answers ≡ own ++ rest =
-        left ∙ ap (λ (ss : List Stage). map (is_claim_signed ds) (flat_map claims_in ss)) opened ∙ map-append (is_claim_signed ds) (claims_in stage) (flat_map claims_in (drop (k + 1) stages)) in
+    left ∙ ap (λ (ss : List Stage). map (is_claim_signed ds) (flat_map claims_in ss)) opened ∙ map-append (is_claim_signed ds) (claims_in stage) (flat_map claims_in (drop (k + 1) stages)) in
     let long : length own ≡ length (claims_in stage) = length-map (claims_in stage) (is_claim_signed ds) in
     let lengths : length (drop at answers) ≡ length own + length rest = ap length split ∙ length-append own rest in
     record {
@@ -109,7 +109,7 @@ known_next ds items stages k at count answers read stage again answer are low be
     let next = next_answers ds stages k at answers stage low below (sym one) left in
     let n : (at + count) - at ≡ length (claims_in stage) = omega (arith, counted) in
     let own : take ((at + count) - at) (drop at read) ≡ map (is_claim_signed ds) (claims_in stage) =
-        ap (λ (m : ℕ). take m (drop at read)) n ∙ ap (λ (bs : List Bool). take (length (claims_in stage)) (drop at bs)) same ∙ next.own in
+    ap (λ (m : ℕ). take m (drop at read)) n ∙ ap (λ (bs : List Bool). take (length (claims_in stage)) (drop at bs)) same ∙ next.own in
     let answer_is : answer ≡ concluded (take ((at + count) - at) (drop at read)) stage = told ∙ ap (concluded (take ((at + count) - at) (drop at read))) both in
     let place : k < length items = subst (λ m. k < m) are.count below in
     let of_stage : IsStage ds (get_or items k x).fields stage = subst (λ (s : Stage). IsStage ds (get_or items k x).fields s) (sym one) (are.each k x stage place) in

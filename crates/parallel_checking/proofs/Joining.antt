@@ -38,7 +38,7 @@ next_block items blocks new start n part within so_far below is grown =
       within,
       ap all grown ∙ sym (flat_map_more (λ (b : Block). b.items.now) [] blocks b) ∙ (ap (λ (l : List Piece). l ++ part.now) so_far ∙ ap (λ (l : List Piece). take start items ++ l) part_is ∙ sym (take-add start n items)),
       subst (λ (l : List Block). All (λ (b : Block). b.start + length b.items.now ≤ start + n) l) (sym grown)
-      (All-push (λ (b : Block). b.start + length b.items.now ≤ start + n) blocks b (λ k d low. omega (arith, below k d low)) (omega (arith, long))),
+          (All-push (λ (b : Block). b.start + length b.items.now ≤ start + n) blocks b (λ k d low. omega (arith, below k d low)) (omega (arith, long))),
     )
 
 pub fit : (blocks : List Block) (start : ℕ) → start < 2 ^ 64 → All (λ (b : Block). b.start + length b.items.now ≤ start) blocks → All (λ (b : Block). b.start + length b.items.now < 2 ^ 64) blocks

@@ -20,7 +20,7 @@ use std::thread::Threads;
 
 /// Who is told of each check. Workers in different threads call it at once.
 pub trait Gate {
-    /// A worker is about to check the item of this place.
+    /// A worker is about to check the item of this place. Where several are checked together, their signatures were verified before.
     fn enter(&self, item: usize);
 
     /// The worker has checked it.
@@ -129,7 +129,8 @@ where
 }
 
 /// Checks each item under the directory, by so many workers: place `n` of the answer has what `check_item`
-/// gives of a copy of item `n`. The gate is told before and after each check.
+/// gives of a copy of item `n`. The gate is told before and after each check. A worker takes neighbouring items, 32 at most, and verifies
+/// the signatures of those that are no segments together, with some 90 KB of memory; where that is refused, each is verified alone.
 ///
 /// The first of these is told: `BadWorkers` (90) where the workers are not 1 to [`MOST_WORKERS`]; `Memory` where a growth beside the
 /// checks was refused. A check that is refused memory gives `Memory` at its own place.

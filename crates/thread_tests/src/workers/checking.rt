@@ -83,7 +83,11 @@ fn items_that_are_checked_in_blocks_have_the_same_answers(rt: HostRuntime) -> Re
         let told = numbers(alloc, &items, &answers)?;
         let expected = [0, 0, 0, 49];
         assert!(rt; told.len() == count);
-        assert!(rt; told.iter().enumerate().all(|(k, number)| *number == expected[k % 4]));
+        assert!(rt;
+            told.iter()
+                .enumerate()
+                .all(|(k, number)| *number == expected[k % 4])
+        );
     }
     Ok(())
 }

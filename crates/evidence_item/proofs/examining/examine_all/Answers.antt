@@ -24,14 +24,13 @@ loop-k-preserved c =
     let k = c.loop-k.k in
     let at = c.loop-k.at in
     let below : k < length stages = omega (arith, c.loop-k-test.true, c.len-k-end.ensures, c.deref.ensures.len, ap length c.deref.ensures.value) in
-    let next = next_answers ds stages k at answers c.index.result.now c.loop-k.invariant.0 below (sym c.index.ensures) c.loop-k.invariant.1 in
-    (
+    let next = next_answers ds stages k at answers c.index.result.now c.loop-k.invariant.0 below (sym c.index.ensures) c.loop-k.invariant.1 in (
       omega (arith, next.within, c.count_in.ensures),
       subst (λ n. drop (at + n) answers ≡ map (is_claim_signed ds) (flat_map claims_in (drop (k + 1) stages))) (sym c.count_in.ensures) next.left,
       beside_more (λ (x : Piece) (e : Examined). IsExamined ds x.fields e) c.args.items.now c.loop-k.all.items c.push.new.self.items k _ c.loop-k.invariant.2
-      (known_next ds c.args.items.now stages k at c.count_in.result answers c.deref-in-loop-k.result.now c.index.result.now c.index-in-loop-k.result.now c.conclude_stage-answer.result c.in_ok-stages.ensures
-      c.loop-k.invariant.0 below c.index.ensures c.index-in-loop-k.ensures c.loop-k.invariant.1 c.count_in.ensures c.deref-in-loop-k.ensures.value c.conclude_stage-answer.ensures)
-      c.in_ok-push.ensures.items,
+          (known_next ds c.args.items.now stages k at c.count_in.result answers c.deref-in-loop-k.result.now c.index.result.now c.index-in-loop-k.result.now c.conclude_stage-answer.result c.in_ok-stages.ensures
+          c.loop-k.invariant.0 below c.index.ensures c.index-in-loop-k.ensures c.loop-k.invariant.1 c.count_in.ensures c.deref-in-loop-k.ensures.value c.conclude_stage-answer.ensures)
+          c.in_ok-push.ensures.items,
     )
 
 pub returns : goal.returns
