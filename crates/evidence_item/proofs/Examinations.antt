@@ -3,7 +3,6 @@ use Rattle.std.proofs.Common.{◌≡◌, ℕ, ◌+◌, ◌-◌, ◌<◌, ◌≤�
 use Rattle.std.specs.Prelude.{◌&&◌, ◌||◌, not}
 use Rattle.std.specs.List.{flat_map, list_all, list_any}
 use Rattle.std.proofs.lemmas.List.{drop_at, drop_more, drop-drop, get_or_append_left, get_or_default, get_or_at, length-append, length-drop, length-map, length_push, map-append, take_at}
-use Rattle.authenticators.specs.declared.authenticator.Authenticator.{Authenticator}
 use Rattle.authenticators.specs.declared.claims.Claim.{Claim}
 use Rattle.authenticators.specs.Directory.{Listing}
 use Rattle.authenticators.specs.Statement.{is_claim_signed}
@@ -16,7 +15,7 @@ use Rattle.evidence_item.specs.declared.fault.ItemFault.TheVariants.{BadSignatur
 use Rattle.evidence_item.specs.declared.stating.Stated.{Stated}
 use Rattle.evidence_item.specs.Examining.{IsExamined, IsKnown}
 use Rattle.evidence_item.specs.Statements.{is_valid_statement, statements_of}
-use Rattle.evidence_item.specs.Validity.{early_fault, early_table, fault_of}
+use Rattle.evidence_item.specs.Validity.{early_table, fault_of}
 use Rattle.evidence_item.specs.within.Stating.{AreStages, IsStage, Stage, States, claims_in, claims_of, concluded, found_of, said}
 use Rattle.evidence_item.proofs.ValidItems.{early_faults}
 

@@ -1,5 +1,5 @@
 -- What checking leaves of an item that is no segment.
-use Rattle.std.proofs.Common.{◌≡◌, ◌⊎◌, inl, inr, Bool, false, Option, Some, None, Result, Ok, Err, refl, sym, ap, ◌∙◌, subst}
+use Rattle.std.proofs.Common.{◌≡◌, ◌⊎◌, inr, false, Option, Some, None, Result, Err, refl, sym, ap, subst}
 use Rattle.std.specs.Prelude.{IfErr, IfOk, IfSome}
 use Rattle.log_chain.specs.History.{unless}
 use Rattle.authenticators.specs.Directory.{Listing}

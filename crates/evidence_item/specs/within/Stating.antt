@@ -1,10 +1,9 @@
 -- What items that are no segments state.
-use Rattle.std.specs.Prelude.{◌≡◌, ◌<◌, ℕ, Bool, false, IfSome, MatchResult, length, slice_index_or, List, [], ◌∷◌, ◌++◌, Option, Some, None, Result, Ok, Err, cond, map}
+use Rattle.std.specs.Prelude.{◌≡◌, ◌<◌, ℕ, Bool, false, IfSome, length, slice_index_or, List, [], ◌∷◌, ◌++◌, Option, Some, None, Result, Ok, Err, cond, map}
 use Rattle.std.specs.List.{list_all}
 use Rattle.authenticators.specs.declared.authenticator.Authenticator.{Authenticator}
 use Rattle.authenticators.specs.declared.claims.Claim.{Claim}
 use Rattle.authenticators.specs.Directory.{Listing}
-use Rattle.authenticators.specs.Statement.{is_claim_signed}
 use Rattle.item_forms.specs.declared.forms.Fields.{Fields}
 use Rattle.item_forms.specs.Pieces.{Piece}
 use Rattle.evidence_item.specs.declared.examining.Found.{Found}

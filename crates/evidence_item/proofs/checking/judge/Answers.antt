@@ -1,8 +1,5 @@
-use Rattle.std.proofs.Common.{◌≡◌, false, refl, rules}
+use Rattle.std.proofs.Common.{rules}
 use Rattle.item_forms.specs.Forms.{shown}
-use Rattle.item_forms.specs.declared.forms.Form.{Form}
-use Rattle.item_forms.specs.declared.forms.Form.TheVariants as form
-use Rattle.evidence_item.specs.Checking.{is_segment}
 use Rattle.evidence_item.proofs.OtherForms.{judged_other}
 use Rattle.evidence_item.proofs.checking.judge.Goals as goal
 

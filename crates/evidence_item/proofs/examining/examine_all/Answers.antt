@@ -1,10 +1,10 @@
-use Rattle.std.proofs.Common.{◌≡◌, ◌+◌, ◌<◌, ◌≤◌, ◌∙◌, List, Bool, ap, arith, drop, length, map, take, refl, subst, sym}
+use Rattle.std.proofs.Common.{◌≡◌, ◌+◌, ◌<◌, ◌≤◌, ap, arith, drop, length, map, subst, sym}
 use Rattle.std.specs.List.{flat_map}
 use Rattle.authenticators.specs.Statement.{is_claim_signed}
 use Rattle.item_forms.specs.Pieces.{Piece}
 use Rattle.evidence_item.specs.declared.examining.Examined.{Examined}
 use Rattle.evidence_item.specs.Examining.{IsExamined}
-use Rattle.evidence_item.specs.within.Stating.{IsStage, Stage, claims_in}
+use Rattle.evidence_item.specs.within.Stating.{claims_in}
 use Rattle.evidence_item.proofs.Examinations.{beside_all, beside_more, known_next, next_answers}
 use Rattle.evidence_item.proofs.examining.examine_all.Goals as goal
 
