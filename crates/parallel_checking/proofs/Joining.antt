@@ -14,7 +14,8 @@ use Rattle.evidence_item.specs.Checking.{Checked}
 use Rattle.evidence_item.specs.Examining.{IsExamined}
 use Rattle.parallel_checking.specs.declared.blocks.Block.{Block}
 use Rattle.parallel_checking.specs.Checks.{AreAnswers, IsAnswer}
-use Rattle.parallel_checking.specs.within.Blocks.{AllWhole, AreBlocksAnswered, AreKnown, Part, items_of}
+use Rattle.parallel_checking.specs.Parts.{AllWhole, AreKnown, Part, items_of}
+use Rattle.parallel_checking.specs.within.Blocks.{AreBlocksAnswered}
 
 -- One part more.
 pub joins : {T : Type 0} (all new : List T) (x : Part T) (v : Vec T Global) (left rest parts : List (Part T)) → left ≡ x ∷ rest → x ≡ Ok v → new ≡ all ++ v.items

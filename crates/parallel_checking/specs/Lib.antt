@@ -1,4 +1,5 @@
 pub mod Again
 pub mod Checks
+pub mod Parts
 pub mod Refusals
 pub mod within

@@ -2,14 +2,14 @@
 
 ghost use Rattle.std.specs.Prelude.{◌≡◌, ◌+◌, ◌<◌, ◌≤◌, ◌^◌, All, IfOk, length};
 ghost use Rattle.std.specs.List.{flat_map};
-ghost use Rattle.parallel_checking.specs.within.Blocks.{AllWhole, items_of};
+ghost use Rattle.parallel_checking.specs.Parts.{AllWhole, items_of};
 
 use evidence_item::Item;
 use outcome::Memory;
 use std::alloc::{AllocError, Global};
 
 /// How many items are checked together at most.
-const MOST_TOGETHER: usize = 32;
+pub const MOST_TOGETHER: usize = 32;
 
 /// Neighbouring items, and the place of the first one.
 #[derive(Clone, Copy)]
@@ -18,10 +18,12 @@ pub(crate) struct Block<'a> {
     pub(crate) items: &'a [Item],
 }
 
-/// How many items a block has, so that there are four blocks and more for each worker, where there are so many items.
-pub(crate) fn block_size(count: usize, workers: usize) -> usize
+/// How many items a block has, of so many items for so many workers, at most 15: there are four blocks and more for each worker, if there are
+/// so many items, and no block has more than 32.
+pub fn block_size(count: usize, workers: usize) -> usize
     requires { (0 < workers) × (workers < 16) }
-    ensures { 0 < result }
+    ensures some { 0 < result }
+    ensures few { result ≤ MOST_TOGETHER }
 {
     let size = count / (workers * 4);
     size.min(MOST_TOGETHER).max(1)
@@ -50,11 +52,8 @@ pub(crate) fn blocks_of<'a>(
     Ok(all)
 }
 
-/// The parts one after the other, where all are there.
-pub(crate) fn joined<T: Drop>(
-    alloc: Global,
-    parts: Vec<Result<Vec<T>, Memory>>,
-) -> Result<Vec<T>, Memory>
+/// The parts one after the other, if all are there; else `Memory`, as if a growth is refused.
+pub fn joined<T: Drop>(alloc: Global, parts: Vec<Result<Vec<T>, Memory>>) -> Result<Vec<T>, Memory>
     ensures whole { IfOk result (λ all. AllWhole parts.items) }
     ensures items { IfOk result (λ all. all.items ≡ items_of parts.items) }
 {

@@ -3,7 +3,8 @@
 ghost use Rattle.std.specs.Prelude.{◌≡◌, ◌↔◌, ◌+◌, ◌<◌, ◌≤◌, ◌^◌, ◌⊎◌, All, Err, IfOk, IfSome, length};
 ghost use Rattle.evidence_item.specs.Examining.{IsExamined};
 ghost use Rattle.parallel_checking.specs.Checks.{AreAnswers, IsAnswer};
-ghost use Rattle.parallel_checking.specs.within.Blocks.{AreBlocksAnswered, AreKnown, IsBlockAnsweredAt};
+ghost use Rattle.parallel_checking.specs.Parts.{AreKnown};
+ghost use Rattle.parallel_checking.specs.within.Blocks.{AreBlocksAnswered, IsBlockAnsweredAt};
 ghost use Rattle.parallel_checking.specs.declared.fault.CheckAllFault.TheVariants as all;
 ghost use Rattle.parallel_checking.specs.declared.limits.TheConstants.{MOST_WORKERS};
 
@@ -68,8 +69,9 @@ fn check_known<P: Program>(
     check_examined(alloc, program, directory, copy, *examined)
 }
 
-/// What is known of the items before they are checked: nothing of fewer than three, and nothing where there is no memory for it.
-fn examine_some(alloc: Global, directory: &Directory, items: &[Item]) -> Vec<Examined>
+/// What is known of the items before they are checked, by [`examine_all`]: nothing of fewer than three, of which the signatures are verified
+/// as fast alone, and nothing if there is no memory for it. It is never refused.
+pub fn examine_some(alloc: Global, directory: &Directory, items: &[Item]) -> Vec<Examined>
     ensures { AreKnown directory.now items.now result.items }
 {
     if items.len() < 3 {

@@ -3,6 +3,7 @@ mod Front
 mod Gathering
 mod ImportedSets
 pub mod Items
+mod InBlocks
 mod Placed
 mod Resting
 mod Standing

@@ -1,40 +1,63 @@
 //! Items that workers read.
 
-ghost use Rattle.std.specs.Prelude.{◌≡◌, ◌⊎◌, ◌+◌, ◌++◌, ◌∷◌, [], ◌<◌, ◌≤◌, IfErr, IfOk, OnOk, Err, Ok, length, map};
+ghost use Rattle.std.specs.Prelude.{◌≡◌, ◌⊎◌, ◌++◌, ◌∷◌, [], ◌<◌, ◌≤◌, IfErr, IfOk, OnOk, Err, Ok, length, map};
+ghost use Rattle.std.specs.List.{All};
 ghost use Rattle.containers.specs.declared.fault.Cause.TheVariants as cause;
 ghost use Rattle.containers.specs.Container.{Faulty};
 ghost use Rattle.parallel_checking.specs.declared.limits.TheConstants.{MOST_WORKERS};
-ghost use Rattle.parallel_reading.specs.Readings.{AreReadings, IsReadingAt, gathered};
+ghost use Rattle.parallel_reading.specs.Readings.{AreReadings, gathered};
+ghost use Rattle.parallel_reading.specs.within.Blocks.{AreBlocksRead, IsBlockReadAt};
 
-use crate::item::read_item;
+use crate::blocks::{Reading, blocks_of, read_block};
 use crate::workers::Workers;
 use authenticators::Directory;
 use containers::{Cause, ImportFault};
 use evidence_item::Checked;
 use outcome::Memory;
+use parallel_checking::{block_size, joined};
 use parallel_map::map_claimed;
 use replay_verifier::Program;
 use std::thread::Threads;
 
-/// What each text but the first is read as behind the one before it, by the workers.
+/// What the texts of each block are read as, by the workers.
+fn read_blocks<R: Threads + Sync, P: Program + Send + Sync>(
+    workers: &Workers<'_, R>,
+    program: &P,
+    directory: &Directory,
+    blocks: &[&[&[u8]]],
+) -> Result<Vec<Result<Vec<Reading<P>>, Memory>>, Memory>
+where
+    P::State: Send,
+    requires workers { (0 < workers.now.count) × (workers.now.count ≤ MOST_WORKERS) }
+    requires some { All (λ b. 0 < length b.now) blocks.now }
+    ensures { IfOk result (λ v. AreBlocksRead directory.now P.means blocks.now v.items) }
+{
+    let alloc = workers.alloc;
+    let read = |n: usize| -> Result<Vec<Reading<P>>, Memory>
+        requires { (n < length blocks.now) × All (λ b. 0 < length b.now) blocks.now }
+        ensures { IsBlockReadAt directory.entry.now P.means blocks.entry.now n result }
+    { read_block(alloc, program, directory, blocks[n]) };
+    let parts = map_claimed(workers.rt, alloc, blocks.len(), workers.count, &read)?;
+    Ok(parts)
+}
+
+/// What each text but the first is read as behind the one before it, by the workers, each of whom takes a block of neighbouring texts.
 pub(crate) fn read_texts<R: Threads + Sync, P: Program + Send + Sync>(
     workers: &Workers<'_, R>,
     program: &P,
     directory: &Directory,
     texts: &[&[u8]],
-) -> Result<Vec<Result<Checked<P>, Cause>>, Memory>
+) -> Result<Vec<Reading<P>>, Memory>
 where
     P::State: Send,
     requires workers { (0 < workers.now.count) × (workers.now.count ≤ MOST_WORKERS) }
     requires some { 0 < length texts.now }
     ensures { IfOk result (λ v. AreReadings directory.now P.means (map (λ t. t.now) texts.now) v.items) }
 {
-    let alloc = workers.alloc;
-    let read = |n: usize| -> Result<Checked<P>, Cause>
-        requires { n + 1 < length texts.now }
-        ensures { IsReadingAt directory.entry.now P.means (map (λ t. t.now) texts.entry.now) n result }
-    { read_item(alloc, program, directory, texts[n], texts[n + 1]) };
-    let readings = map_claimed(workers.rt, alloc, texts.len() - 1, workers.count, &read)?;
+    let size = block_size(texts.len(), workers.count);
+    let blocks = blocks_of(workers.alloc, texts, size)?;
+    let parts = read_blocks(workers, program, directory, &blocks)?;
+    let readings = joined(workers.alloc, parts)?;
     Ok(readings)
 }
 

@@ -16,6 +16,7 @@ pub use watching::{Unwatched, Watcher};
 pub use workers::Workers;
 
 mod batch;
+mod blocks;
 mod importing;
 mod item;
 pub mod laws;

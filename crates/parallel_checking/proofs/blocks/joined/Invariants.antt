@@ -1,6 +1,6 @@
 use Rattle.std.proofs.Common.{◌≡◌, ◌++◌}
 use Rattle.std.specs.Vec.Iter.{into_iter_items}
-use Rattle.parallel_checking.specs.within.Blocks.{AllWhole, items_of}
+use Rattle.parallel_checking.specs.Parts.{AllWhole, items_of}
 use Rattle.parallel_checking.proofs.blocks.joined.Given as goal
 
 abbrev pub invariant-loop-one : goal.invariant-loop-one
