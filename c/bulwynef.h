@@ -6,8 +6,8 @@
  * Every call but two answers a number: 0, or that of a refusal, and then nothing has changed, neither behind a handle nor in what the call
  * writes to, but where it says so below. No call aborts, blocks, keeps a pointer, or writes behind the room that it is handed.
  *
- * A handle is a place of the caller's, zeroed at first: struct bulwynef_handle h = {0}. A call opens it; bulwynef_close closes it, and
- * frees what lies behind it. What the library cannot see, and the caller owes:
+ * A handle is a place of the caller's, closed at first: struct bulwynef_handle h = BULWYNEF_HANDLE_INIT, or zeros. A call opens it;
+ * bulwynef_close closes it, and frees what lies behind it. What the library cannot see, and the caller owes:
  *  - a pointer points to as many bytes as the length beside it says, for the call. Where the length is 0 it may be any pointer, NULL too:
  *    an empty text. What a call writes overlaps nothing else that it is handed, and two handles of one call are two.
  *    (One handle given twice is refused as it turns out: 110 as two stores, 114 as a store and a text.)
@@ -22,7 +22,9 @@
  *    signed begins no second node (docs/DEPLOYING.md).
  *
  * Of every call on handles: 110 it is closed, 111 it is of something else or of another program, 99 memory ran out. A text is answered
- * behind a second handle, which has to be closed: 114 where it is open.
+ * behind a second handle, which has to be closed: 114 where it is open. docs/STABILITY.md says what of this stays.
+ *
+ * Copyright 2026 the Bulwynef authors. Licensed under MIT or Apache-2.0, at your choice: LICENSE-MIT, LICENSE-APACHE.
  */
 #ifndef BULWYNEF_H
 #define BULWYNEF_H
@@ -43,6 +45,69 @@ enum { BULWYNEF_W1 = 1, BULWYNEF_W2 = 2, BULWYNEF_W4 = 3, BULWYNEF_W8 = 4 };
 enum { BULWYNEF_KEY_ID_LEN = 16, BULWYNEF_SEED_LEN = 32, BULWYNEF_ENTROPY_LEN = 32, BULWYNEF_PUBLIC_KEY_LEN = 56 };
 
 struct bulwynef_handle { void *at; bool is_open; };
+/* A handle behind which nothing lies. Zeros are one too. */
+#define BULWYNEF_HANDLE_INIT {0, false}
+
+/* The version of this header. */
+#define BULWYNEF_VERSION "0.9.0"
+#define BULWYNEF_VERSION_MAJOR 0
+#define BULWYNEF_VERSION_MINOR 9
+#define BULWYNEF_VERSION_PATCH 0
+
+/* The answer of a call that was done; else it is the number of a refusal. A number is of one refusal for ever; later versions have more. */
+enum { BULWYNEF_OK = 0 };
+/* made by checks/reference/refusals.py */
+enum bulwynef_refusal {
+    BULWYNEF_REFUSED_UNKNOWN_LMS_TYPE = 2,
+    BULWYNEF_REFUSED_UNKNOWN_OTS_TYPE = 3,
+    BULWYNEF_REFUSED_HEIGHT_TOO_LARGE = 4,
+    BULWYNEF_REFUSED_DUPLICATE_NODE = 20,
+    BULWYNEF_REFUSED_DUPLICATE_KEY = 21,
+    BULWYNEF_REFUSED_TOO_MANY_NODES = 22,
+    BULWYNEF_REFUSED_DIRECTORY_BAD_MAGIC = 23,
+    BULWYNEF_REFUSED_DIRECTORY_TRUNCATED = 24,
+    BULWYNEF_REFUSED_DIRECTORY_TRAILING = 25,
+    BULWYNEF_REFUSED_KEY_COUNT = 26,
+    BULWYNEF_REFUSED_UNLISTED_NODE = 27,
+    BULWYNEF_REFUSED_NODE_UNKNOWN_NODE = 30,
+    BULWYNEF_REFUSED_WRONG_KEY = 31,
+    BULWYNEF_REFUSED_NOT_MINE = 32,
+    BULWYNEF_REFUSED_UNKNOWN_SENDER = 33,
+    BULWYNEF_REFUSED_MESSAGE_BAD_SIGNATURE = 34,
+    BULWYNEF_REFUSED_PAYLOAD_TOO_LONG = 35,
+    BULWYNEF_REFUSED_KEY_SPENT = 36,
+    BULWYNEF_REFUSED_LOG_FULL = 37,
+    BULWYNEF_REFUSED_BAD_ACK = 38,
+    BULWYNEF_REFUSED_NUMBER_TAKEN = 39,
+    BULWYNEF_REFUSED_TRUNCATED = 40,
+    BULWYNEF_REFUSED_BAD_TAG = 41,
+    BULWYNEF_REFUSED_TOO_LONG = 42,
+    BULWYNEF_REFUSED_TRAILING = 43,
+    BULWYNEF_REFUSED_UNKNOWN_NODE = 44,
+    BULWYNEF_REFUSED_SELF_MESSAGE = 45,
+    BULWYNEF_REFUSED_EMPTY_SEGMENT = 46,
+    BULWYNEF_REFUSED_BAD_START = 47,
+    BULWYNEF_REFUSED_BAD_RANGE = 48,
+    BULWYNEF_REFUSED_BAD_SIGNATURE = 49,
+    BULWYNEF_REFUSED_NO_CONTRADICTION = 50,
+    BULWYNEF_REFUSED_CONFORMS = 51,
+    BULWYNEF_REFUSED_BAD_MAGIC = 60,
+    BULWYNEF_REFUSED_NOT_ASCENDING = 61,
+    BULWYNEF_REFUSED_NOTHING_KEPT = 62,
+    BULWYNEF_REFUSED_NOT_FOR_ME = 70,
+    BULWYNEF_REFUSED_NOT_IN_LOG = 71,
+    BULWYNEF_REFUSED_NO_ANSWER_NEEDED = 72,
+    BULWYNEF_REFUSED_MEMORY = 99,
+    BULWYNEF_REFUSED_CLOSED = 110,
+    BULWYNEF_REFUSED_OTHER_KIND = 111,
+    BULWYNEF_REFUSED_OTHER_DIRECTORY = 112,
+    BULWYNEF_REFUSED_BAD_PROGRAM = 113,
+    BULWYNEF_REFUSED_STILL_OPEN = 114,
+    BULWYNEF_REFUSED_NOT_EXPOSED = 115,
+    BULWYNEF_REFUSED_OUT_OF_RANGE = 116,
+    BULWYNEF_REFUSED_WRONG_LENGTH = 117,
+};
+/* end */
 
 /* ---- without a handle */
 
@@ -99,7 +164,7 @@ uint8_t bulwynef_send_challenge(const uint8_t *message, size_t message_len, stru
 
 /* A store without items, under the directory of a text. 114 the handle is open; 113 no such program; 2, 3, 20 to 26 of the text.
 
-       struct bulwynef_handle store = {0};
+       struct bulwynef_handle store = BULWYNEF_HANDLE_INIT;
        uint64_t added;
        uint8_t said;
        uint8_t refused = bulwynef_store_open(BULWYNEF_TALLY, directory, directory_len, &store);
@@ -132,7 +197,7 @@ uint8_t bulwynef_store_indication(struct bulwynef_handle *store, uint32_t node, 
 
 /* A proof that convicts the node. Refused, in this order: 44 it is not listed; 115 the items do not expose it.
 
-       struct bulwynef_handle text = {0};
+       struct bulwynef_handle text = BULWYNEF_HANDLE_INIT;
        if (bulwynef_store_proof(&store, node, &text) == 0) {
            size_t len = bulwynef_text_len(&text);
            uint8_t *proof = malloc(len);

@@ -1,16 +1,20 @@
 #!/usr/bin/env python3
-"""Holds the table of refusals in docs/FORMATS.md, that of C in c/refusals.h and the names in python/bulwynef/errors.py and in
-second_opinion/check.py to the sources; where they differ it says so and ends with status 1. With the word `write` it writes the first two
-anew.
+"""Holds the table of refusals in docs/FORMATS.md, those for C, C++, Rust and Go, and the names in the Python package's errors.py and in
+second_opinion/check.py to the sources; where they differ it says so and ends with status 1. With the word `write` it writes all but the last
+two anew.
 
 Each enum of faults gives a variant's number and name by `number` and `name`, and a line for a person. A program may also tell a refusal by a
 text of its own, `"refused NUMBER NAME: {file}: LINE"`. A row has a number and a name, the line of the lowest crate that tells it, and the types
 or programs that do. A number has one name. `Reason` is why a log deviates, and no refusal. Crates come as in crates.txt, lowest first.
+
+The languages have the refusals that calls tell, each by a name of its own: a name that a second number has too is another there (`OWN`). What
+they say of each is the sentence in errors.py.
 """
 
 import re
 import sys
 from pathlib import Path
+from typing import NamedTuple
 
 import layers
 from words import Part
@@ -18,6 +22,9 @@ from words import Part
 TOP = Path(__file__).resolve().parents[2]
 PAGE = "docs/FORMATS.md"
 HEADER = TOP / "c" / "refusals.h"
+ERRORS = "python/bulwynef/errors.py"
+# The names in other languages of those refusals of whose names there is a second one.
+OWN = {23: "DirectoryBadMagic", 24: "DirectoryTruncated", 25: "DirectoryTrailing", 30: "NodeUnknownNode", 34: "MessageBadSignature"}
 
 ARM = re.compile(r"((?:\w+::\w+(?:\(_\))?\s*\|\s*)*\w+::\w+(?:\(_\))?)\s*=>\s*(\d+|\"\w+\")")
 VARIANT = re.compile(r"(\w+)::(\w+)")
@@ -25,6 +32,15 @@ VARIANT = re.compile(r"(\w+)::(\w+)")
 TEXT = re.compile(r'"refused (\d+) (\w+)(?:: \{\w+\}|\{\w+\})*: ([^"{}]+)"')
 ANY_TEXT = re.compile(r"refused \d")
 LINE = re.compile(r'((?:^\s*///.*\n)*)(?:^\s*#\[error\("([^"]*)"\)\]\n)?^\s*(\w+)(?:\(\w+\))?,$', re.M)
+
+
+class Told(NamedTuple):
+    """A refusal that calls tell: its number and name, the name that it has in other languages, and its sentence."""
+
+    number: int
+    name: str
+    own: str
+    sentence: str
 
 
 def crates():
@@ -105,13 +121,50 @@ def faults_of_header(wanted, write):
         yield "c/refusals.h: is not what the sources give: checks/reference/refusals.py write makes it anew"
 
 
+def sentences():
+    """The refusals of errors.py: of each number and name the sentence."""
+    text = (TOP / ERRORS).read_text(encoding="utf-8")
+    return {(int(number), name): line for number, name, line in re.findall(r'^    (\d+): \("(\w+)", "([^"]*)"\),$', text, re.M)}
+
+
 def faults_of_python(rows):
-    text = (TOP / "python" / "bulwynef" / "errors.py").read_text(encoding="utf-8")
-    found = [(int(number), name) for number, name in re.findall(r'^    (\d+): \("(\w+)"', text, re.M)]
-    yield from unknown("python/bulwynef/errors.py", found, rows)
+    found = sentences()
+    yield from unknown(ERRORS, found, rows)
     for (number, name), (kinds, _) in rows.items():
         if "`byte_calls::Refusal`" in kinds and (number, name) not in found:
-            yield f"python/bulwynef/errors.py: lacks {number} {name}, which calls tell"
+            yield f"{ERRORS}: lacks {number} {name}, which calls tell"
+
+
+def shouted(name):
+    return re.sub(r"(?<=[a-z])(?=[A-Z])", "_", name).upper()
+
+
+# What stands of the refusals in a file, between its marks: the lines before, of each one its line, and the lines behind.
+LANGUAGES = [
+    ("c/bulwynef.h", "enum bulwynef_refusal {\n", lambda it: f"    BULWYNEF_REFUSED_{shouted(it.own)} = {it.number},\n", "};\n"),
+]
+MARKS = re.compile(r"(/[/*] made by checks/reference/refusals\.py(?: \*/)?\n)(.*?)([ \t]*/[/*] end(?: \*/)?\n)", re.S)
+
+
+def in_languages():
+    """The refusals as other languages have them, ascending."""
+    return [Told(number, name, OWN.get(number, name), line) for (number, name), line in sorted(sentences().items())]
+
+
+def faults_of_languages(write):
+    found = in_languages()
+    names = [it.own for it in found]
+    yield from (f"{it.number} {it.own}: a second refusal has this name: OWN names one of them otherwise" for it in found if names.count(it.own) > 1)
+    for path in dict.fromkeys(path for path, *_ in LANGUAGES):
+        made = iter([before + "".join(map(line, found)) + behind for where, before, line, behind in LANGUAGES if where == path])
+        text = (TOP / path).read_text(encoding="utf-8")
+        wanted = MARKS.sub(lambda mark: mark[1] + next(made, "") + mark[3], text)
+        if next(made, None) is not None:
+            yield f"{path}: lacks marks of what refusals.py makes"
+        elif wanted != text and write:
+            (TOP / path).write_text(wanted, encoding="utf-8")
+        elif wanted != text:
+            yield f"{path}: is not what the sources give: checks/reference/refusals.py write makes it anew"
 
 
 def faults_of_check(rows):
@@ -134,10 +187,11 @@ def main():
     write = sys.argv[1:] == ["write"]
     rows, wanted = refusals(), table()
     faults = [*faults_of_texts(), *faults_of_numbers(rows), *faults_of_header(header(rows), write), *faults_of_python(rows), *faults_of_check(rows)]
+    faults += faults_of_languages(write)
     print(*faults, sep="\n", end="\n" if faults else "")
     if not Part(PAGE, "checks/reference/refusals.py").held_to(wanted, write) or faults:
         return 1
-    print(f"{PAGE} has the sources' {len(rows)} refusals, and so have C, Python and check.py")
+    print(f"{PAGE} has the sources' {len(rows)} refusals, and so have C, C++, Rust, Go, Python and check.py")
     return 0
 
 
