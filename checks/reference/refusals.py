@@ -22,7 +22,7 @@ from words import Part
 TOP = Path(__file__).resolve().parents[2]
 PAGE = "docs/FORMATS.md"
 HEADER = TOP / "c" / "refusals.h"
-ERRORS = "python/bulwynef/errors.py"
+ERRORS = "python/src/bulwynef/errors.py"
 # The names in other languages of those refusals of whose names there is a second one.
 OWN = {23: "DirectoryBadMagic", 24: "DirectoryTruncated", 25: "DirectoryTrailing", 30: "NodeUnknownNode", 34: "MessageBadSignature"}
 

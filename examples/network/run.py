@@ -32,7 +32,7 @@ TOP = os.path.dirname(os.path.dirname(HERE))
 try:
     import bulwynef
 except ImportError:
-    sys.path.insert(0, os.path.join(TOP, "python"))
+    sys.path.insert(0, os.path.join(TOP, "python", "src"))
 sys.path.insert(0, HERE)
 
 import protocol

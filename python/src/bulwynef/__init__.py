@@ -12,5 +12,6 @@ from .library import Program
 from .nodes import Key, Node, directory
 from .stores import Indication, Store, check_proof, explain_proof
 
+__version__ = "0.9.0"
 __all__ = ["Indication", "Key", "Node", "Program", "Refusal", "SENTENCES", "Store"]
 __all__ += ["audit_challenge", "check_proof", "directory", "explain_proof", "send_challenge", "statement_of", "statements_of"]

@@ -91,10 +91,10 @@ CALLS = {
 
 
 def load() -> ctypes.CDLL:
-    """The shared library beside this file, or the one that BULWYNEF_LIBRARY names."""
+    """The shared library that BULWYNEF_LIBRARY names; else the one beside this file, as a wheel has it; else the system's."""
     beside = os.path.join(os.path.dirname(os.path.abspath(__file__)), "libbulwynef.so")
     try:
-        library = ctypes.CDLL(os.environ.get("BULWYNEF_LIBRARY", beside))
+        library = ctypes.CDLL(os.environ.get("BULWYNEF_LIBRARY", beside if os.path.exists(beside) else "libbulwynef.so.1"))
     except OSError as error:
         raise ImportError(f"{error} (python/README.md says how it is built; BULWYNEF_LIBRARY may name it)") from None
     for name, takes in CALLS.items():
@@ -127,16 +127,17 @@ def told(kind: Any, name: str, *words: Any) -> int:
 
 
 def text(name: str, *words: Any) -> bytes:
-    """A call that answers a text behind a handle at its end."""
+    """A call that answers a text behind a handle at its end. The handle is closed before the room becomes bytes, so that no more than two
+    copies of the text are there at once."""
     handle = Handle()
     call(name, *words, ctypes.byref(handle))
     try:
         length = LIBRARY.bulwynef_text_len(ctypes.byref(handle))
         room = ctypes.create_string_buffer(max(length, 1))
         call("text_copy", ctypes.byref(handle), room, length)
-        return room.raw[:length]
     finally:
         LIBRARY.bulwynef_close(ctypes.byref(handle))
+    return room.raw[:length]
 
 
 def each(at: Any) -> List[Any]:
