@@ -139,9 +139,26 @@ def shouted(name):
     return re.sub(r"(?<=[a-z])(?=[A-Z])", "_", name).upper()
 
 
+# How wide the longest name is, by which gofmt lays out what follows.
+WIDEST = max(len(OWN.get(number, name)) for number, name in sentences())
+
 # What stands of the refusals in a file, between its marks: the lines before, of each one its line, and the lines behind.
 LANGUAGES = [
     ("c/bulwynef.h", "enum bulwynef_refusal {\n", lambda it: f"    BULWYNEF_REFUSED_{shouted(it.own)} = {it.number},\n", "};\n"),
+    (
+        "cpp/bulwynef.hpp",
+        "inline const char *told(uint8_t number) {\n    switch (number) {\n",
+        lambda it: f'    case {it.number}: return "{it.name}: {it.sentence}";\n',
+        '    }\n    return "Unknown: The number is none that there is.";\n}\n',
+    ),
+    ("rust/bulwynef/src/refusal.rs", "refusals! {\n", lambda it: f'    {it.own} = {it.number}, "{it.name}", "{it.sentence}";\n', "}\n"),
+    ("go/refusals.go", "const (\n", lambda it: f"\tRefused{it.own:<{WIDEST}} Refusal = {it.number}\n", ")\n\n"),
+    (
+        "go/refusals.go",
+        "func (it Refusal) told() (name, sentence string) {\n\tswitch it {\n",
+        lambda it: f'\tcase {it.number}:\n\t\treturn "{it.name}", "{it.sentence}"\n',
+        '\t}\n\treturn "Unknown", "The number is none that this version knows."\n}\n\n',
+    ),
 ]
 MARKS = re.compile(r"(/[/*] made by checks/reference/refusals\.py(?: \*/)?\n)(.*?)([ \t]*/[/*] end(?: \*/)?\n)", re.S)
 

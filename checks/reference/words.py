@@ -18,7 +18,7 @@ from pathlib import Path
 TOP = Path(__file__).resolve().parents[2]
 
 # Where pages stand that are written by hand.
-PAGES = ["*.md", "docs/*.md", "checks/**/*.md", "distributed/*.md", "examples/**/*.md", "python/*.md", "c/*.md", "second_opinion/*.md"]
+PAGES = ["*.md", "docs/*.md", "checks/**/*.md", "distributed/*.md", "examples/**/*.md", "python/*.md", "c/*.md", "second_opinion/*.md", "bindings/*.md"]
 # Pages, and the words that they have together at most; each other page has OTHER.
 OTHER = 1406
 BUDGETS = [

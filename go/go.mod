@@ -1,0 +1,3 @@
+module bulwynef.example/bulwynef
+
+go 1.19
