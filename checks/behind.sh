@@ -26,10 +26,12 @@ sums() {
 builds="crates/bulwynef/out/bulwynef crates/bulwynef/out/bulwynef.by-rattle"
 in_turn "c/library.py --left" > "$room/1" 2>&1 &
 in_turn "checks/operating/run.py" "checks/growths/run.py" > "$room/2" 2>&1 &
-in_turn "checks/whole_program/run.py" "checks/operating/shards.py" "checks/explained/run.py" "second_opinion/forms.py $builds" > "$room/3" 2>&1 &
+in_turn "checks/whole_program/run.py" "checks/operating/shards.py" "checks/explained/run.py" "second_opinion/forms.py $builds" \
+    "checks/reference/formats.py $builds" > "$room/3" 2>&1 &
 wait
 cat "$room"/[123]
-in_turn "c/run.py --sanitize" "python/run.py" "checks/more-edits/turn.py" sums
+# A commit is no release, so what it gives is packed as a trial.
+in_turn "c/run.py --sanitize" "python/run.py" "bindings/run.py" "release/try.sh --folder --trial" "checks/more-edits/turn.py" sums
 if compgen -G "$room/failed.*" > "$room/left"; then
     echo "behind.sh: failed: $(xargs cat < "$room/left" | paste -sd,)"
     exit 1
