@@ -1,6 +1,7 @@
 #!/usr/bin/env python3
-"""Runs bindings/cases.txt and the first program of C, C++, Rust and Go over c/out/libbulwynef.a, which c/run.py makes, and their tests. Python's
-are python/run.py's. What is missing of Debian's gcc, g++, cargo, golang-go and pkg-config it installs; it downloads nothing else.
+"""Runs bindings/cases.txt and the first program of C, C++, Rust and Go over c/out/libbulwynef.a, which c/run.py makes, and their tests; those
+of C and C++ with AddressSanitizer and UndefinedBehaviorSanitizer. Python's are python/run.py's. What is missing of Debian's gcc, g++, cargo,
+golang-go and pkg-config it installs; it downloads nothing else.
 
     run.py [c] [cpp] [rust] [go]      all of them where none is named
 
@@ -18,7 +19,7 @@ ARCHIVE = f"{TOP}/c/out/libbulwynef.a"
 CASES = f"{TOP}/bindings/cases.txt"
 TOOLS = {"cc": "gcc", "c++": "g++", "cargo": "cargo", "go": "golang-go", "pkg-config": "pkg-config"}
 WANTED = {"c": ["cc"], "cpp": ["c++"], "rust": ["cargo", "cc"], "go": ["go", "cc", "pkg-config"]}
-WARNINGS = ["-Wall", "-Wextra", "-Werror", "-pedantic"]
+FLAGS = ["-O1", "-g", "-Wall", "-Wextra", "-Werror", "-pedantic", "-fsanitize=address,undefined", "-fno-sanitize-recover=all"]
 LAST = "the proof exposes 2"
 
 
@@ -58,13 +59,13 @@ def answers(program, words):
 
 
 def run_c(room):
-    flags = ["cc", "-std=c11", "-O1", *WARNINGS, f"-I{TOP}/c", "-o"]
+    flags = ["cc", "-std=c11", *FLAGS, f"-I{TOP}/c", "-o"]
     built = [is_done([*flags, f"{room}/c_{name}", f"{TOP}/c/{name}.c", ARCHIVE]) for name in ("cases", "example")]
     return all(built) and answers(f"{room}/c_cases", "C") and says([f"{room}/c_example"], LAST)
 
 
 def run_cpp(room):
-    flags = ["c++", "-std=c++17", "-O1", *WARNINGS, f"-I{TOP}/c", f"-I{TOP}/cpp", "-o"]
+    flags = ["c++", "-std=c++17", *FLAGS, f"-I{TOP}/c", f"-I{TOP}/cpp", "-o"]
     built = [is_done([*flags, f"{room}/cpp_{name}", f"{TOP}/cpp/{name}.cpp", ARCHIVE]) for name in ("cases", "first", "kept")]
     return all(built) and answers(f"{room}/cpp_cases", "C++") and says([f"{room}/cpp_first"], LAST) and is_done([f"{room}/cpp_kept"])
 

@@ -1,7 +1,8 @@
 /* Bulwynef for C, and for what calls C: stores of evidence, nodes that answer for what they did, and proofs that a third party checks.
  *
- * Link with libbulwynef.a, which c/run.py makes of the crate bulwynef_c and of heap.c; c/example.c is a program that does. Each call is
- * proved against its contract (crates/bulwynef_c/src). docs/FORMATS.md has the bytes of every text.
+ * Link with -lbulwynef of a release (docs/INSTALL.md), or with libbulwynef.a, which c/run.py makes of the crate bulwynef_c and of heap.c;
+ * c/example.c is a program that does. Each call is proved against its contract (crates/bulwynef_c/src). docs/FORMATS.md has the bytes of
+ * every text.
  *
  * Every call but two answers a number: 0, or that of a refusal, and then nothing has changed, neither behind a handle nor in what the call
  * writes to, but where it says so below. No call aborts, blocks, keeps a pointer, or writes behind the room that it is handed.
@@ -53,6 +54,7 @@ struct bulwynef_handle { void *at; bool is_open; };
 #define BULWYNEF_VERSION_MAJOR 0
 #define BULWYNEF_VERSION_MINOR 9
 #define BULWYNEF_VERSION_PATCH 0
+#define BULWYNEF_VERSION_NUMBER (BULWYNEF_VERSION_MAJOR * 1000000 + BULWYNEF_VERSION_MINOR * 1000 + BULWYNEF_VERSION_PATCH)
 
 /* The answer of a call that was done; else it is the number of a refusal. A number is of one refusal for ever; later versions have more. */
 enum { BULWYNEF_OK = 0 };

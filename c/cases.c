@@ -168,7 +168,11 @@ static bool is_line_right(char *line, size_t *calls) {
     if (strcmp(w[0], "text") == 0) return name_text(w[1], decoded(count > 2 ? w[2] : "")), true;
     if (equals == 0 || count == MOST_WORDS) stop("the line can't be read");
     ++*calls;
-    return is_as_wanted(answered(w), w + equals + 1, count - equals - 1);
+    struct answer found = answered(w);
+    bool is_right = is_as_wanted(found, w + equals + 1, count - equals - 1);
+    bool is_kept = is_right && count == equals + 3 && w[equals + 2][0] == '>';
+    if (!is_kept) free(found.text.at);
+    return is_right;
 }
 
 int main(void) {
@@ -181,7 +185,9 @@ int main(void) {
             fprintf(stderr, "cases: line %zu: another answer\n", line_number);
         }
     }
-    for (size_t i = 0; i < handle_count; i++) bulwynef_close(&handles[i].handle);
+    for (size_t i = 0; i < handle_count; i++) bulwynef_close(&handles[i].handle), free(handles[i].name);
+    for (size_t i = 0; i < text_count; i++) free(texts[i].name), free(texts[i].text.at);
+    free(line);
     printf("C: %zu calls, %zu wrong\n", calls, wrong);
     return calls == 0 || wrong != 0;
 }

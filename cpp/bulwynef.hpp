@@ -266,9 +266,13 @@ class Store {
     Store(View directory, Program program) {
         inner::done(bulwynef_store_open(uint8_t(program), directory.data(), directory.size(), at_.get()));
     }
+    /* Adds an item; whether it is new. */
     bool take(View item) { return inner::number<uint8_t>(bulwynef_store_take, at_.get(), item.data(), item.size()) == 1; }
+    /* Adds the items of an export, all or none; how many are new. */
     uint64_t load(View text) { return inner::number<uint64_t>(bulwynef_store_import, at_.get(), text.data(), text.size()); }
+    /* Adds the items of another store, all or none; how many are new. */
     uint64_t merge(Store &other) { return &other == this ? 0 : inner::number<uint64_t>(bulwynef_store_merge, at_.get(), other.at_.get()); }
+    /* Whether each item of the other store is here. */
     bool includes(Store &other) {
         return &other == this || inner::number<uint8_t>(bulwynef_store_includes, at_.get(), other.at_.get()) == 1;
     }
@@ -286,8 +290,11 @@ class Store {
     std::vector<Bytes> challenges(uint32_t node) {
         return inner::each([&](std::size_t place) { return inner::text(bulwynef_store_challenge, at_.get(), node, place); });
     }
+    /* What the items say of each node, under which program and directory, and why, for a person to read. */
     std::string explain() { return inner::words_of(bulwynef_store_explain, at_.get()); }
+    /* The export: the one text of the items. */
     Bytes to_bytes() { return inner::text(bulwynef_store_export, at_.get()); }
+    /* What stores give one another: an outline, a summary of all or against an outline, and a pack of what the summary does not name. */
     Bytes outline() { return inner::text(bulwynef_store_outline, at_.get()); }
     Bytes summary() { return inner::text(bulwynef_store_summary, at_.get()); }
     Bytes summary(View outline) { return inner::text(bulwynef_store_short_summary, at_.get(), outline.data(), outline.size()); }
@@ -314,16 +321,22 @@ class Node {
     std::vector<uint64_t> waiting() {
         return inner::each([&](std::size_t place) { return inner::number<uint64_t>(bulwynef_node_waiting, at_.get(), place); });
     }
+    /* A message that was sent, as a challenge to acknowledge it. */
     Bytes message(uint64_t seq) { return inner::text(bulwynef_node_message, at_.get(), seq); }
     /* To a message its acknowledgement, to an audit a segment of the log; what was answered before, as it was. After 99 the same call again
        answers it. */
     Bytes answer(View challenge, const Entropy &entropy = random_bytes<BULWYNEF_ENTROPY_LEN>()) {
         return inner::text(bulwynef_node_answer, at_.get(), challenge.data(), challenge.size(), entropy.data(), entropy.size());
     }
+    /* The entries of the log, each as a segment has it. Nothing is signed for it. */
     Bytes history() { return inner::text(bulwynef_node_history, at_.get()); }
+    /* Accepts an acknowledgement of just a message that was sent: it waits no longer. */
     void accept_ack(View ack) { inner::done(bulwynef_node_accept_ack(at_.get(), ack.data(), ack.size())); }
+    /* Logs a checkpoint, from which an audit can begin; its number. */
     uint64_t checkpoint() { return inner::number<uint64_t>(bulwynef_node_checkpoint, at_.get()); }
+    /* How many statements the key in use still signs. */
     uint32_t remaining() { return inner::number<uint32_t>(bulwynef_node_remaining, at_.get()); }
+    /* Signs by another of the node's keys from now on. */
     void next_key(const Key &key) {
         inner::done(bulwynef_node_next_key(at_.get(), key.lms_type, key.ots_type, key.id.data(), key.id.size(), key.seed.data(),
                                            key.seed.size()));
