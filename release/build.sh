@@ -32,9 +32,16 @@ stop() { echo "build.sh: $*" >&2; exit 1; }
 for file in $program $checkproof $archive; do
     [ -f "$file" ] || stop "$file is not there: rt ci makes the programs, c/library.py and c/run.py the rest"
 done
+compared="not compared with any sums, as a trial"
 if [ -z "$trial" ]; then
-    checks/reference/versions.py $program || stop "the version is not the same everywhere"
-    second_opinion/sums.py compare || [ $? = 4 ] || stop "the builds are not those of docs/builds.txt"
+    checks/reference/versions.py $program >&2 || stop "the version is not the same everywhere"
+    status=0
+    second_opinion/sums.py compare >&2 || status=$?
+    case $status in
+    0) compared="are those of docs/builds.txt" ;;
+    4) compared="not compared, since docs/builds.txt is of another text or kit" ;;
+    *) stop "the builds are not those of docs/builds.txt" ;;
+    esac
 fi
 room=$(mktemp -d)
 trap 'rm -rf "$room"' EXIT
@@ -158,6 +165,7 @@ changed=$(git status --porcelain --untracked-files=no)
     echo "# bulwynef $version${trial:+, a trial: its programs may be unproved}"
     echo "# commit $(git rev-parse HEAD)${changed:+, and changes that no commit has}"
     second_opinion/sums.py | grep -E '^(kit|sources) ' | sed 's/^/# /'
+    echo "# builds $compared"
     echo "# compiler $(cc --version | head -n 1)"
     for file in $program $checkproof $archive; do echo "# packed $(sha256sum $file)"; done
     echo "# packed $(sha256sum "$shared" | cut -d' ' -f1)  libbulwynef.so.$version"
