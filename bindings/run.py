@@ -1,7 +1,7 @@
 #!/usr/bin/env python3
-"""Runs bindings/cases.txt and the first program of C, C++, Rust and Go over c/out/libbulwynef.a, which c/run.py makes, and their tests; those
-of C and C++ with AddressSanitizer and UndefinedBehaviorSanitizer. Python's are python/run.py's. What is missing of Debian's gcc, g++, cargo,
-golang-go and pkg-config it installs; it downloads nothing else.
+"""Runs bindings/cases.txt and the first program of C, C++, Rust and Go over c/out/libbulwynef.a, which c/run.py makes, and their tests;
+those of C and C++ with AddressSanitizer and UndefinedBehaviorSanitizer. Python's are python/run.py's. What is missing of Debian's gcc, g++,
+cargo, golang-go and pkg-config it installs; it downloads nothing else.
 
     run.py [c] [cpp] [rust] [go]      all of them where none is named
 

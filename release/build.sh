@@ -154,10 +154,11 @@ ln -s libbulwynef.so.1 "$at/lib/libbulwynef.so"
 for file in LICENSE-MIT LICENSE-APACHE CHANGELOG.md docs/INSTALL.md; do put 644 $file "$at/${file#*/}"; done
 put 644 "$here/copyright" "$at/copyright"
 for file in python/src/bulwynef/*.py python/src/bulwynef/py.typed; do put 644 "$file" "$at/python/bulwynef/${file##*/}"; done
-for file in "$room"/bulwynef/usr/share/doc/bulwynef/examples/* c/example.c cpp/first.cpp; do put 644 "$file" "$at/examples/${file##*/}"; done
+examples=("$room"/bulwynef/usr/share/doc/bulwynef/examples/* c/example.c cpp/first.cpp)
+for file in "${examples[@]}"; do put 644 "$file" "$at/examples/${file##*/}"; done
 find "$at" -type d -exec chmod 755 {} +
-tar --sort=name --mtime="@$SOURCE_DATE_EPOCH" --owner=0 --group=0 --numeric-owner --format=gnu -C "$room/tarball" -cf - "bulwynef-$version" |
-    gzip -9n > "$out/bulwynef-$version$trial-linux-$(uname -m).tar.gz"
+tar --sort=name --mtime="@$SOURCE_DATE_EPOCH" --owner=0 --group=0 --numeric-owner --format=gnu -C "$room/tarball" -cf - \
+    "bulwynef-$version" | gzip -9n > "$out/bulwynef-$version$trial-linux-$(uname -m).tar.gz"
 
 # What was packed, and of what
 changed=$(git status --porcelain --untracked-files=no)

@@ -1,7 +1,7 @@
 #!/usr/bin/env python3
 """Holds the table of refusals in docs/FORMATS.md, those for C, C++, Rust and Go, and the names in the Python package's errors.py and in
-second_opinion/check.py to the sources; where they differ it says so and ends with status 1. With the word `write` it writes all but the last
-two anew.
+second_opinion/check.py to the sources; where they differ it says so and ends with status 1. With the word `write` it writes all but the
+last two anew.
 
 Each enum of faults gives a variant's number and name by `number` and `name`, and a line for a person. A program may also tell a refusal by a
 text of its own, `"refused NUMBER NAME: {file}: LINE"`. A row has a number and a name, the line of the lowest crate that tells it, and the types
@@ -171,7 +171,9 @@ def in_languages():
 def faults_of_languages(write):
     found = in_languages()
     names = [it.own for it in found]
-    yield from (f"{it.number} {it.own}: a second refusal has this name: OWN names one of them otherwise" for it in found if names.count(it.own) > 1)
+    for it in found:
+        if names.count(it.own) > 1:
+            yield f"{it.number} {it.own}: a second refusal has this name: OWN names one of them otherwise"
     for path in dict.fromkeys(path for path, *_ in LANGUAGES):
         made = iter([before + "".join(map(line, found)) + behind for where, before, line, behind in LANGUAGES if where == path])
         text = (TOP / path).read_text(encoding="utf-8")
@@ -203,8 +205,8 @@ def unknown(place, found, rows):
 def main():
     write = sys.argv[1:] == ["write"]
     rows, wanted = refusals(), table()
-    faults = [*faults_of_texts(), *faults_of_numbers(rows), *faults_of_header(header(rows), write), *faults_of_python(rows), *faults_of_check(rows)]
-    faults += faults_of_languages(write)
+    faults = [*faults_of_texts(), *faults_of_numbers(rows), *faults_of_header(header(rows), write), *faults_of_python(rows)]
+    faults += [*faults_of_check(rows), *faults_of_languages(write)]
     print(*faults, sep="\n", end="\n" if faults else "")
     if not Part(PAGE, "checks/reference/refusals.py").held_to(wanted, write) or faults:
         return 1
