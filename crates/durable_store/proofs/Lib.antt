@@ -1,0 +1,11 @@
+mod Answering
+mod CrashLaws
+mod Filled
+mod Found
+mod Journalled
+mod LeftJournals
+mod Moments
+mod OneSet
+mod Sets
+mod Takings
+mod WitnessLaws

@@ -1,0 +1,7 @@
+pub mod Calls
+pub mod Keeping
+pub mod Opening
+pub mod Refusals
+pub mod Runs
+pub mod Witnesses
+pub mod within

@@ -1,0 +1,7 @@
+mod BeginningTexts
+mod BegunNodes
+mod Crashes
+mod Rebuilt
+mod ReceivedReading
+mod RecordTexts
+mod Replaying

@@ -1,0 +1,9 @@
+pub mod Beginnings
+pub mod Giving
+pub mod Keys
+pub mod Laws
+pub mod Rebuilding
+pub mod Records
+pub mod Refusals
+pub mod Resuming
+pub mod within

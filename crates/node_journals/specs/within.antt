@@ -1,0 +1,3 @@
+-- How private code keeps its promises. No public contract speaks of these.
+pub mod Inputs
+pub mod Replaying
