@@ -30,8 +30,7 @@ in_turn "checks/whole_program/run.py" "checks/operating/shards.py" "checks/expla
     "checks/reference/formats.py $builds" > "$room/3" 2>&1 &
 wait
 cat "$room"/[123]
-# A commit is no release, so what it gives is packed as a trial.
-in_turn "c/run.py --sanitize" "python/run.py" "bindings/run.py" "release/try.sh --folder --trial" "checks/more-edits/turn.py" sums
+in_turn "c/run.py --sanitize" "python/run.py" "checks/more-edits/turn.py" sums
 if compgen -G "$room/failed.*" > "$room/left"; then
     echo "behind.sh: failed: $(xargs cat < "$room/left" | paste -sd,)"
     exit 1

@@ -3,8 +3,7 @@
 #
 #   release/try.sh [--trial]              in a fresh Debian 12, made by debootstrap: it installs the packages, runs steps.sh there, takes them
 #                                         off again, and compares the files of before and after. Wants root
-#   release/try.sh --folder [--trial]     in a folder, into which the packages are laid by `dpkg -x`, and in one of the tarball. So the gate
-#                                         runs it
+#   release/try.sh --folder [--trial]     in a folder, into which the packages are laid by `dpkg -x`, and in one of the tarball
 #
 # First it builds the packages twice, in two folders, which must be the same bytes, and lintian must find nothing. What is missing of Debian's
 # tools it installs; it downloads nothing but Debian's packages. --trial is build.sh's. It ends with 1 where something fails.
