@@ -16,8 +16,8 @@ use lms_sign::{Signed, verify_all};
 use log_chain::Hash;
 use std::alloc::{AllocError, Global};
 
-/// A number and a hash, and what is said to be a node's signature of them, lent.
 // Its fields are plain numbers and bytes: a struct that has a reference beside a struct with a `Model` is not moved into a list.
+/// A claim that a node signed a number and a hash, with what is said to be the signature text. The text is borrowed.
 #[derive(Clone, Copy)]
 pub struct Claim<'a> {
     node: u32,
@@ -27,7 +27,7 @@ pub struct Claim<'a> {
 }
 
 impl<'a> Claim<'a> {
-    /// The claim that the node signed the number and the hash so.
+    /// Makes the claim that the node signed the number and the hash with this signature text.
     pub fn new(node: NodeId, seq: u64, hash: Hash, sig: &'a [u8]) -> Claim<'a>
         ensures statement { (result.node ≡ node) × (result.seq ≡ seq) × (result.hash ≡ hash) }
         ensures signature { result.sig.now ≡ sig.now }
@@ -41,14 +41,14 @@ impl<'a> Claim<'a> {
         }
     }
 
-    /// The hash that is claimed.
+    /// Returns the hash that is claimed to be signed.
     pub fn hash(&self) -> Hash
         ensures { result ≡ self.now.hash }
     {
         Hash(self.hash)
     }
 
-    /// Whether it is signed: [`Directory::verifies`] of it.
+    /// Returns whether the claim is signed, as [`Directory::verifies`] does.
     pub fn is_signed(&self, directory: &Directory) -> bool
         ensures { result ≡ is_claim_signed directory.now self.now }
     {
@@ -56,7 +56,7 @@ impl<'a> Claim<'a> {
     }
 }
 
-/// The bytes that each claim says are signed.
+/// Returns the bytes that each claim says are signed.
 fn texts_of(alloc: Global, claims: &[Claim]) -> Result<Vec<[u8; 40]>, AllocError>
     ensures { IfOk result (λ texts. texts.items ≡ map (λ c. statement_text c.seq c.hash) claims.now) }
 {
@@ -67,7 +67,7 @@ fn texts_of(alloc: Global, claims: &[Claim]) -> Result<Vec<[u8; 40]>, AllocError
     Ok(texts)
 }
 
-/// The claim's bytes and signature, with the key that the signature text names, where there is one.
+/// Returns the claim's bytes and signature, with the key that the signature text names, if there is such a key.
 fn resolve<'a>(
     directory: &'a Directory,
     node: NodeId,
@@ -89,7 +89,7 @@ fn resolve<'a>(
     }
 }
 
-/// The same of each claim.
+/// Returns the same of each claim.
 fn resolve_all<'a>(
     alloc: Global,
     directory: &'a Directory,
@@ -107,7 +107,7 @@ fn resolve_all<'a>(
     Ok(all)
 }
 
-/// Those that are there, in order.
+/// Returns those that are there, in order.
 fn signed_in<'a>(alloc: Global, all: &[Option<Signed<'a>>]) -> Result<Vec<Signed<'a>>, AllocError>
     ensures { IfOk result (λ signed. signed.items ≡ flat_map signed_in all.now) }
 {
@@ -120,7 +120,7 @@ fn signed_in<'a>(alloc: Global, all: &[Option<Signed<'a>>]) -> Result<Vec<Signed
     Ok(signed)
 }
 
-/// An answer for each: the next one of those that are there, and none for the others.
+/// Returns an answer for each: the next of `verified` for one that is there, and false for one that is not.
 fn spread(alloc: Global, all: &[Option<Signed>], verified: &[bool]) -> Result<Vec<bool>, AllocError>
     requires { verified.now ≡ map is_signed_message (flat_map signed_in all.now) }
     ensures { IfOk result (λ answers. answers.items ≡ map stands all.now) }
@@ -139,9 +139,10 @@ fn spread(alloc: Global, all: &[Option<Signed>], verified: &[bool]) -> Result<Ve
 }
 
 impl Directory {
-    /// Whether each claim is signed: [`Directory::verifies`] of each, in the list's order. Those that follow each other by keys of one
-    /// type of one-time signature are the faster verified, eight at a time. It takes some 68 KB of memory, and some 200 bytes more
-    /// for each claim.
+    /// Returns whether each claim is signed, as [`Directory::verifies`] does, in the list's order. The error says that memory ran out.
+    ///
+    /// Claims next to each other are verified faster, eight at a time, if their keys have one type of one-time signature. It takes
+    /// some 68 KB of memory, and some 200 bytes more for each claim.
     pub fn verifies_all(&self, alloc: Global, claims: &[Claim]) -> Result<Vec<bool>, AllocError>
         ensures { IfOk result (λ answers. answers.items ≡ map (is_claim_signed self.now) claims.now) }
     {

@@ -1,4 +1,4 @@
-//! Where statements are in conflict.
+//! The numbers at which statements are in conflict.
 
 use crate::node::NodeId;
 

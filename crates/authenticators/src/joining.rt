@@ -1,4 +1,4 @@
-//! Many statements put into a set at once.
+//! Putting many statements into a set at once.
 
 ghost use Rattle.std.specs.Prelude.{◌≡◌, ◌↔◌, ◌+◌, ◌<◌, ◌≤◌, [], ◌++◌, Contains, IfErr, IfOk, OnErr, OnOk, drop, not, reverse, take, vec_capacity, vec_len};
 ghost use Rattle.std.specs.List.{filter};
@@ -17,7 +17,7 @@ use outcome::Memory;
 /// Up to so many new statements are put into a set one by one, and more of them all at once.
 const FEW: usize = 16;
 
-/// Where a statement stands among those that are held, or the place that it would have.
+/// Returns the place of a statement among those that are held, or else the place that it would have.
 fn place_of(held: &[Authenticator], statement: &Authenticator) -> Result<usize, usize>
     requires { IsAscending held.now }
     ensures there { IfOk result (λ i. Contains held.now statement.now) }
@@ -26,7 +26,7 @@ fn place_of(held: &[Authenticator], statement: &Authenticator) -> Result<usize, 
     held.binary_search(statement)
 }
 
-/// Whether the statement is held.
+/// Returns whether the statement is held.
 fn is_held(held: &[Authenticator], statement: &Authenticator) -> bool
     requires { IsAscending held.now }
     ensures { result ≡ is_held held.now statement.now }
@@ -34,7 +34,7 @@ fn is_held(held: &[Authenticator], statement: &Authenticator) -> bool
     place_of(held, statement).is_ok()
 }
 
-/// Sorts the statements, each of them once.
+/// Sorts the statements, and keeps each of them once.
 fn sort(statements: &mut Vec<Authenticator>)
     ensures ascending { IsAscending statements.new.items }
     ensures same { (x : Statement) → Contains statements.new.items x ↔ Contains statements.old.items x }
@@ -55,7 +55,7 @@ fn drop_held(held: &[Authenticator], statements: &mut Vec<Authenticator>)
     );
 }
 
-/// Puts statements that ascend, none of which is held, among those that are. Where a growth is refused, what is held stays as it was.
+/// Puts new statements, which ascend, among those that are held. If a growth is refused, what is held stays as it was.
 fn insert_new(held: &mut Vec<Authenticator>, statements: Vec<Authenticator>) -> Result<(), Memory>
     requires ascending { IsAscending held.old.items }
     requires statements { IsAscending statements.items }
@@ -73,7 +73,7 @@ fn insert_new(held: &mut Vec<Authenticator>, statements: Vec<Authenticator>) -> 
     Ok(())
 }
 
-/// Puts all of the statements among those that are held, and notes what is in conflict with them. Where a growth is refused, all stays
+/// Puts all of the statements among those that are held, and notes what is in conflict with them. If a growth is refused, all stays
 /// as it was.
 pub(crate) fn insert_all(
     held: &mut Vec<Authenticator>,
@@ -96,7 +96,7 @@ pub(crate) fn insert_all(
     Ok(())
 }
 
-/// Puts one statement among those that are held, and notes what is in conflict with it. Where a growth is refused, all stays as it was.
+/// Puts one statement among those that are held, and notes what is in conflict with it. If a growth is refused, all stays as it was.
 pub(crate) fn insert_one(
     held: &mut Vec<Authenticator>,
     clashes: &mut Vec<Clash>,
@@ -131,7 +131,7 @@ fn insert_each(held: &mut Vec<Authenticator>, mut statements: Vec<Authenticator>
     }
 }
 
-/// Moves what is held from this place on, the last first, behind what was moved before.
+/// Moves what is held from this place on to the end of what was moved before, the last first.
 fn move_from(held: &mut Vec<Authenticator>, place: usize, moved: &mut Vec<Authenticator>)
     requires inside { place ≤ vec_len held.old }
     requires room { vec_len held.old + vec_len moved.old ≤ vec_capacity moved.old }
@@ -148,8 +148,8 @@ fn move_from(held: &mut Vec<Authenticator>, place: usize, moved: &mut Vec<Authen
     }
 }
 
-/// Puts a statement, which is below all that were moved, into its place: what is held and above it is moved, and then the statement
-/// itself. One that is held already is let go.
+/// Puts a statement, which is below all that were moved, into its place. It moves what is held and above the statement, and then the
+/// statement itself. If the statement is held already, it is dropped.
 fn put(held: &mut Vec<Authenticator>, statement: Authenticator, moved: &mut Vec<Authenticator>)
     requires ascending { IsAscending (with_moved held.old.items moved.old.items) }
     requires below { AreAbove statement moved.old.items }
@@ -166,8 +166,8 @@ fn put(held: &mut Vec<Authenticator>, statement: Authenticator, moved: &mut Vec<
     moved.push_reserved(statement);
 }
 
-/// Joins ascending statements with those that are held, the greatest first: what is above a statement is moved to `moved`, which is
-/// empty at first, and all that was moved comes back in the end. There is room for all of them in both.
+/// Joins ascending statements with those that are held, the greatest first. It moves what is above a statement to `moved`, which is
+/// empty at first. In the end it moves all of that back. There is room for all of them in both.
 fn join(
     held: &mut Vec<Authenticator>,
     mut statements: Vec<Authenticator>,

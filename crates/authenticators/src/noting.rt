@@ -15,7 +15,7 @@ use crate::node::NodeId;
 use outcome::Memory;
 use std::alloc::Global;
 
-/// Where the statement stands.
+/// Returns the statement's node and number.
 pub(crate) fn point_of(statement: &Authenticator) -> Clash
     ensures { result ≡ point_of statement.now }
 {
@@ -25,7 +25,7 @@ pub(crate) fn point_of(statement: &Authenticator) -> Clash
     }
 }
 
-/// Where the statements stand.
+/// Returns the node and number of each statement, in order.
 pub(crate) fn points_of(alloc: Global, statements: &[Authenticator]) -> Result<Vec<Clash>, Memory>
     ensures { IfOk result (λ points. points.items ≡ map point_of statements.now) }
 {
@@ -36,7 +36,7 @@ pub(crate) fn points_of(alloc: Global, statements: &[Authenticator]) -> Result<V
     Ok(points)
 }
 
-/// Where the clash of the node stands, or would stand.
+/// Returns the place of the node's clash, or else the place that it would have.
 fn place_of(clashes: &[Clash], node: NodeId) -> Result<usize, usize>
     ensures bound { IsSearchInRange result (length clashes.now) }
     ensures position { IsBinarySearchResult (λ (p : TheClash). nat_cmp p.node node) clashes.now result }
@@ -44,7 +44,7 @@ fn place_of(clashes: &[Clash], node: NodeId) -> Result<usize, usize>
     clashes.binary_search_by_key(&node, |clash| clash.node)
 }
 
-/// The clash of the node.
+/// Returns the clash of the node, if there is one.
 pub(crate) fn clash_of(clashes: &[Clash], node: NodeId) -> Option<Clash>
     requires { IsStrictlySortedBy by_node clashes.now }
     ensures none { IfNone result (HasOf clashes.now node → ⊥) }
@@ -56,7 +56,7 @@ pub(crate) fn clash_of(clashes: &[Clash], node: NodeId) -> Option<Clash>
     }
 }
 
-/// Whether two of the statements are in conflict at this number of the node. It looks at the first and the last of that number.
+/// Returns whether two of the statements are in conflict at this number of the node. It looks at the first and the last of that number.
 fn is_clash(held: &[Authenticator], clash: &Clash) -> bool
     requires { IsAscending held.now }
     ensures yes { IsTrue result → IsClash held.now clash.now }
@@ -68,7 +68,7 @@ fn is_clash(held: &[Authenticator], clash: &Clash) -> bool
     }
 }
 
-/// Keeps the clash, where its node has none yet, or one of a greater number. There is room for it.
+/// Keeps the clash if its node has none yet, or one of a greater number. There is room for it.
 fn keep(clashes: &mut Vec<Clash>, clash: Clash)
     requires ascending { IsStrictlySortedBy by_node clashes.old.items }
     requires room { vec_len clashes.old < vec_capacity clashes.old }
@@ -91,7 +91,7 @@ fn keep(clashes: &mut Vec<Clash>, clash: Clash)
     }
 }
 
-/// Keeps the clash, if statements are in conflict there and its node has none yet, or one of a greater number. There is room for it.
+/// Keeps the clash if statements are in conflict there, and its node has none yet or one of a greater number. There is room for it.
 fn note(held: &[Authenticator], clashes: &mut Vec<Clash>, clash: Clash)
     requires held { IsAscending held.now }
     requires ascending { IsStrictlySortedBy by_node clashes.old.items }

@@ -1,4 +1,4 @@
--- What a node is given by a call, and what it is after it.
+-- What a node is given by a call, and the node after the call.
 use Rattle.std.specs.Prelude.{ℕ, List, Option, Some, None, Result, Ok, Err}
 use Rattle.lms_sign.specs.Signing.{PrivateKey}
 use Rattle.messages.specs.declared.message.Ack.{Ack}
@@ -8,30 +8,33 @@ use Rattle.replay_verifier.specs.Meaning.{Meaning}
 
 -- What a node is given by one call.
 pub data Given : Type 0 where
-  -- `receive`: a message, and the call's entropy
+  -- For `receive`: a message, and the call's entropy.
   Receive : Message → List ℕ → Given
-  -- `timer`: a moment, and the call's entropy
+  -- For `timer`: a moment, and the call's entropy.
   Tick : ℕ → List ℕ → Given
-  -- `checkpoint`
+  -- For `checkpoint`: nothing.
   Checkpoint : Given
-  -- `accept_ack`: an acknowledgement
+  -- For `accept_ack`: an acknowledgement.
   Acknowledge : Ack → Given
-  -- `next_key`: a key
+  -- For `next_key`: a key.
   Rekey : PrivateKey → Given
 
--- The node that a call's answer has, beside one or two more results. A refusal leaves the node as it was.
+-- The node of a call's answer, or the old node if the call refused.
 abbrev pub or_old : {S E : Type 0} → S → Result S E → S
 or_old old (Ok new) = new
 or_old old (Err e) = old
 
+-- The same for an answer with one further result.
 abbrev pub first_or_old : {S A E : Type 0} → S → Result (S × A) E → S
 first_or_old old (Ok new) = new.0
 first_or_old old (Err e) = old
 
+-- The same for an answer with two further results.
 abbrev pub first_of_three_or_old : {S A B E : Type 0} → S → Result (S × A × B) E → S
 first_of_three_or_old old (Ok new) = new.0
 first_of_three_or_old old (Err e) = old
 
+-- The same for an answer that may be missing.
 abbrev pub some_or_old : {S : Type 0} → S → Option S → S
 some_or_old old (Some new) = new
 some_or_old old None = old

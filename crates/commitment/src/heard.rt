@@ -1,4 +1,4 @@
-//! What a node heard.
+//! The messages that a node received.
 
 use messages::{Ack, Message};
 
@@ -7,6 +7,6 @@ use messages::{Ack, Message};
 pub struct Heard {
     /// The message.
     pub message: Message,
-    /// The acknowledgement.
+    /// The acknowledgement that was given for the message.
     pub ack: Ack,
 }

@@ -3,18 +3,19 @@ use Rattle.std.specs.Prelude.{◌≡◌, ◌≢◌, ℕ, ◌+◌, ◌<◌, List,
 use Rattle.journal.specs.Journal.{number_of, covered, counts, can_be_left}
 use Rattle.journal.specs.Reading.{IsDamaged}
 
--- Behind whole blocks an open gate and the two numbers behind it, with a block that doesn't count: no crash leaves that.
+-- No crash leaves a file with an open gate and its two numbers behind whole blocks, if their block doesn't count.
 abbrev pub OpenGatesHaveBlocks : Type 0
 OpenGatesHaveBlocks =
     (front behind : List ℕ) (gate a b c d e f g h : ℕ) → covered front ≡ length front → gate ≢ 0
     → counts gate (number_of a b c d) (number_of e f g h) (length behind) ≡ false
     → can_be_left (front ++ gate ∷ a ∷ b ∷ c ∷ d ∷ e ∷ f ∷ g ∷ h ∷ behind) ≡ false
 
--- A block doesn't count whose length and its lack don't agree. Bits that are lost from either make the sum smaller, never greater.
+-- A block doesn't count if the sum of its two numbers is below 2^32 - 1. Bits that are lost from either make the sum smaller, never
+-- greater.
 abbrev pub LostBitsAreSeen : Type 0
 LostBitsAreSeen = (gate size lack behind : ℕ) → size + lack < 4294967295 → counts gate size lack behind ≡ false
 
--- Where a crash can leave a file, what was found of it is not damaged, nor is all of it.
+-- If a crash can leave a file, no beginning of it that was found is damaged, nor is all of it.
 abbrev pub LeftFilesAreRead : Type 0
 LeftFilesAreRead =
     (file found behind seen : List ℕ) → can_be_left file ≡ true → found ++ behind ≡ file → (found ≡ seen → seen ≡ file) → IsDamaged found seen → ⊥

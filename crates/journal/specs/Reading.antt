@@ -17,7 +17,7 @@ pub record IsBehind {D : Type 0} (found : D → List ℕ) (reading : Reading D) 
   pub rest : drop reading.end (found reading.device) ≡ head
   pub small : reading.end < 2 ^ 63
 
--- These bytes are the head of an open block of a text of so many bytes.
+-- These bytes are the head of an open block, whose text has this number of bytes.
 abbrev pub IsHead : List ℕ → ℕ → Type 0
 IsHead head size =
     (length head ≡ 9) × (slice_index head 0 ≢ 0)
@@ -32,6 +32,6 @@ pub record IsRead {D : Type 0} (seen : D → List ℕ) (may_leave : D → List �
   pub left : can_be_left (seen reading.device) ≡ true
   pub durable : Only (seen reading.device) (may_leave reading.device)
 
--- No crash leaves a file of which this was found, however it goes on; or this is all of it, and no crash leaves it.
+-- No crash leaves a file that begins with what was found, however it goes on. Or what was found is all of it, and no crash leaves that.
 abbrev pub IsDamaged : List ℕ → List ℕ → Type 0
 IsDamaged found seen = ((behind : List ℕ) → can_be_left (found ++ behind) ≡ false) ⊎ ((found ≡ seen) × (can_be_left seen ≡ false))

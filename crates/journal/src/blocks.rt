@@ -5,16 +5,16 @@ ghost use Rattle.journal.specs.Journal.{ends_closed, block_of, blocks_of, size_o
 
 use std::alloc::{AllocError, Global};
 
-/// The longest group: its blocks take at most so many bytes.
+/// The greatest number of bytes that the blocks of a group take. A block takes 9 bytes beside its text.
 pub const MOST_GROUP: usize = 8_388_608;
 
-/// What a block takes beside its text.
+/// How many bytes a block takes beside its text.
 pub(crate) const HEAD: usize = 9;
 
 /// An open gate. Every byte but 0 is one, so it stays open while one of its bits is left.
 const OPEN: u8 = 255;
 
-/// Whether the blocks of the texts make a group, and no more than one.
+/// Returns whether the blocks of the texts take no more bytes than a group may.
 pub(crate) fn fits(texts: &[Vec<u8>]) -> bool
     ensures { result ≡ nat_le (size_of (texts_of texts.now)) MOST_GROUP }
 {
@@ -28,7 +28,7 @@ pub(crate) fn fits(texts: &[Vec<u8>]) -> bool
     true
 }
 
-/// The open blocks of the texts, and the closed gate behind them.
+/// Returns the open blocks of the texts, and the closed gate behind them.
 pub(crate) fn group_of(alloc: Global, texts: &[Vec<u8>]) -> Result<Vec<u8>, AllocError>
     requires { size_of (texts_of texts.now) ≤ MOST_GROUP }
     ensures { IfOk result (λ v. v.items ≡ blocks_of (texts_of texts.now) ++ 0 ∷ []) }
@@ -54,7 +54,7 @@ fn put_block(bytes: &mut Vec<u8>, text: &[u8]) -> Result<(), AllocError>
     Ok(())
 }
 
-/// Whether the bytes are a closed gate and at most a group behind it.
+/// Returns whether the bytes are a closed gate and at most a group behind it.
 pub(crate) fn is_closed_end(bytes: &[u8]) -> bool
     ensures { result ≡ ends_closed bytes.now }
 {

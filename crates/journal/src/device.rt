@@ -17,17 +17,17 @@ pub trait Device {
     /// What a crash at this moment may leave.
     ghost may_leave: { Self → List ℕ → Type 0 };
 
-    /// The moment, as a number that doesn't fall.
+    /// The moment, as a number that no call makes smaller.
     ghost moment: { Self → ℕ };
 
-    /// What a crash at some moment from that one on might have left, during a call or between two.
+    /// What a crash might have left at some moment since that one, during a call or between two calls.
     ghost left_since: { Self → ℕ → List ℕ → Type 0 };
 
     /// How often the disk has failed.
     ghost faults: { Self → ℕ };
 
-    /// Reads on, behind what has been read: so many bytes, or fewer, but then the end of the file is reached. Once it is, what was found
-    /// is all that there is, and it is on the disk. Nothing is written before.
+    /// Reads on, behind what has been read, and returns at most `most` bytes. If it returns fewer, the end of the file is reached. Then
+    /// what was found is all that there is, and it is on the disk. A caller writes nothing before that.
     fn read(&mut self, alloc: Global, most: usize) -> Result<Vec<u8>, DeviceFault>
         ensures found { IfOk result (λ v. found self.new ≡ found self.old ++ v.items) }
         ensures most { IfOk result (λ v. length v.items ≤ most) }
@@ -35,8 +35,8 @@ pub trait Device {
         ensures small { OnOk result (length (found self.new) < 2 ^ 63) }
         ensures cause { HasCause (faults self.old) (faults self.new) result };
 
-    /// Writes over what is there, and past the end. Until a sync, a crash may leave any bytes in the range. Where it fails, any bytes
-    /// may stand there too.
+    /// Writes the bytes at place `at`, over what is there and past the end. Until a sync, a crash may leave any bytes in the range that is
+    /// written. If the write fails, any bytes may stand there too.
     fn write_at(&mut self, at: usize, bytes: &[u8]) -> Result<(), DeviceFault>
         requires { at ≤ length (seen self.old) }
         ensures written { OnOk result (Holds (seen self.old) at bytes.now (seen self.new)) }
@@ -45,7 +45,8 @@ pub trait Device {
         ensures time { Elapses (moment self.old) (moment self.new) (left_since self.old) (left_since self.new) (may_leave self.new) }
         ensures cause { HasCause (faults self.old) (faults self.new) result };
 
-    /// Cuts the file to a length. Where it fails, the length may be any between.
+    /// Cuts the file to a length. Until a sync, a crash may leave any length between the old one and the new one. If the cut fails, the
+    /// file may have any such length too.
     fn cut(&mut self, len: usize) -> Result<(), DeviceFault>
         requires { len ≤ length (seen self.old) }
         ensures cut { OnOk result (seen self.new ≡ take len (seen self.old)) }
@@ -54,7 +55,8 @@ pub trait Device {
         ensures time { Elapses (moment self.old) (moment self.new) (left_since self.old) (left_since self.new) (may_leave self.new) }
         ensures cause { HasCause (faults self.old) (faults self.new) result };
 
-    /// After it, a crash leaves what a read returns.
+    /// Brings the file to the disk. After that, a crash leaves what a read returns. If it fails, a crash leaves nothing that it could not
+    /// leave before.
     fn sync(&mut self) -> Result<(), DeviceFault>
         ensures durable { OnOk result (Only (seen self.old) (may_leave self.new)) }
         ensures seen { seen self.new ≡ seen self.old }
@@ -62,12 +64,12 @@ pub trait Device {
         ensures time { Elapses (moment self.old) (moment self.new) (left_since self.old) (left_since self.new) (may_leave self.new) }
         ensures cause { HasCause (faults self.old) (faults self.new) result };
 
-    /// This moment is one of those since an earlier one.
+    /// This moment is one of those since an earlier one. So what a crash may leave now counts as left since then.
     ghost counts_now: { (file : Self) (t : ℕ) (c : List ℕ) → t ≤ moment file → may_leave file c → left_since file t c };
 
-    /// Since this moment there is no other.
+    /// Since this moment there is no other. So a crash can have left only what it may leave now.
     ghost only_now: { (file : Self) (c : List ℕ) → left_since file (moment file) c → may_leave file c };
 
-    /// A crash may leave what a read would return: no call makes the outcomes of a crash none.
+    /// A crash may leave what a read would return. So no call leaves a crash without an outcome.
     ghost seen_may_stay: { (file : Self) → may_leave file (seen file) };
 }

@@ -13,7 +13,7 @@ pub enum DeviceFault {
     /// A growth of memory was refused.
     #[error("memory ran out")]
     Memory,
-    /// The file or its disk failed, a full disk among others.
+    /// The file or its disk failed, for example since the disk is full.
     #[error("the file failed")]
     Failed,
 }
@@ -27,8 +27,8 @@ pub enum OpenFault {
     /// The file or its disk failed.
     #[error("the file failed")]
     Failed,
-    /// No crash leaves such a file: bytes of it were changed by something else. Nothing was cut or written.
-    #[error("the file is damaged: no crash leaves it so")]
+    /// No crash leaves such a file, so something else changed bytes of it. Nothing was cut or written.
+    #[error("the file is damaged in a way that no crash causes")]
     Damaged,
 }
 
@@ -38,17 +38,17 @@ pub enum AppendFault {
     /// A growth of memory was refused. No text of the group is there.
     #[error("memory ran out")]
     Memory,
-    /// The file or its disk failed. No text of the group is there, also after a crash.
+    /// The file or its disk failed. No text of the group is there, or comes to be there after a crash.
     #[error("the file failed")]
     Failed,
-    /// The group is longer than the longest. Nothing was written.
+    /// The blocks of the group take more than [`MOST_GROUP`](crate::MOST_GROUP) bytes. Nothing was written.
     #[error("the group is too long")]
     TooLong,
-    /// The journal is longer than the longest. Nothing was written.
+    /// The blocks of the journal take 2^60 bytes or more. Nothing was written.
     #[error("the journal is full")]
     Full,
-    /// The file failed as the group was opened: it is there whole or not at all, and which of the two is known once the file is opened
-    /// again.
+    /// The device reported this fault as the group's gate was opened. The group is there whole or not at all. Which of the two holds is
+    /// known once the file is opened again.
     #[error("whether the group is there is not known: {0}")]
     InDoubt(DeviceFault),
 }

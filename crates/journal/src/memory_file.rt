@@ -8,7 +8,7 @@ use crate::device::Device;
 use crate::fault::DeviceFault;
 use std::alloc::{AllocError, Global};
 
-/// A file in memory, for tests: what it had at each moment is kept beside it.
+/// A file in memory, for tests. It keeps what it had at each moment, so each write and each cut takes memory for one more copy.
 #[derive(Drop)]
 pub struct MemoryFile {
     alloc: Global,
@@ -21,7 +21,7 @@ pub struct MemoryFile {
 impl MemoryFile {
     ghost use Rattle.journal.specs.MemoryFile.{bytes_of, read_of};
 
-    /// A file with these bytes, all of them on the disk.
+    /// Returns a file with these bytes. All of them count as on the disk, and none has been read.
     pub fn new(alloc: Global, bytes: Vec<u8>) -> Self
         ensures bytes { bytes_of result ≡ bytes.items }
         ensures unread { read_of result ≡ 0 }
@@ -34,7 +34,7 @@ impl MemoryFile {
         }
     }
 
-    /// What the file has now.
+    /// Returns the bytes that the file has now.
     pub fn bytes(&self) -> &[u8]
         ensures { result.now ≡ bytes_of self.now }
     {
@@ -42,7 +42,7 @@ impl MemoryFile {
     }
 }
 
-/// Puts other bytes in the place of those that are there, which it keeps.
+/// Puts other bytes in the place of those that are there. It keeps the old ones.
 fn replace(
     alloc: Global,
     bytes: &mut Vec<u8>,

@@ -1,4 +1,4 @@
-//! A file is read as a journal, one text after the other, and then opened.
+//! Reading of a file as a journal. It is read one text after the other, and then opened.
 
 ghost use Rattle.std.specs.Prelude.{◌≡◌, ◌⊎◌, ◌+◌, ◌<◌, ◌≤◌, ◌^◌, ◌++◌, [], ◌∷◌, List, ℕ, length, take, drop, None, Ok, IfErr, IfOk, IfSome, IsErrOf, MatchResult};
 ghost use Rattle.journal.specs.Device.{LeavesOnly, Only};
@@ -16,9 +16,9 @@ use std::alloc::Global;
 #[derive(Drop)]
 pub struct Reading<D: Device> {
     device: D,
-    /// How many bytes the blocks took whose texts were given.
+    /// How many bytes the blocks take whose texts were given.
     end: usize,
-    /// How many bytes the file has, once all were read.
+    /// How many bytes the file has, once all of them were read.
     len: usize,
 }
 
@@ -45,8 +45,8 @@ impl<D: Device> Reading<D> {
         }
     }
 
-    /// The next text; none behind the last one, when all of the file was read. A file that no crash leaves is refused as `Damaged`. After
-    /// an error nothing more may be asked.
+    /// Returns the next text, or `None` behind the last one. With `None`, all of the file was read, and it may not be called again. It
+    /// refuses a file that no crash leaves as `Damaged`. After an error, only [`into_device`](Reading::into_device) may be called.
     pub fn next(&mut self, alloc: Global) -> Result<Option<Vec<u8>>, OpenFault>
         requires { IsReading D.found self.old }
 
@@ -72,7 +72,8 @@ impl<D: Device> Reading<D> {
         self.end_short(&head)
     }
 
-    /// Opens the journal, of which all was read: what a crash left behind its last block is cut off.
+    /// Opens the journal, once all of the file was read. It cuts off what a crash left behind the last block. It writes the closed gate of
+    /// a new file.
     pub fn finish(self) -> Result<Journal<D>, Refused<D>>
         requires { IsRead D.seen D.may_leave self }
 
@@ -94,14 +95,14 @@ impl<D: Device> Reading<D> {
         }
     }
 
-    /// Gives the device back, unread as far as it is.
+    /// Returns the device, read as far as it was.
     pub fn into_device(self) -> D
         ensures { result ≡ self.device }
     {
         self.device
     }
 
-    /// The text behind the head of an open block.
+    /// Returns the text behind the head of an open block.
     fn text(
         &mut self,
         alloc: Global,
@@ -126,7 +127,7 @@ impl<D: Device> Reading<D> {
         Ok(Some(text))
     }
 
-    /// The end of a file behind whose blocks a closed gate stands, and bytes that fill a head.
+    /// Reads the end of a file, if a closed gate and at least eight more bytes stand behind its blocks.
     fn end_closed(&mut self, alloc: Global, head: &[u8]) -> Result<Option<Vec<u8>>, OpenFault>
         requires before { IsBehind D.found self.old head.now }
         requires closed { take 1 head.now ≡ 0 ∷ [] }
@@ -145,7 +146,7 @@ impl<D: Device> Reading<D> {
         Ok(None)
     }
 
-    /// The end of a file behind whose blocks fewer bytes stand than a head takes.
+    /// Takes the end of a file, if fewer bytes stand behind its blocks than a head takes.
     fn end_short(&mut self, head: &[u8]) -> Result<Option<Vec<u8>>, OpenFault>
         requires before { IsBehind D.found self.old head.now }
         requires short { length head.now < 9 }

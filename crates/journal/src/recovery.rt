@@ -1,4 +1,4 @@
-//! The end of a file that a crash may have left is repaired.
+//! Repair of the end of a file that a crash may have left.
 
 ghost use Rattle.std.specs.Prelude.{◌≡◌, ◌++◌, ◌∷◌, [], List, ℕ, length, take, true, OnOk};
 ghost use Rattle.journal.specs.Device.{Only, LeavesOnly, HasCause};
@@ -7,7 +7,8 @@ ghost use Rattle.journal.specs.Journal.{recovered, covered, can_be_left, StandsF
 use crate::device::Device;
 use crate::fault::DeviceFault;
 
-/// Brings a file that a crash may have left to rest: a closed gate behind its blocks, and nothing behind it. It may crash too.
+/// Brings a file that a crash may have left to rest. Then a closed gate stands behind its blocks, and nothing behind that. A crash may come
+/// during the call too.
 pub(crate) fn settle<D: Device>(device: &mut D, len: usize, end: usize) -> Result<(), DeviceFault>
     requires durable { Only (D.seen device.old) (D.may_leave device.old) }
     requires place { (len ≡ length (D.seen device.old)) × (end ≡ covered (D.seen device.old)) }
@@ -23,8 +24,8 @@ pub(crate) fn settle<D: Device>(device: &mut D, len: usize, end: usize) -> Resul
     Ok(())
 }
 
-/// Leaves a closed gate behind the blocks, and nothing behind it: a new file gets one, and any other file is cut behind the one that it
-/// has, which is never written over.
+/// Leaves a closed gate behind the blocks, and nothing behind it. A new file gets a closed gate. Any other file is cut behind the one that
+/// it has, which is never written over.
 fn close_end<D: Device>(device: &mut D, len: usize, end: usize) -> Result<(), DeviceFault>
     requires durable { Only (D.seen device.old) (D.may_leave device.old) }
     requires len { len ≡ length (D.seen device.old) }

@@ -1,4 +1,4 @@
-//! The file: each call on it is noted with its answer.
+//! The file. Each call on it is noted with its answer.
 
 ghost use Rattle.std.specs.Prelude.{◌≡◌, ◌+◌, ◌<◌, ◌≤◌, ◌^◌, [], length, true, false, None, IfOk, IfSome};
 ghost use Rattle.journal_file.specs.Events.{seen_after};
@@ -34,16 +34,16 @@ pub struct FileDevice {
     read: usize,
     /// Nothing was written yet.
     is_reading: bool,
-    /// Where a write or a cut failed: from there on what the file has is not known, and only a cut that takes that away is made.
+    /// The place from which on the file's bytes are not known, since a write or a cut failed. Then only a cut that takes them away is made.
     unknown_from: Option<usize>,
-    /// A sync has failed: what was written may be lost with no further error, so nothing more is asked of the file.
+    /// A sync has failed. What was written may be lost with no further error, so nothing more is asked of the file.
     has_failed: bool,
     ghost within: { read ≤ len },
     ghost small: { len < 2 ^ 63 },
     ghost size: { is_reading ≡ true → length (seen_after record.events) ≡ read },
 }
 
-/// Opens the file, or makes it, and locks it. It and its folder are synced.
+/// Opens the file, or makes it, and locks it. It syncs the file and its folder.
 fn open_synced(rt: &HostRuntime, path: &str) -> io::Result<File> {
     let file = OpenOptions::new()
         .read(true)
@@ -69,7 +69,7 @@ fn sync_folder(rt: &HostRuntime, path: &str) -> io::Result<()> {
     Ok(())
 }
 
-/// How long the file is.
+/// Returns the length of the file in bytes.
 fn len_of(file: &File) -> io::Result<usize>
     ensures { IfOk result (λ n. n < 2 ^ 63) }
 {
@@ -81,8 +81,11 @@ fn len_of(file: &File) -> io::Result<usize>
 }
 
 impl FileDevice {
-    /// Opens the file, or makes it. What is read of it is taken to be on the disk, since the file is synced first. The error is
-    /// `WouldBlock` where another process has the file.
+    /// Opens the file, or makes it, and locks it. Only its owner may read and write a file that it makes. It syncs the file and its folder
+    /// first, so what is read of the file is taken to be on the disk.
+    ///
+    /// The error is `WouldBlock` if another process has the file, and `FileTooLarge` if the file has 2^63 bytes or more. Other errors are
+    /// those of the operating system.
     pub fn open(rt: &HostRuntime, path: &str) -> io::Result<FileDevice>
         ensures { IfOk result (λ d. seen_after d.record.events ≡ []) }
     {
@@ -99,7 +102,7 @@ impl FileDevice {
         })
     }
 
-    /// How many bytes a read of so many gives: fewer only where they are the last ones.
+    /// Returns how many bytes a read of `most` bytes gives. They are fewer only if they are the last ones.
     fn next_len(&self, most: usize) -> usize
         ensures most { result ≤ most }
         ensures within { self.now.read + result ≤ self.now.len }
@@ -108,7 +111,7 @@ impl FileDevice {
         most.min(self.len - self.read)
     }
 
-    /// Whether a write may be made: all was read, no call has failed whose effect isn't known.
+    /// Returns whether a write or a sync may be made. It may if all was read, and no call has failed whose effect isn't known.
     fn may_write(&self) -> bool
         ensures all { result ≡ true → self.now.is_reading ≡ true → self.now.read ≡ self.now.len }
         ensures sound { result ≡ true → self.now.has_failed ≡ false }
@@ -118,7 +121,8 @@ impl FileDevice {
         all && !self.has_failed && self.unknown_from.is_none()
     }
 
-    /// Whether a cut to this length may be made: all was read, no sync has failed, and the cut takes away what is not known.
+    /// Returns whether a cut to this length may be made. It may if all was read, no sync has failed, and the cut takes away what is not
+    /// known.
     fn may_cut(&self, len: usize) -> bool
         ensures all { result ≡ true → self.now.is_reading ≡ true → self.now.read ≡ self.now.len }
         ensures sound { result ≡ true → self.now.has_failed ≡ false }

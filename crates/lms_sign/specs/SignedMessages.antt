@@ -1,4 +1,4 @@
--- Messages and their signatures (RFC 8554, section 5.4.2).
+-- Messages with what is claimed to be their signatures (RFC 8554, section 5.4.2).
 use Rattle.std.specs.Prelude.{Bool}
 use Rattle.lms_sign.specs.declared.signed.Signed.{Signed}
 use Rattle.lms_sign.specs.LmsSignature.{verifies}

@@ -1,4 +1,5 @@
-//! The one-time public key of a leaf, of the ends of its chains, and that of a signature (RFC 8554, sections 4.3 and 4.6).
+//! One-time public keys: that of a leaf, made of the ends of its chains, and that of a signature (RFC 8554, sections 4.3 and
+//! 4.6).
 
 ghost use Rattle.std.specs.Prelude.{◌≡◌, ℕ, List, [], ◌+◌, ◌*◌, ◌<◌, ◌≤◌, ◌++◌, length, take, slice_index_or, All};
 ghost use Rattle.std.specs.List.{flat_map};
@@ -19,8 +20,8 @@ use sha2::{Digest, Sha256};
 /// The mark of a text whose digest is K.
 pub(crate) const D_PBLC: u16 = 0x8080;
 
-/// Opens the chains of a signature by leaf `q`, where `text` is the digest and its checksum and `ys` begins with the
-/// chains' values.
+/// Opens the chains of a signature by leaf `q`. `text` is the digest and its checksum, and `ys` begins with the chains'
+/// values.
 fn open_signature(
     ots: OtsType,
     id: &[u8; 16],
@@ -46,7 +47,7 @@ fn open_signature(
     }
 }
 
-/// K, of the ends of all chains.
+/// Returns K, the one-time public key, of the ends of all chains.
 fn key_hash(id: &[u8; 16], q: u32, ends: &[[u8; 32]]) -> [u8; 32]
     ensures { result ≡ key_hash id.now q (flat_map (λ end. end) ends.now) }
 {
@@ -58,7 +59,7 @@ fn key_hash(id: &[u8; 16], q: u32, ends: &[[u8; 32]]) -> [u8; 32]
     hasher.finalize()
 }
 
-/// K of leaf `q`, the ends of whose chains stand in `ends` from a place on.
+/// Returns K of leaf `q`. The ends of its chains stand in `ends` from place `from` on.
 pub(crate) fn key_of_ends(
     id: &[u8; 16],
     q: u32,
@@ -73,8 +74,8 @@ pub(crate) fn key_of_ends(
     key_hash(id, q, &ends[from..from + count])
 }
 
-/// K of leaf `q`, whose chains stand at their ends.
-// The array takes a frame of its own, and none of a caller's (docs/DECISIONS.md, "Large frames").
+/// Returns K of leaf `q`. Its chains stand at their ends.
+// It is not inlined, so that the array stands in its own frame and in no caller's (docs/DECISIONS.md, "Signatures").
 #[inline(never)]
 fn key_of_ended_chains(id: &[u8; 16], q: u32, ots: OtsType, chains: &[OpenChain]) -> [u8; 32]
     requires { length chains.now ≡ chain_count ots }
@@ -86,7 +87,7 @@ fn key_of_ended_chains(id: &[u8; 16], q: u32, ots: OtsType, chains: &[OpenChain]
     key_of_ends(id, q, ots, ends, 0)
 }
 
-/// Runs the chains of a signature to their ends: `text` is the digest and its checksum, and `ys` begins with the chains'
+/// Runs the chains of a signature to their ends. `text` is the digest and its checksum, and `ys` begins with the chains'
 /// values.
 fn run_signature(
     ots: OtsType,
@@ -105,9 +106,9 @@ fn run_signature(
     run_all(chains);
 }
 
-/// K of a signature's chains, which are run to their ends: `text` is the digest and its checksum, and `ys` begins with the
-/// chains' values.
-// The array takes a frame of its own, and none of a caller's (docs/DECISIONS.md, "Large frames").
+/// Runs the chains of a signature to their ends, and returns K. `text` is the digest and its checksum, and `ys` begins with
+/// the chains' values.
+// It is not inlined, so that the array stands in its own frame and in no caller's (docs/DECISIONS.md, "Signatures").
 #[inline(never)]
 pub(crate) fn key_of_chains(
     id: &[u8; 16],
@@ -125,9 +126,9 @@ pub(crate) fn key_of_chains(
     key_of_ended_chains(id, q, ots, chains)
 }
 
-/// Writes the ends of a signature's chains behind 22 bytes: `text` is the digest and its checksum, and `ys` begins with the
+/// Writes the ends of a signature's chains behind 22 bytes. `text` is the digest and its checksum, and `ys` begins with the
 /// chains' values.
-// The array takes a frame of its own, and none of a caller's (docs/DECISIONS.md, "Large frames").
+// It is not inlined, so that the array stands in its own frame and in no caller's (docs/DECISIONS.md, "Signatures").
 #[inline(never)]
 pub(crate) fn put_chain_ends(
     out: &mut [u8],

@@ -109,7 +109,7 @@ fn first_to_end(chains: &[OpenChain], lanes: &[u16; LANES]) -> usize
     first
 }
 
-/// Runs the chains in the lanes until the first is at its end, and tells its lane.
+/// Runs the chains in the lanes until the first is at its end, and returns its lane.
 pub(crate) fn run_to_first_end(chains: &mut [OpenChain], lanes: &[u16; LANES]) -> usize
     requires lanes { (l : ℕ) → l < 8 → slice_index lanes.now l < length chains.old }
     requires room { All HasRoom chains.old }

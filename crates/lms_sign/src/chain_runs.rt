@@ -9,7 +9,7 @@ use crate::chain_order::{MOST_CHAINS, sort_chains};
 use crate::open_chain::OpenChain;
 use crate::stretches::run_long_chains;
 
-/// The numbers of the chains that run next: the last eight of the first `alive` of `order`. Where these are fewer, the
+/// Returns the numbers of the chains that run next: the last eight of the first `alive` of `order`. If these are fewer, the
 /// first of them stands in for those that are missing.
 fn lanes(order: &[(u8, u16)], alive: usize) -> [u16; 8]
     requires some { 0 < alive }
@@ -24,7 +24,7 @@ fn lanes(order: &[(u8, u16)], alive: usize) -> [u16; 8]
 }
 
 /// Runs the chains that `order` lists to their ends. Those that are not at their ends stand at its front, and the last
-/// eight of them have the lanes; where one ends, the last takes its place, so that the next comes in.
+/// eight of them have the lanes. If one ends, the last takes its place, so that the next comes in.
 fn run_in_order(chains: &mut [OpenChain], order: &mut [(u8, u16)])
     requires room { All HasRoom chains.old }
     requires entries { All (λ x. x.1 < length chains.old) order.old }
@@ -40,16 +40,16 @@ fn run_in_order(chains: &mut [OpenChain], order: &mut [(u8, u16)])
     }
 }
 
-/// Whether each chain is at its end.
+/// Returns whether each chain is at its end.
 fn all_ended(chains: &[OpenChain]) -> bool
     ensures { result ≡ true ↔ All (λ chain. chain.left ≡ 0) chains.now }
 {
     chains.iter().all(|chain| chain.left == 0)
 }
 
-/// Runs each chain to its end, eight at a time: those with the most steps left first, and where one ends, the next takes
-/// its lane.
-// The array takes a frame of its own, and none of a caller's (docs/DECISIONS.md, "Large frames").
+/// Runs each chain to its end, eight at a time. Those with the most steps left come first. If one ends, the next takes its
+/// lane.
+// It is not inlined, so that the array stands in its own frame and in no caller's (docs/DECISIONS.md, "Signatures").
 #[inline(never)]
 fn run_longest_first(chains: &mut [OpenChain])
     requires count { length chains.old ≤ MOST_CHAINS }

@@ -1,9 +1,10 @@
 //! LMS signatures (RFC 8554) with SHA-256 and hashes of 32 bytes.
 //!
-//! [`verify`] answers true exactly where the bytes are a signature of the message under the key, as RFC 8554 defines
-//! it, for any bytes at all. [`PublicKey::from_bytes`] reads exactly the 56-byte texts of keys. [`SecretKey`] is made of
-//! a seed and signs: a signature is the RFC's text by a leaf that has not signed yet, and it verifies under the public
-//! key.
+//! [`verify`] takes any bytes. It returns true exactly if they are a signature of the message under the key, as RFC 8554
+//! defines it. [`verify_all`] does so for a list. [`PublicKey::from_bytes`] reads exactly the 56-byte texts of keys.
+//! [`SecretKey`] is made of a seed, and signs. A signature is the RFC's text by a leaf that has not signed yet, and it
+//! verifies under the public key.
+//!
 //! `specs/` has the definitions, in the RFC's terms.
 #![tactic(auto)]
 

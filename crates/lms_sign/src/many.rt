@@ -13,10 +13,10 @@ use crate::signed::Signed;
 use crate::verification::{has_form, is_same_hash, verify};
 use std::alloc::{AllocError, Global};
 
-/// The fewest signatures that are verified side by side: of fewer, one after the other is faster.
+/// The fewest signatures that are verified side by side. If there are fewer, it is faster to verify one after the other.
 const WORTH: usize = 3;
 
-/// Whether the roots are those of the keys.
+/// Returns for each signature whether its root is that of its key.
 fn have_roots(group: &[Signed; 8], roots: &[[u8; 32]; 8]) -> [bool; 8]
     requires group { (ots : OtsType) × ((n : ℕ) × IsGroup ots n group.now) }
     requires roots { (j : ℕ) (d : Signed) → j < 8 → slice_index_or roots.now j [] ≡ hash_above (slice_index_or group.now j d) (height (slice_index_or group.now j d).key.now.lms_type) }
@@ -30,7 +30,7 @@ fn have_roots(group: &[Signed; 8], roots: &[[u8; 32]; 8]) -> [bool; 8]
     answers
 }
 
-/// Whether each is a signature.
+/// Returns for each whether it is a signature.
 fn verify_eight(room: &mut [[u8; ROOM]; 8], group: &[Signed; 8]) -> [bool; 8]
     requires { (ots : OtsType) × ((n : ℕ) × (IsGroup ots n group.now × (54 + n ≤ ROOM))) }
     ensures { (j : ℕ) (d : Signed) → j < 8 → slice_index_or result j false ≡ is_signed (slice_index_or group.now j d) }
@@ -41,7 +41,8 @@ fn verify_eight(room: &mut [[u8; ROOM]; 8], group: &[Signed; 8]) -> [bool; 8]
     have_roots(group, &roots)
 }
 
-/// Whether the bytes have the form of a signature, by a key of the first one's type, of a message of the first one's length.
+/// Returns whether `other` can be verified together with `first`. Its bytes have the form of a signature, its key has the type of
+/// one-time signature of the first key, and its message has the length of the first message, which has room.
 fn is_like(first: &Signed, other: &Signed) -> bool
     ensures { IsTrue result ↔ IsLike first.now other.now }
 {
@@ -51,7 +52,7 @@ fn is_like(first: &Signed, other: &Signed) -> bool
         && other.message.len() <= ROOM - 54
 }
 
-/// How many of the first, eight at most, can be verified together.
+/// Returns how many of the first ones can be verified together, eight at most.
 fn alike(signed: &[Signed]) -> usize
     requires { 0 < length signed.now }
     ensures eight { result ≤ 8 }
@@ -67,7 +68,7 @@ fn alike(signed: &[Signed]) -> usize
     signed.len().min(8)
 }
 
-/// The first `count`, and the first of all in the lanes that are left.
+/// Returns a group with the first `count` in its first lanes, and the very first one in the lanes that are left.
 fn group<'a>(signed: &[Signed<'a>], count: usize) -> [Signed<'a>; 8]
     requires some { 0 < count }
     requires count { count ≤ length signed.now }
@@ -81,7 +82,7 @@ fn group<'a>(signed: &[Signed<'a>], count: usize) -> [Signed<'a>; 8]
     group
 }
 
-/// Answers for the first ones, at least one, and tells how many.
+/// Appends the answers for the first ones, and returns for how many. It does so for at least one.
 fn answer_first(
     room: &mut [[u8; ROOM]],
     signed: &[Signed],
@@ -105,14 +106,16 @@ fn answer_first(
     }
 }
 
-/// Bytes of no meaning.
+/// Bytes without a meaning.
 fn zeros<const N: usize>() -> [u8; N] {
     [0; N]
 }
 
-/// Whether each is a signature of its message under its key: [`verify`] of each, in the list's order. The list is any: what is
-/// no signature is told as such, and signatures that follow each other are the faster verified, eight at a time, where their keys have one type
-/// of one-time signature and their messages one length, of 8,448 bytes at most. It takes some 68 KB of memory beside the answers.
+/// Returns for each whether it is a signature of its message under its key, in the list's order. Each answer is that of
+/// [`verify`]. The list may be any: the answer is false for what is no signature. It fails only if memory runs out.
+///
+/// It verifies up to eight consecutive signatures together, which is faster. For that, their keys have one type of one-time
+/// signature, and their messages have one length, of 8,448 bytes at most. It takes some 68 KB of memory beside the answers.
 pub fn verify_all(alloc: Global, signed: &[Signed]) -> Result<Vec<bool>, AllocError>
     ensures { IfOk result (λ answers. answers.items ≡ map is_signed signed.now) }
 {

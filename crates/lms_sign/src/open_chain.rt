@@ -17,7 +17,7 @@ pub(crate) struct OpenChain {
     pub(crate) value: [u8; 32],
 }
 
-/// No chain, for the places of an array.
+/// A chain of zeros, which fills an array at first.
 pub(crate) const NO_CHAIN: OpenChain = OpenChain {
     place: [0; 22],
     step: 0,
@@ -25,7 +25,7 @@ pub(crate) const NO_CHAIN: OpenChain = OpenChain {
     value: [0; 32],
 };
 
-/// What each text of chain `i` of leaf `q` begins with. Texts of other kinds have a mark in the place of `i`.
+/// Returns what each text of chain `i` of leaf `q` begins with. Texts of other kinds have a mark in the place of `i`.
 pub(crate) fn chain_place(id: &[u8; 16], q: u32, i: u16) -> [u8; 22]
     ensures { result ≡ chain_place id.now q i }
 {

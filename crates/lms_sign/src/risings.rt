@@ -48,7 +48,7 @@ fn node_text(id: &[u8; 16], r: u32, left: &[u8], right: &[u8]) -> [u8; 86]
     text
 }
 
-/// The hash of each leaf.
+/// Returns the hash of each signature's leaf.
 fn leaf_hashes(group: &[Signed; 8], keys: &[[u8; 32]; 8]) -> [[u8; 32]; 8]
     requires group { (ots : OtsType) × ((n : ℕ) × IsGroup ots n group.now) }
     requires keys { (j : ℕ) (d : Signed) → j < 8 → slice_index_or keys.now j [] ≡ key_of (slice_index_or group.now j d) }
@@ -62,7 +62,7 @@ fn leaf_hashes(group: &[Signed; 8], keys: &[[u8; 32]; 8]) -> [[u8; 32]; 8]
     eight_digests(&texts, 54)
 }
 
-/// The text whose digest is the hash of the node `k + 1` levels above the leaf, of the one below it.
+/// Returns the text whose digest is the hash of the node `k + 1` levels above the leaf. `hash` is that of the node below it.
 fn text_above(signed: &Signed, k: usize, hash: &[u8; 32]) -> [u8; 86]
     requires form { HasForm signed.now.key.now signed.now.signature.now }
     requires level { k < height signed.now.key.now.lms_type }
@@ -80,7 +80,7 @@ fn text_above(signed: &Signed, k: usize, hash: &[u8; 32]) -> [u8; 86]
     }
 }
 
-/// What `text_above` has of each signature whose path goes on.
+/// Returns what `text_above` makes of each signature whose path goes on.
 fn texts_above(group: &[Signed; 8], k: usize, hashes: &[[u8; 32]; 8]) -> [[u8; 86]; 8]
     requires group { (ots : OtsType) × ((n : ℕ) × IsGroup ots n group.now) }
     requires hashes { (j : ℕ) (d : Signed) → j < 8 → slice_index_or hashes.now j [] ≡ hash_above (slice_index_or group.now j d) (min k (height (slice_index_or group.now j d).key.now.lms_type)) }
@@ -96,7 +96,7 @@ fn texts_above(group: &[Signed; 8], k: usize, hashes: &[[u8; 32]; 8]) -> [[u8; 8
     texts
 }
 
-/// The hashes of the nodes one level higher. A path that is at its end stays there.
+/// Returns the hashes of the nodes one level higher. A path that is at its end stays there.
 fn risen(group: &[Signed; 8], k: usize, hashes: &[[u8; 32]; 8]) -> [[u8; 32]; 8]
     requires group { (ots : OtsType) × ((n : ℕ) × IsGroup ots n group.now) }
     requires hashes { (j : ℕ) (d : Signed) → j < 8 → slice_index_or hashes.now j [] ≡ hash_above (slice_index_or group.now j d) (min k (height (slice_index_or group.now j d).key.now.lms_type)) }
@@ -122,7 +122,7 @@ fn tallest(group: &[Signed; 8]) -> usize
     most
 }
 
-/// Tc of each, of its one-time public key.
+/// Returns Tc, the root that each signature gives. `keys` are the one-time public keys.
 pub(crate) fn root_candidates(group: &[Signed; 8], keys: &[[u8; 32]; 8]) -> [[u8; 32]; 8]
     requires group { (ots : OtsType) × ((n : ℕ) × IsGroup ots n group.now) }
     requires keys { (j : ℕ) (d : Signed) → j < 8 → slice_index_or keys.now j [] ≡ key_of (slice_index_or group.now j d) }

@@ -1,4 +1,4 @@
-//! The chains of leaves whose keys are made of a seed (RFC 8554, sections 4.3 and 4.5, and appendix A).
+//! Chains of leaves whose keys are made of a seed (RFC 8554, sections 4.3 and 4.5, and appendix A).
 
 ghost use Rattle.std.specs.Prelude.{◌≡◌, ℕ, [], ◌+◌, ◌*◌, ◌^◌, ◌<◌, ◌≤◌, length, slice_index, slice_index_or, All};
 ghost use Rattle.lms_sign.specs.declared.open_chain.OpenChain.{OpenChain};
@@ -11,7 +11,7 @@ use crate::chain_runs::run_all;
 use crate::open_chain::{NO_CHAIN, OpenChain, chain_place, write_values};
 use crate::types::OtsType;
 
-/// Stands in the place of a step's number where the start of a chain is made of the seed.
+/// Stands in the place of a step's number when the start of a chain is made of the seed.
 const D_SECRET: u16 = 0xff;
 
 /// What the one-time keys of a tree are made of (appendix A).
@@ -23,7 +23,7 @@ pub(crate) struct OneTimeKeys {
     pub(crate) seed: [u8; 32],
 }
 
-/// Begins the chains again: each is at step 0, and takes as many steps as told for it.
+/// Begins the chains again. Each is at step 0, and chain `k` has `steps[k]` steps left.
 fn restart(chains: &mut [OpenChain], steps: &[u8])
     requires { length steps.now ≡ length chains.old }
     ensures len { length chains.new ≡ length chains.old }
@@ -57,9 +57,9 @@ impl OneTimeKeys {
         }
     }
 
-    /// Writes a value of each chain of `leaves` leaves from leaf `q` on, one leaf after the other: the value of chain `k`
-    /// of them all is `steps[k]` steps from its start. The chains of all these leaves run together.
-    // The array takes a frame of its own, and none of a caller's (docs/DECISIONS.md, "Large frames").
+    /// Writes a value of each chain of `leaves` leaves from leaf `q` on, one leaf after the other. Of all these chains, the
+    /// value of chain `k` is `steps[k]` steps from its start. The chains of all these leaves run together.
+    // It is not inlined, so that the array stands in its own frame and in no caller's (docs/DECISIONS.md, "Signatures").
     #[inline(never)]
     pub(crate) fn write_chain_values(
         &self,

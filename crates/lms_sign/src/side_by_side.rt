@@ -1,4 +1,4 @@
-//! What is hashed of eight signatures, side by side (RFC 8554, sections 4.6 and 5.4.2).
+//! The digests and the one-time public keys of eight signatures, side by side (RFC 8554, sections 4.6 and 5.4.2).
 
 ghost use Rattle.std.specs.Prelude.{◌≡◌, ℕ, [], ◌+◌, ◌*◌, ◌<◌, ◌≤◌, length, take, slice_index_or};
 ghost use Rattle.sha2.specs.Sha256.{sha256};
@@ -15,7 +15,8 @@ use crate::text::{hash_at, put, u32_at};
 use crate::types::OtsType;
 use sha256_lanes::eight_digests;
 
-/// The bytes of the longest text that is hashed side by side: that of K for W1, I, q and a mark before the ends of 265 chains.
+/// The length in bytes of the longest text that is hashed side by side. It is the text of K for W1: I, q and a mark, and then
+/// the ends of 265 chains.
 pub(crate) const ROOM: usize = 8502;
 
 /// Writes the text whose digest is Q.
@@ -30,7 +31,7 @@ fn put_message(out: &mut [u8], signed: &Signed)
     put(out, 54, signed.message);
 }
 
-/// Q of each.
+/// Returns Q, the digest that each signature signs.
 pub(crate) fn message_digests(
     room: &mut [[u8; ROOM]; 8],
     group: &[Signed; 8],
@@ -46,7 +47,7 @@ pub(crate) fn message_digests(
     eight_digests(room, 54 + len)
 }
 
-/// Writes the text whose digest is K, of the ends of the chains.
+/// Writes the text whose digest is K. It runs the signature's chains to their ends.
 fn put_key(out: &mut [u8], signed: &Signed, digest: &[u8; 32])
     requires form { HasForm signed.now.key.now signed.now.signature.now }
     requires room { 22 + 32 * chain_count signed.now.key.now.ots_type ≤ length out.old }
@@ -66,7 +67,7 @@ fn put_key(out: &mut [u8], signed: &Signed, digest: &[u8; 32])
     );
 }
 
-/// K of each.
+/// Returns K, the one-time public key that each signature gives.
 pub(crate) fn one_time_keys(
     room: &mut [[u8; ROOM]; 8],
     group: &[Signed; 8],

@@ -11,8 +11,8 @@ use crate::seed_chains::OneTimeKeys;
 use crate::text::put;
 use crate::types::OtsType;
 
-/// Writes the steps that a signature's chains take from their starts: the coefficients of `text`, the digest and its
-/// checksum.
+/// Writes how many steps each chain of a signature takes from its start. These are the coefficients of `text`, which is the
+/// digest and its checksum.
 fn write_steps(text: &[u8; 34], ots: OtsType, steps: &mut [u8])
     requires { length steps.old ≡ chain_count ots }
     ensures len { length steps.new ≡ chain_count ots }
@@ -35,7 +35,7 @@ fn put_hashes(out: &mut [u8], place: usize, hashes: &[[u8; 32]])
 }
 
 /// Writes what a signature has of the chains of leaf `q`, from a place on. `text` is the digest and its checksum.
-// The arrays take a frame of its own, and none of a caller's (docs/DECISIONS.md, "Large frames").
+// It is not inlined, so that the arrays stand in its own frame and in no caller's (docs/DECISIONS.md, "Signatures").
 #[inline(never)]
 pub(crate) fn put_chain_values(
     out: &mut [u8],
@@ -57,7 +57,7 @@ pub(crate) fn put_chain_values(
     put_hashes(out, place, values);
 }
 
-/// The other child of the same node.
+/// Returns the other child of the same node.
 fn sibling(r: u32) -> u32
     ensures { result ≡ sibling r }
 {

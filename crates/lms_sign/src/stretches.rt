@@ -1,4 +1,5 @@
-//! Long chains in stretches: their steps, one chain's after another's, cut into as many equal stretches as there are lanes.
+//! Long chains, run in stretches. Their steps, one chain's after another's, are cut into as many equal stretches as there are
+//! lanes.
 
 ghost use Rattle.std.specs.Prelude.{◌≡◌, ℕ, ◌*◌, ◌<◌, ◌≤◌, length, slice_index, slice_index_or, All};
 ghost use Rattle.lms_sign.specs.declared.open_chain.OpenChain.{OpenChain};
@@ -9,11 +10,11 @@ use crate::chain_lanes::{LANES, run_lanes};
 use crate::chain_order::MOST_CHAINS;
 use crate::open_chain::OpenChain;
 
-/// The steps that long chains have left, on average.
+/// Chains are long if they have more than this number of steps left on average.
 const LONG: u32 = 64;
 
-/// What is left of a lane's stretch: its chain, the steps that the lane takes of it, and those that it takes of the chains
-/// behind it.
+/// What is left of a lane's stretch: its chain, the number of steps that the lane takes of it, and of those that it takes of the
+/// chains behind it.
 #[derive(Clone, Copy)]
 struct Stretch {
     chain: u16,
@@ -22,7 +23,7 @@ struct Stretch {
 }
 
 impl Stretch {
-    /// Whether the lane is at the stretch's end.
+    /// Returns whether the lane is at the stretch's end.
     fn is_done(&self) -> bool {
         self.steps == 0 && self.rest == 0
     }
@@ -36,7 +37,7 @@ impl Stretch {
         left.min(self.steps.min(255) as u8)
     }
 
-    /// The stretch `count` steps on: where it is done with its chain, the next one comes.
+    /// Returns the stretch `count` steps on. If it is done with its chain, the next one comes.
     fn moved(self, chains: &[OpenChain], count: u8) -> Stretch
         requires chain { self.chain < length chains.now }
         requires most { length chains.now ≤ MOST_CHAINS }
@@ -74,8 +75,8 @@ fn steps_left(chains: &[OpenChain]) -> u32
     steps
 }
 
-/// The stretches of `size` steps, one for each lane. Where two of them share a chain, the later one has its first steps: its
-/// lane takes them at once, and the other lane takes the rest at the end.
+/// Returns the stretches of `size` steps, one for each lane. If two of them share a chain, the later one has its first steps.
+/// Its lane takes them at once, and the other lane takes the rest at the end.
 fn cut(chains: &[OpenChain], size: u32) -> [Stretch; LANES]
     requires some { 0 < length chains.now }
     requires most { length chains.now ≤ MOST_CHAINS }
@@ -106,7 +107,7 @@ fn cut(chains: &[OpenChain], size: u32) -> [Stretch; LANES]
     stretches
 }
 
-/// The lane that is the first to leave its chain, of those that are not done.
+/// Returns which lane is the first to leave its chain, of those that are not done.
 fn first_to_leave(stretches: &[Stretch; LANES]) -> usize
     ensures { result < 8 }
 {
@@ -120,7 +121,7 @@ fn first_to_leave(stretches: &[Stretch; LANES]) -> usize
     first
 }
 
-/// The chains that the lanes run `count` steps on. Where one has fewer steps to go, it stands in for lane `first`.
+/// Returns the chains that the lanes run `count` steps on. If a lane has fewer steps to go, it gets the chain of lane `first`.
 fn lanes(
     chains: &[OpenChain],
     stretches: &[Stretch; LANES],
@@ -143,7 +144,7 @@ fn lanes(
     numbers
 }
 
-/// Runs the chains in the lanes until the first leaves its chain, and tells how many steps.
+/// Runs the chains in the lanes until the first leaves its chain, and returns the number of steps.
 fn run_to_next(chains: &mut [OpenChain], stretches: &[Stretch; LANES]) -> u8
     requires chains { (l : ℕ) (d : Stretch) → l < 8 → (slice_index_or stretches.now l d).chain < length chains.old }
     requires room { All HasRoom chains.old }
@@ -170,9 +171,9 @@ fn move_on(stretches: &mut [Stretch; LANES], chains: &[OpenChain], count: u8)
     }
 }
 
-/// Runs the chains by stretches of `size` steps, each lane its own. Where `size` is at least an eighth of all steps and no
-/// chain has more of them left, all chains are at their ends afterwards, and no lane has waited but at the end. No contract
-/// says so: what stretches leave is run longest first.
+/// Runs the chains by stretches of `size` steps, one for each lane. Suppose that `size` is at least an eighth of all steps, and
+/// that no chain has more of them left. Then all chains are at their ends afterwards, and no lane has waited but at the end. No
+/// contract says so. What stretches leave is run longest first.
 fn run_stretches(chains: &mut [OpenChain], size: u32)
     requires some { 0 < length chains.old }
     requires most { length chains.old ≤ MOST_CHAINS }
@@ -187,8 +188,8 @@ fn run_stretches(chains: &mut [OpenChain], size: u32)
     }
 }
 
-/// Runs chains that have many steps left, as those of W8, by stretches of an eighth of all steps. Short chains stay where they
-/// are: they leave their lanes so often that a cut costs more than it saves.
+/// Runs chains that have many steps left, as those of W8 do, by stretches of an eighth of all steps. Short chains stay where
+/// they are. They leave their lanes so often that a cut costs more than it saves.
 pub(crate) fn run_long_chains(chains: &mut [OpenChain])
     requires most { length chains.old ≤ MOST_CHAINS }
     requires room { All HasRoom chains.old }

@@ -32,21 +32,21 @@ impl Model for ByteString {
 }
 
 impl ByteString {
-    /// The bytes of the vector. It takes no memory.
+    /// Makes a byte string of the vector's bytes. It takes no memory.
     pub fn from_vec(bytes: Vec<u8>) -> ByteString
         ensures { result ≡ bytes.items }
     {
         ByteString { bytes }
     }
 
-    /// The bytes as a vector. It takes no memory.
+    /// Returns the bytes as a vector. It takes no memory.
     pub fn into_vec(self) -> Vec<u8>
         ensures { result.items ≡ self }
     {
         self.bytes
     }
 
-    /// A copy of the bytes.
+    /// Copies the bytes into a byte string. Returns `Memory` if memory runs out.
     pub fn from_slice(alloc: Global, bytes: &[u8]) -> Result<ByteString, Memory>
         ensures { IfOk result (λ b. b ≡ bytes.now) }
     {
@@ -55,28 +55,28 @@ impl ByteString {
         })
     }
 
-    /// A copy.
+    /// Copies the byte string. Returns `Memory` if memory runs out.
     pub fn try_clone(&self, alloc: Global) -> Result<ByteString, Memory>
         ensures { IfOk result (λ b. b ≡ self.now) }
     {
         ByteString::from_slice(alloc, self.as_slice())
     }
 
-    /// The bytes.
+    /// Returns the bytes.
     pub fn as_slice(&self) -> &[u8]
         ensures { result.now ≡ self.now }
     {
         self.bytes.as_slice()
     }
 
-    /// How many bytes there are.
+    /// Returns how many bytes there are.
     pub fn len(&self) -> usize
         ensures { result ≡ length self.now }
     {
         self.bytes.len()
     }
 
-    /// Whether there is no byte.
+    /// Returns whether there is no byte.
     pub fn is_empty(&self) -> bool
         ensures { IsTrue result ↔ (self.now ≡ []) }
     {

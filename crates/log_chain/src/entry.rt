@@ -15,16 +15,16 @@ use std::alloc::Global;
 /// An entry of a log.
 #[derive(Debug, Drop, PartialEq, Eq)]
 pub struct Entry {
-    /// Its number. The numbers of a log rise strictly; there may be gaps.
+    /// Its number. The numbers of a log rise strictly, and may have gaps.
     pub seq: u64,
-    /// What its content is, as [`crate::kind`] tells. The chain takes any byte.
+    /// Its kind, which says what the content is: see [`crate::kind`]. The chain accepts any byte.
     pub kind: u8,
     /// Its content.
     pub content: ByteString,
 }
 
 impl Entry {
-    /// A copy.
+    /// Copies the entry. Returns `Memory` if memory runs out.
     pub fn try_clone(&self, alloc: Global) -> Result<Entry, Memory>
         ensures { IfOk result (λ e. e ≡ self.now) }
     {
@@ -37,7 +37,7 @@ impl Entry {
     }
 }
 
-/// Writes the bytes into a text from a place on.
+/// Writes the bytes into a text, from a place on.
 fn put(text: &mut [u8], place: usize, bytes: &[u8])
     requires { place + length bytes.now ≤ length text.old }
     ensures { take (place + length bytes.now) text.new ≡ take place text.old ++ bytes.now }
@@ -45,7 +45,7 @@ fn put(text: &mut [u8], place: usize, bytes: &[u8])
     text[place..place + bytes.len()].copy_from_slice(bytes);
 }
 
-/// The text that is hashed for an entry, of whose content only the digest is taken.
+/// Returns the bytes that are hashed for an entry. Of the entry's content they have only the digest.
 pub(crate) fn hashed_text(prev: Hash, seq: u64, kind: u8, digest: [u8; 32]) -> [u8; 73]
     ensures { result ≡ prev ++ to_be_bytes w64 seq ++ kind ∷ digest }
 {
@@ -57,7 +57,7 @@ pub(crate) fn hashed_text(prev: Hash, seq: u64, kind: u8, digest: [u8; 32]) -> [
     text
 }
 
-/// The hash of an entry whose content has this SHA-256 digest, after the hash before it.
+/// Returns an entry's hash, given the hash before it and the SHA-256 digest of its content.
 #[tactic(auto, unfolding(crate::specs::Chain::entry_text))]
 fn hash_of_digest(prev: Hash, seq: u64, kind: u8, digest: [u8; 32]) -> Hash
     ensures { (content : List ℕ) → digest ≡ sha256 content → result ≡ entry_hash prev (record { seq = seq; kind = kind; content = content }) }
@@ -65,7 +65,7 @@ fn hash_of_digest(prev: Hash, seq: u64, kind: u8, digest: [u8; 32]) -> Hash
     Hash(Sha256::digest(hashed_text(prev, seq, kind, digest)))
 }
 
-/// The digest of the pieces, one behind the other.
+/// Returns the digest of the pieces, one after the other.
 fn digest_of_pieces(pieces: &[&[u8]]) -> [u8; 32]
     ensures { result ≡ sha256 (joined pieces.now) }
 {
@@ -76,15 +76,15 @@ fn digest_of_pieces(pieces: &[&[u8]]) -> [u8; 32]
     hasher.finalize()
 }
 
-/// The hash of an entry whose content is these pieces, one behind the other, after the hash before it. So whoever has a content
-/// in pieces need not put it together. It takes no memory.
+/// Returns an entry's hash, given the hash before it. The entry's content is the pieces, one after the other, which need not be put
+/// together for this. It takes no memory.
 pub fn entry_hash_of_pieces(prev: Hash, seq: u64, kind: u8, pieces: &[&[u8]]) -> Hash
     ensures { result ≡ entry_hash prev (record { seq = seq; kind = kind; content = joined pieces.now }) }
 {
     hash_of_digest(prev, seq, kind, digest_of_pieces(pieces))
 }
 
-/// The hash of an entry after the hash before it: one digest of its content, and one of 73 bytes. It takes no memory.
+/// Returns an entry's hash, given the hash before it. It computes one digest of the content, and one of 73 bytes. It takes no memory.
 pub fn entry_hash(prev: Hash, entry: &Entry) -> Hash
     ensures { result ≡ entry_hash prev entry.now }
 {
@@ -92,7 +92,8 @@ pub fn entry_hash(prev: Hash, entry: &Entry) -> Hash
     hash_of_digest(prev, entry.seq, entry.kind, digest)
 }
 
-/// The hash of the last entry after the hash `prev` before the first, or `prev` where there is none. It takes no memory.
+/// Returns the hash of the last entry, given the hash `prev` before the first. Returns `prev` if there is no entry. It takes no
+/// memory.
 pub fn chain_end(prev: Hash, entries: &[Entry]) -> Hash
     ensures { result ≡ chain_end prev entries.now }
 {

@@ -28,42 +28,42 @@ impl Model for EntryList {
 }
 
 impl EntryList {
-    /// The entries of the vector. It takes no memory.
+    /// Makes a list of the vector's entries. It takes no memory.
     pub fn from_vec(entries: Vec<Entry>) -> EntryList
         ensures { result ≡ entries.items }
     {
         EntryList { entries }
     }
 
-    /// The entries as a vector. It takes no memory.
+    /// Returns the entries as a vector. It takes no memory.
     pub fn into_vec(self) -> Vec<Entry>
         ensures { result.items ≡ self }
     {
         self.entries
     }
 
-    /// The entries.
+    /// Returns the entries.
     pub fn as_slice(&self) -> &[Entry]
         ensures { result.now ≡ self.now }
     {
         self.entries.as_slice()
     }
 
-    /// How many entries there are.
+    /// Returns how many entries there are.
     pub fn len(&self) -> usize
         ensures { result ≡ length self.now }
     {
         self.entries.len()
     }
 
-    /// Whether there is no entry.
+    /// Returns whether there is no entry.
     pub fn is_empty(&self) -> bool
         ensures { IsTrue result ↔ (self.now ≡ []) }
     {
         self.entries.is_empty()
     }
 
-    /// A copy of the entries.
+    /// Copies the entries into a list. Returns `Memory` if memory runs out.
     pub fn from_slice(alloc: Global, entries: &[Entry]) -> Result<EntryList, Memory>
         ensures { IfOk result (λ l. l ≡ entries.now) }
     {
@@ -71,7 +71,7 @@ impl EntryList {
         Ok(EntryList { entries })
     }
 
-    /// A copy.
+    /// Copies the list. Returns `Memory` if memory runs out.
     pub fn try_clone(&self, alloc: Global) -> Result<EntryList, Memory>
         ensures { IfOk result (λ l. l ≡ self.now) }
     {
@@ -79,7 +79,7 @@ impl EntryList {
     }
 }
 
-/// A copy of each entry, in order.
+/// Copies each entry, in order.
 fn copies(alloc: Global, entries: &[Entry]) -> Result<Vec<Entry>, Memory>
     ensures { IfOk result (λ v. v.items ≡ entries.now) }
 {

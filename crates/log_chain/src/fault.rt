@@ -13,13 +13,13 @@ pub enum FieldFault {
     /// 40: the bytes end within the field.
     #[error("the bytes end within a field")]
     Truncated,
-    /// 42: a length is above its limit. It is told before `Truncated` of the bytes that the length counts.
+    /// 42: a length is above its limit. It is reported before `Truncated` of the bytes that the length counts.
     #[error("a length is above its limit")]
     TooLong,
 }
 
 impl FieldFault {
-    /// The number of the refusal.
+    /// Returns the number of the refusal.
     pub fn number(&self) -> u8
         ensures { result ≡ field_number self.now }
     {
@@ -29,7 +29,7 @@ impl FieldFault {
         }
     }
 
-    /// The name of the refusal, which is that of its variant.
+    /// Returns the name of the refusal, which is that of its variant.
     pub fn name(&self) -> &'static str
         ensures { result.now ≡ field_name self.now }
     {
@@ -55,7 +55,7 @@ pub enum AppendFault {
 }
 
 impl AppendFault {
-    /// The number of the refusal.
+    /// Returns the number of the refusal.
     pub fn number(&self) -> u8
         ensures { result ≡ append_number self.now }
     {
@@ -66,7 +66,7 @@ impl AppendFault {
         }
     }
 
-    /// The name of the refusal, which is that of its variant.
+    /// Returns the name of the refusal, which is that of its variant.
     pub fn name(&self) -> &'static str
         ensures { result.now ≡ append_name self.now }
     {
@@ -81,8 +81,8 @@ impl AppendFault {
 /// Why there is no segment.
 #[derive(Clone, Copy, Debug, PartialEq, Eq, Error)]
 pub enum SegmentFault {
-    /// 12: no entry has one of the two numbers, or the first is above the second.
-    #[error("no entries stand from the one number to the other")]
+    /// 12: one of the two numbers is no entry's, or the first is above the second.
+    #[error("the log has no entry with one of the two numbers, or the first number is above the second")]
     NoEntry,
     /// 13: there are more than [`crate::MOST_ENTRIES`] entries.
     #[error("the segment has too many entries")]
@@ -93,7 +93,7 @@ pub enum SegmentFault {
 }
 
 impl SegmentFault {
-    /// The number of the refusal.
+    /// Returns the number of the refusal.
     pub fn number(&self) -> u8
         ensures { result ≡ segment_number self.now }
     {
@@ -104,7 +104,7 @@ impl SegmentFault {
         }
     }
 
-    /// The name of the refusal, which is that of its variant.
+    /// Returns the name of the refusal, which is that of its variant.
     pub fn name(&self) -> &'static str
         ensures { result.now ≡ segment_name self.now }
     {

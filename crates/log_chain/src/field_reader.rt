@@ -1,4 +1,4 @@
-//! Reading fields from the front of a text. No call here takes memory.
+//! Reading fields from the front of bytes. No call here takes memory.
 
 ghost use Rattle.std.specs.Prelude.{◌≡◌, [], IfOk, length};
 ghost use Rattle.std.specs.Int.{w8, w32, w64};
@@ -9,9 +9,9 @@ use crate::fault::FieldFault;
 use crate::hash::Hash;
 use std::marker::Model;
 
-/// Reads the fields of a text from its front. A contract sees the bytes that are left.
+/// A reader of fields, from the front of bytes. A contract sees the bytes that are left.
 ///
-/// A refusal leaves the place where it was, a length's four bytes included.
+/// A refused call takes nothing, not even the four bytes of a length.
 #[derive(Debug, Drop)]
 pub struct FieldReader<'a> {
     bytes: &'a [u8],
@@ -26,28 +26,28 @@ impl<'a> Model for FieldReader<'a> {
 }
 
 impl<'a> FieldReader<'a> {
-    /// A reader at the front of the bytes.
+    /// Makes a reader at the front of the bytes.
     pub fn new(bytes: &'a [u8]) -> FieldReader<'a>
         ensures { result ≡ bytes.now }
     {
         FieldReader { bytes }
     }
 
-    /// How many bytes are left.
+    /// Returns how many bytes are left.
     pub fn left(&self) -> usize
         ensures { result ≡ length self.now }
     {
         self.bytes.len()
     }
 
-    /// The bytes that are left. They stay left.
+    /// Returns the bytes that are left, and does not take them.
     pub fn as_slice(&self) -> &'a [u8]
         ensures { result.now ≡ self.now }
     {
         self.bytes
     }
 
-    /// All that is left; nothing is left after it.
+    /// Takes all bytes that are left. Nothing is left after it.
     pub fn rest(&mut self) -> &'a [u8]
         ensures all { result.now ≡ self.old }
         ensures none { self.new ≡ [] }
@@ -57,7 +57,7 @@ impl<'a> FieldReader<'a> {
         front
     }
 
-    /// The next `len` bytes; `Truncated` where fewer are left.
+    /// Takes the next `len` bytes. Returns `Truncated` if fewer are left.
     pub fn take(&mut self, len: usize) -> Result<&'a [u8], FieldFault>
         ensures reads { Reads (λ x. x.now) result self.old self.new (take_at len self.old) }
         ensures len { IfOk result (λ x. length x.now ≡ len) }
@@ -70,7 +70,7 @@ impl<'a> FieldReader<'a> {
         Ok(front)
     }
 
-    /// A number of one byte; `Truncated` where none is left.
+    /// Reads a number of one byte. Returns `Truncated` if none is left.
     pub fn u8(&mut self) -> Result<u8, FieldFault>
         ensures { Reads (λ x. x) result self.old self.new (number_at w8 self.old) }
     {
@@ -78,7 +78,7 @@ impl<'a> FieldReader<'a> {
         Ok(front[0])
     }
 
-    /// A number of four bytes; `Truncated` where fewer are left.
+    /// Reads a big-endian number of four bytes. Returns `Truncated` if fewer are left.
     pub fn u32(&mut self) -> Result<u32, FieldFault>
         ensures { Reads (λ x. x) result self.old self.new (number_at w32 self.old) }
     {
@@ -86,7 +86,7 @@ impl<'a> FieldReader<'a> {
         Ok(u32::from_be_bytes([front[0], front[1], front[2], front[3]]))
     }
 
-    /// A number of eight bytes; `Truncated` where fewer are left.
+    /// Reads a big-endian number of eight bytes. Returns `Truncated` if fewer are left.
     pub fn u64(&mut self) -> Result<u64, FieldFault>
         ensures { Reads (λ x. x) result self.old self.new (number_at w64 self.old) }
     {
@@ -96,7 +96,7 @@ impl<'a> FieldReader<'a> {
         ]))
     }
 
-    /// A hash of 32 bytes; `Truncated` where fewer are left.
+    /// Reads a hash of 32 bytes. Returns `Truncated` if fewer are left.
     pub fn hash(&mut self) -> Result<Hash, FieldFault>
         ensures { Reads (λ x. x) result self.old self.new (take_at 32 self.old) }
     {
@@ -106,8 +106,11 @@ impl<'a> FieldReader<'a> {
         Ok(Hash(hash))
     }
 
-    /// A length of four bytes, at most `max`, and as many bytes. The order of its faults: `Truncated` of the length,
-    /// `TooLong`, `Truncated` of the bytes.
+    /// Reads a length of four bytes, big-endian, and takes that many bytes. Its faults, in this order, are:
+    ///
+    /// - `Truncated` if fewer than four bytes are left,
+    /// - `TooLong` if the length is above `max`,
+    /// - `Truncated` if fewer bytes are left than the length says.
     pub fn bytes(&mut self, max: usize) -> Result<&'a [u8], FieldFault>
         ensures { Reads (λ x. x.now) result self.old self.new (bytes_at max self.old) }
     {

@@ -1,4 +1,4 @@
-//! Writing fields one behind the other.
+//! Writing fields, one after another.
 
 ghost use Rattle.std.specs.Prelude.{◌≡◌, ◌<◌, ◌^◌, [], ◌∷◌, IfOk, length, take};
 ghost use Rattle.std.specs.Int.{w32, w64, to_be_bytes};
@@ -9,9 +9,9 @@ use outcome::Memory;
 use std::alloc::Global;
 use std::marker::Model;
 
-/// Writes the fields of a text one behind the other. A contract sees the bytes that are written.
+/// A writer of fields, one after another. A contract sees the bytes that are written.
 ///
-/// The only refusal is want of memory; it leaves what was written as it was.
+/// The only refusal is `Memory`. It leaves what was written as it was.
 #[derive(Debug, Drop)]
 pub struct FieldWriter {
     bytes: Vec<u8>,
@@ -26,7 +26,7 @@ impl Model for FieldWriter {
 }
 
 impl FieldWriter {
-    /// A writer that has written nothing. It takes no memory.
+    /// Makes a writer that has written nothing. It takes no memory.
     pub fn new(alloc: Global) -> FieldWriter
         ensures { result ≡ [] }
     {
@@ -35,7 +35,7 @@ impl FieldWriter {
         }
     }
 
-    /// A writer that has written nothing, with room for so many bytes. Up to them no later call takes memory.
+    /// Makes a writer that has written nothing, with room for `capacity` bytes. Later calls take no memory up to that many bytes.
     pub fn with_capacity(alloc: Global, capacity: usize) -> Result<FieldWriter, Memory>
         ensures { IfOk result (λ w. w ≡ []) }
     {
@@ -44,21 +44,21 @@ impl FieldWriter {
         })
     }
 
-    /// How many bytes are written.
+    /// Returns how many bytes are written.
     pub fn written(&self) -> usize
         ensures { result ≡ length self.now }
     {
         self.bytes.len()
     }
 
-    /// Takes back what was written behind the first `len` bytes, so that a refused text leaves nothing of itself.
+    /// Takes back what was written after the first `len` bytes. So a text whose writing is refused can leave nothing of itself.
     pub fn truncate(&mut self, len: usize)
         ensures { self.new ≡ take len self.old }
     {
         self.bytes.truncate(len);
     }
 
-    /// A number of one byte.
+    /// Writes a number of one byte.
     pub fn u8(&mut self, value: u8) -> Result<(), Memory>
         ensures { Writes result self.old self.new (value ∷ []) }
     {
@@ -66,7 +66,7 @@ impl FieldWriter {
         Ok(())
     }
 
-    /// A number of four bytes.
+    /// Writes a big-endian number of four bytes.
     pub fn u32(&mut self, value: u32) -> Result<(), Memory>
         ensures { Writes result self.old self.new (to_be_bytes w32 value) }
     {
@@ -74,7 +74,7 @@ impl FieldWriter {
         Ok(())
     }
 
-    /// A number of eight bytes.
+    /// Writes a big-endian number of eight bytes.
     pub fn u64(&mut self, value: u64) -> Result<(), Memory>
         ensures { Writes result self.old self.new (to_be_bytes w64 value) }
     {
@@ -82,7 +82,7 @@ impl FieldWriter {
         Ok(())
     }
 
-    /// A hash of 32 bytes.
+    /// Writes a hash of 32 bytes.
     pub fn hash(&mut self, hash: Hash) -> Result<(), Memory>
         ensures { Writes result self.old self.new hash }
     {
@@ -90,7 +90,7 @@ impl FieldWriter {
         Ok(())
     }
 
-    /// A length of four bytes, and the bytes.
+    /// Writes the bytes' length in four bytes, big-endian, and then the bytes.
     pub fn bytes(&mut self, bytes: &[u8]) -> Result<(), Memory>
         requires { length bytes.now < 2 ^ 32 }
         ensures { Writes result self.old self.new (bytes_text bytes.now) }
@@ -103,7 +103,7 @@ impl FieldWriter {
         Ok(())
     }
 
-    /// Plain bytes, as of a text that goes to the end.
+    /// Writes the bytes without a length, as for a field that goes to the end.
     pub fn rest(&mut self, bytes: &[u8]) -> Result<(), Memory>
         ensures { Writes result self.old self.new bytes.now }
     {
@@ -111,7 +111,7 @@ impl FieldWriter {
         Ok(())
     }
 
-    /// What was written. It takes no memory.
+    /// Returns what was written. It takes no memory.
     pub fn finish(self) -> Vec<u8>
         ensures { result.items ≡ self }
     {

@@ -9,7 +9,7 @@ use crate::entry::Entry;
 use crate::fault::{AppendFault, SegmentFault};
 use crate::limits::{LONGEST_CONTENT, MOST_ENTRIES};
 
-/// The first fault that forbids an entry after others, if there is one.
+/// Returns the first fault that forbids an entry after others, if there is one.
 #[tactic(auto, unfolding(crate::specs::History::append_fault))]
 pub(crate) fn append_fault(entries: &[Entry], entry: &Entry) -> Option<AppendFault>
     ensures { result ≡ append_fault entries.now entry.now }
@@ -25,8 +25,8 @@ pub(crate) fn append_fault(entries: &[Entry], entry: &Entry) -> Option<AppendFau
     None
 }
 
-/// The place of the entry with the number, if there is one, in a list whose numbers rise. It is looked up by binary search, and
-/// takes no memory.
+/// Returns the place of the entry with the number `seq`, in a list whose numbers rise. Returns `None` if no entry has the number. It is
+/// a binary search, and takes no memory.
 pub fn place_of(entries: &[Entry], seq: u64) -> Option<usize>
     requires { Rising entries.now }
     ensures has { is_some result ≡ has_seq seq entries.now }
@@ -35,7 +35,8 @@ pub fn place_of(entries: &[Entry], seq: u64) -> Option<usize>
     entries.binary_search_by_key(&seq, |entry| entry.seq).ok()
 }
 
-/// The places between which the entries from one number to another stand, if both are numbers of entries.
+/// Returns the places at which the entries from one number to another begin and end. Returns `None` if one of the numbers is no
+/// entry's, or the first is above the second.
 fn cut_of(entries: &[Entry], from: u64, to: u64) -> Option<(usize, usize)>
     requires { Rising entries.now }
     ensures ends { is_some result ≡ are_ends from to entries.now }
@@ -49,7 +50,7 @@ fn cut_of(entries: &[Entry], from: u64, to: u64) -> Option<(usize, usize)>
     Some((start, last + 1))
 }
 
-/// The places between which the entries of a segment stand, or why there is none.
+/// Returns the places at which the entries of a segment begin and end, or why there is no segment.
 #[tactic(auto, using(crate::proofs::Finds::cut_len), unfolding(crate::specs::History::segment_fault))]
 pub(crate) fn segment_places(
     entries: &[Entry],

@@ -20,7 +20,7 @@ impl Model for Hash {
     ghost inverse = { λ b. record { 0 = b } };
 }
 
-/// 64 lower-case hexadecimal digits.
+/// Writes 64 lower-case hexadecimal digits.
 impl fmt::Display for Hash {
     ghost use Rattle.std.specs.Prelude.{Some};
     ghost use Rattle.hex.specs.Hex.{encode_lower};
@@ -45,7 +45,7 @@ const BASE: [u8; 32] = [
     0x27, 0xae, 0x41, 0xe4, 0x64, 0x9b, 0x93, 0x4c, 0xa4, 0x95, 0x99, 0x1b, 0x78, 0x52, 0xb8, 0x55,
 ];
 
-/// The hash before a log's first entry: SHA-256 of the empty text. It is a constant: nothing is hashed.
+/// Returns the hash before a log's first entry, which is SHA-256 of the empty text. It is a constant: nothing is hashed.
 pub fn base_hash() -> Hash
     ensures { result ≡ base }
 {

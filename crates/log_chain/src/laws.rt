@@ -13,37 +13,37 @@ use crate::entry::Entry;
 use crate::entry_list::EntryList;
 use crate::hash::Hash;
 
-/// The chain of a list that is cut in two goes on from the end of the first part.
+/// If a list is cut in two, the chain of the second part goes on from the end of the first.
 pub fn chains_go_on()
     ensures { ChainsGoOn }
 {}
 
-/// One entry more hashes that entry after the end.
+/// With one entry more, the end of the chain is that entry's hash after the end before.
 pub fn chains_grow()
     ensures { ChainsGrow }
 {}
 
-/// A hash has 32 bytes, and each entry has one.
+/// An entry's hash has 32 bytes. So has the end of a chain, if the hash before its first entry has. Each entry has one hash.
 pub fn hashes_are_whole()
     ensures { HashesAreWhole }
 {}
 
-/// Equal lists after equal hashes have equal ends.
+/// The chains of equal lists after equal hashes have equal ends.
 pub fn equal_lists_end_alike()
     ensures { EqualListsEndAlike }
 {}
 
-/// The numbers of a list rise exactly where each is below every later one.
+/// The numbers of a list rise exactly if each is below every later one.
 pub fn rises_by_pairs()
     ensures { RisesByPairs }
 {}
 
-/// Each part of a list whose numbers rise has numbers that rise.
+/// If a list whose numbers rise is cut in two, the numbers of both parts rise.
 pub fn parts_rise()
     ensures { PartsRise }
 {}
 
-/// Numbers that rise still rise with one entry more whose number is above the last one.
+/// Numbers that rise still rise with one entry more, if its number is above the last one.
 pub fn rising_lists_grow()
     ensures { RisingListsGrow }
 {}
@@ -53,49 +53,50 @@ pub fn fields_read_back()
     ensures { FieldsReadBack }
 {}
 
-/// Equal texts that are hashed for entries are of equal numbers, kinds, digests of contents and hashes before.
+/// If the texts that are hashed for two entries are equal, so are the entries' numbers, kinds and content digests, and the hashes
+/// before them. This needs hashes of 32 bytes and numbers below 2^64.
 pub fn entry_texts_have_one_reading()
     ensures { EntryTextsHaveOneReading }
 {}
 
-/// `Writes` lets nothing stand behind the old text but what a call writes.
+/// `Writes` says that what a call writes comes after the old text, and nothing else. After a refusal the old text stays.
 pub fn writes_as_expected<A, E>()
     ensures { WritesAsExpected A E }
 {}
 
-/// `IsBytesOf`, `IsBytesUpTo` and `IsListUpTo` let no longer text or list pass, and no part that does not fit.
+/// `IsBytesOf`, `IsBytesUpTo` and `IsListUpTo` hold exactly if each element fits, and the count is as they say.
 pub fn spelled_parts_fit()
     ensures { SpelledPartsFit }
 {}
 
-/// `==` of hashes is true exactly of the same bytes.
+/// `==` of two hashes is true exactly if their bytes are the same.
 pub fn hashes_are_equal_by_bytes()
     ensures { TellsEqual (List ℕ) ⟦<Hash as PartialEq>⟧.eq }
 {}
 
-/// `==` of byte strings is true exactly of the same bytes.
+/// `==` of two byte strings is true exactly if their bytes are the same.
 pub fn byte_strings_are_equal_by_bytes()
     ensures { TellsEqual (List ℕ) ⟦<ByteString as PartialEq>⟧.eq }
 {}
 
-/// `==` of entries is true exactly where number, kind and content are the same.
+/// `==` of two entries is true exactly if their numbers, kinds and contents are the same.
 pub fn entries_are_equal_by_fields()
     ensures { TellsEqual EntryValue ⟦<Entry as PartialEq>⟧.eq }
 {}
 
-/// `==` of lists of entries is true exactly of the same entries in the same order.
+/// `==` of two lists is true exactly if they have the same entries in the same order.
 pub fn entry_lists_are_equal_by_entries()
     ensures { TellsEqual (List EntryValue) ⟦<EntryList as PartialEq>⟧.eq }
 {}
 
-/// A hash has 32 bytes: what is known of the range of its type, for a prover who knows only a value behind a reference.
+/// A hash has 32 bytes, each below 256. A proof needs this range of the type if it knows only a value behind a reference.
 pub fn hash_fits(hash: Hash)
     ensures { IsBytesOf 32 hash }
 {
     let _bytes = hash.0;
 }
 
-/// Bytes are below 256, for a prover who knows only a slice.
+/// The bytes of a slice are below 256. A proof needs this range of the type if it knows only the slice.
 pub fn bytes_fit(bytes: &[u8])
     ensures { IsBytes bytes.now }
 {}

@@ -1,10 +1,10 @@
 //! The fields of the binary formats, the chain of hashes of a log, and logs that keep it (PeerReview, SOSP 2007).
 //!
-//! - `FieldReader` reads a field as `specs/Fields.antt` says, and a refusal leaves its place. `FieldWriter` writes the
-//!   fields' texts one behind the other. `proofs/Codec.antt` and the files beside it put both together for formats.
-//! - `entry_hash` and `chain_end` are those of `specs/Chain.antt`; `laws` has what follows of the definitions alone.
-//! - `SecureHistory` keeps each entry's hash, takes only numbers that rise, and cuts segments. `place_of` looks an entry's number
-//!   up among numbers that rise.
+//! - `FieldReader` reads a field as `specs/Fields.antt` says. A refusal leaves its place unchanged. `FieldWriter` writes fields one
+//!   after another. `proofs/Codec.antt` and the files beside it join the two for whole formats.
+//! - `entry_hash` and `chain_end` compute the definitions of `specs/Chain.antt`. `laws` has what follows from the definitions alone.
+//! - `SecureHistory` keeps each entry's hash, accepts only numbers that rise, and cuts segments. `place_of` finds an entry by its
+//!   number in a list whose numbers rise.
 #![tactic(auto)]
 
 pub use byte_string::ByteString;

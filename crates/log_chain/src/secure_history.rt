@@ -1,4 +1,4 @@
-//! Secure histories.
+//! Logs that only grow, with the hash of each entry.
 
 ghost use Rattle.std.specs.Prelude.{◌≡◌, ◌≢◌, ◌↔◌, ◌<◌, ◌≤◌, [], Err, IfErr, IfOk, IsErrAnd, IsOk, IsTrue, None, Ok, OnErr, OnOk, length, take};
 ghost use Rattle.outcome.specs.Outcome.{Fails, Gives};
@@ -45,7 +45,7 @@ impl Model for SecureHistory {
     ghost invariant = { IsKept };
 }
 
-/// Tells how many entries there are, and for how many more there is room; no entry is shown.
+/// Shows how many entries there are, and for how many more there is room. It shows no entry.
 impl fmt::Debug for SecureHistory {
     fn fmt<W: fmt::Write>(&self, f: &mut fmt::Formatter<W>) -> fmt::Result {
         f.debug_struct("SecureHistory")
@@ -55,16 +55,18 @@ impl fmt::Debug for SecureHistory {
     }
 }
 
-/// A refused entry: why, and the content that was to be its. It is shown as the fault's line.
+/// A refused entry: the fault, and the entry's content. It is displayed as the fault is.
 #[derive(Debug, Drop, Error)]
 #[error("{fault}")]
 pub struct AppendRefused {
+    /// Why the entry is refused.
     pub fault: AppendFault,
+    /// The content, which is given back.
     pub content: ByteString,
 }
 
 impl SecureHistory {
-    /// A history with no entry, after the base hash. It takes no memory.
+    /// Makes a history with no entry, after the base hash. It takes no memory.
     pub fn new(alloc: Global) -> SecureHistory
         ensures { result ≡ record { prev = base; entries = []; room = 0 } }
     {
@@ -77,7 +79,8 @@ impl SecureHistory {
         }
     }
 
-    /// Makes room, so that the next `n` appends find memory.
+    /// Makes room for `n` more entries, so that the next `n` appends find memory. It succeeds if that room is there already. If memory
+    /// runs out, it returns `Memory` and the history is as it was.
     pub fn reserve(&mut self, n: usize) -> Result<(), Memory>
         ensures ok { OnOk result (self.new ≡ roomy self.old n) }
         ensures err { OnErr result (self.new ≡ self.old) }
@@ -91,29 +94,29 @@ impl SecureHistory {
         Ok(())
     }
 
-    /// For how many more entries there is room for certain. Where it is above 0, an append does not run out of
-    /// memory, and lowers it by one.
+    /// Returns for how many more entries there is certainly room. If it is above 0, an append does not run out of memory. Each entry
+    /// that is added lowers it by one.
     pub fn spare(&self) -> usize
         ensures { result ≡ self.now.room }
     {
         self.room
     }
 
-    /// How many entries there are.
+    /// Returns how many entries there are.
     pub fn len(&self) -> usize
         ensures { result ≡ length self.now.entries }
     {
         self.entries.len()
     }
 
-    /// Whether there is no entry.
+    /// Returns whether there is no entry.
     pub fn is_empty(&self) -> bool
         ensures { IsTrue result ↔ (self.now.entries ≡ []) }
     {
         self.entries.is_empty()
     }
 
-    /// The entries, whose numbers rise.
+    /// Returns the entries. Their numbers rise.
     pub fn entries(&self) -> &[Entry]
         ensures entries { result.now ≡ self.now.entries }
         ensures rising { Rising self.now.entries }
@@ -121,7 +124,7 @@ impl SecureHistory {
         self.entries.as_slice()
     }
 
-    /// The last entry's number and hash.
+    /// Returns the last entry's number and hash, or `None` if there is no entry.
     pub fn last(&self) -> Option<(u64, Hash)>
         ensures { result ≡ last_stamp self.now }
     {
@@ -129,8 +132,7 @@ impl SecureHistory {
         Some((last.seq, self.end()))
     }
 
-    /// The hash of the entry with the number, if there is one. It is looked up by binary search, and no hash is
-    /// computed.
+    /// Returns the hash of the entry with the number `seq`, or `None` if no entry has it. It is a binary search, and computes no hash.
     pub fn hash_at(&self, seq: u64) -> Option<Hash>
         ensures { result ≡ hash_at self.now seq }
     {
@@ -138,12 +140,15 @@ impl SecureHistory {
         Some(self.hash_before(place + 1))
     }
 
-    /// The hash before the entry numbered `from`, and copies of the entries from there up to the one numbered `to`.
-    /// They are looked up by binary search, and no hash is computed. Refused, in this order, are numbers that are not
-    /// the first and the last of some entries, more than [`crate::MOST_ENTRIES`] entries, and want of memory.
+    /// Returns the hash before the entry numbered `from`, and copies of the entries from there to the one numbered `to`. It looks them
+    /// up by binary search, and computes no hash. Its faults, in this order, are:
+    ///
+    /// - `NoEntry` if one of the two numbers is no entry's, or `from` is above `to`,
+    /// - `SegmentTooLong` if there are more than [`crate::MOST_ENTRIES`] entries,
+    /// - `Memory` if memory runs out.
     pub fn segment(&self, from: u64, to: u64) -> Result<(Hash, EntryList), SegmentFault>
         ensures given { Gives fault.Memory (λ x. x) result (segment_of self.now from to) }
-        // Why there is none is told, whether there is memory or not.
+        // Why there is no segment is reported, whether there is memory or not.
         ensures none { (e : SegmentFault) → segment_of self.now from to ≡ Err e → result ≡ Err e }
     {
         let (start, end) = segment_places(&self.entries, from, to)?;
@@ -151,16 +156,19 @@ impl SecureHistory {
         Ok((self.hash_before(start), entries))
     }
 
-    /// Adds an entry at the end, and gives its hash. Refused, in this order, are a number that is not above the last
-    /// entry's, a content of more than [`crate::LONGEST_CONTENT`] bytes, and want of memory. A refusal gives the content
-    /// back.
+    /// Adds an entry at the end, and returns its hash. A refusal gives the content back, and leaves the history as it was. The faults,
+    /// in this order, are:
+    ///
+    /// - `SeqNotRising` if the number is not above the last entry's,
+    /// - `ContentTooLong` if the content has more than [`crate::LONGEST_CONTENT`] bytes,
+    /// - `Memory` if memory runs out, which cannot happen if [`SecureHistory::spare`] is above 0.
     pub fn append(&mut self, seq: u64, kind: u8, content: ByteString) -> Result<Hash, AppendRefused>
         ensures appended { OnOk result (appended self.old (record { seq = seq; kind = kind; content = content }) ≡ Ok self.new) }
         ensures hash { IfOk result (λ hash. hash ≡ chain_end self.new.prev self.new.entries) }
 
-        // A refusal changes nothing. Where there is room, it is not for want of memory.
+        // The fault is the one that forbids the entry, unless memory ran out.
         ensures refused { IfErr result (λ r. Fails refusal.Memory r.fault (appended self.old (record { seq = seq; kind = kind; content = content }))) }
-        // What forbids the entry is told, whether there is memory or not.
+        // What forbids the entry is reported, whether there is memory or not.
         ensures forbidden { (e : AppendFault) → appended self.old (record { seq = seq; kind = kind; content = content }) ≡ Err e → IsErrAnd result (λ r. r.fault ≡ e) }
         ensures content { IfErr result (λ r. r.content ≡ content) }
         ensures unchanged { OnErr result (self.new ≡ self.old) }
@@ -195,7 +203,7 @@ impl SecureHistory {
         hash
     }
 
-    /// The hash before the entry at a place.
+    /// Returns the hash before the entry at a place.
     fn hash_before(&self, place: usize) -> Hash
         requires { place ≤ length self.now.entries }
         ensures { result ≡ chain_end self.now.prev (take place self.now.entries) }
@@ -206,7 +214,7 @@ impl SecureHistory {
         self.hashes[place - 1]
     }
 
-    /// The hash of the last entry, or the one before the first.
+    /// Returns the hash of the last entry, or the one before the first if there is none.
     fn end(&self) -> Hash
         ensures { result ≡ chain_end self.now.prev self.now.entries }
     {

@@ -1,4 +1,4 @@
-//! The steps at which a node asks the relay, and those that do nothing.
+//! The steps that send the relay a request, and those that do nothing.
 
 ghost use Rattle.std.specs.Prelude.{◌≡◌, ◌≤◌, IfOk, length};
 ghost use Rattle.mailbox.specs.UserWishes.{asking, fetching, leaving, silent, wished, writing};
@@ -13,7 +13,7 @@ use replay_verifier::{Output, OutputList, Step};
 use state_codec::{Coded, Text};
 use std::alloc::Global;
 
-/// A step that does nothing.
+/// Makes the step that does nothing.
 pub(crate) fn stay(alloc: Global, held: &Held) -> Result<Step<Held>, Memory>
     ensures { IfOk result (λ x. x ≡ silent held.now) }
 {
@@ -23,7 +23,7 @@ pub(crate) fn stay(alloc: Global, held: &Held) -> Result<Step<Held>, Memory>
     })
 }
 
-/// A step that sends the relay a request.
+/// Makes the step to this state that sends the relay a request.
 fn ask(alloc: Global, state: Held, request: Vec<u8>) -> Result<Step<Held>, Memory>
     ensures { IfOk result (λ x. x ≡ asking state request.items) }
 {
@@ -38,7 +38,7 @@ fn ask(alloc: Global, state: Held, request: Vec<u8>) -> Result<Step<Held>, Memor
     })
 }
 
-/// What the node holds, with another draft.
+/// Returns what the node holds, with another draft.
 fn with_draft(alloc: Global, held: &Held, draft: &[u8]) -> Result<Held, Memory>
     requires { length draft.now ≤ LONGEST_TEXT }
     ensures { IfOk result (λ x. x ≡ (record held.now { draft = draft.now })) }
@@ -50,7 +50,7 @@ fn with_draft(alloc: Global, held: &Held, draft: &[u8]) -> Result<Held, Memory>
     })
 }
 
-/// The step that fetches.
+/// Makes the step that fetches.
 fn fetch(alloc: Global, held: &Held) -> Result<Step<Held>, Memory>
     ensures { IfOk result (λ x. x ≡ fetching held.now) }
 {
@@ -58,7 +58,7 @@ fn fetch(alloc: Global, held: &Held) -> Result<Step<Held>, Memory>
     Ok(ask(alloc, held.try_clone(alloc)?, request)?)
 }
 
-/// The step that writes bytes behind the draft, where they fit.
+/// Makes the step that writes bytes to the end of the draft, if they fit. Else it does nothing.
 #[tactic(auto, unfolding(crate::specs::UserWishes::writing))]
 fn write(alloc: Global, held: &Held, bytes: &[u8]) -> Result<Step<Held>, Memory>
     ensures { IfOk result (λ x. x ≡ writing held.now bytes.now) }
@@ -74,7 +74,7 @@ fn write(alloc: Global, held: &Held, bytes: &[u8]) -> Result<Step<Held>, Memory>
     })
 }
 
-/// The step that leaves the draft for the node `to`.
+/// Makes the step that leaves the draft for the node `to`.
 #[tactic(auto, unfolding(crate::specs::UserWishes::leaving))]
 fn leave(alloc: Global, held: &Held, to: NodeId) -> Result<Step<Held>, Memory>
     ensures { IfOk result (λ x. x ≡ leaving held.now to) }
@@ -87,7 +87,7 @@ fn leave(alloc: Global, held: &Held, to: NodeId) -> Result<Step<Held>, Memory>
     Ok(ask(alloc, state, writer.finish())?)
 }
 
-/// The step at a moment that is a wish.
+/// Makes the step at a moment that is a wish.
 pub(crate) fn wish(alloc: Global, held: &Held, moment: u64) -> Result<Step<Held>, Memory>
     ensures { IfOk result (λ x. x ≡ wished held.now moment) }
 {

@@ -1,4 +1,4 @@
-//! What a node holds.
+//! The state of a node.
 
 ghost use Rattle.std.specs.Prelude.{◌≡◌, IfOk};
 ghost use Rattle.mailbox.specs.HeldMails.{IsHeld, IsMail, held_coding, mail_coding};
@@ -16,13 +16,13 @@ pub const LONGEST_TEXT: u32 = 256;
 /// The greatest number of mails that a node holds. All of them can be sent in one step.
 pub const MOST_MAILS: u32 = 16;
 
-/// How long a mail is held, in the unit of the timer's moments.
+/// The longest time for which a mail is held, in the unit of the timer's moments.
 pub const LIFETIME: u64 = 1000;
 
 /// The number of the relay.
 const RELAY_NUMBER: u32 = 1;
 
-/// The relay: the node at which each node's user leaves texts, and from which it fetches.
+/// The relay: the node at which the users of all nodes leave texts, and from which they fetch.
 pub const RELAY: NodeId = NodeId(RELAY_NUMBER);
 
 /// A text that one node left for another.
@@ -32,18 +32,18 @@ pub struct Mail {
     pub from: NodeId,
     /// The node that it is for.
     pub to: NodeId,
-    /// The clock when it came.
+    /// The clock of the node that holds it, when it came.
     pub at: u64,
     /// The text.
     pub text: Text<LONGEST_TEXT>,
 }
 
-/// What a node holds: its state.
+/// The state of a node: what it holds.
 #[derive(Drop)]
 pub struct Held {
-    /// The latest time that the timer told, and 0 before the first.
+    /// The latest time of the timer, or 0 if there was none yet.
     pub clock: u64,
-    /// What the node's user wrote and did not leave yet.
+    /// The text that the node's user wrote and has not left yet.
     pub draft: Text<LONGEST_TEXT>,
     /// The mails, the oldest first.
     pub mails: Listed<Mail, MOST_MAILS>,

@@ -1,4 +1,4 @@
-//! The program.
+//! The program of the mail relay.
 
 ghost use Rattle.mailbox.specs.HeldMails.{IsHeld};
 ghost use Rattle.mailbox.specs.MailboxLaws.{mailbox_lawful};
@@ -12,12 +12,17 @@ use replay_verifier::{Input, Program, Step};
 use state_codec::{Listed, Text, decoded, encoded};
 use std::alloc::Global;
 
-/// Holds texts that nodes leave for one another, and lets each node's user leave and fetch them at [`RELAY`](crate::RELAY).
+/// The program of the mail relay. It holds texts that nodes leave for one another. Each node's user leaves and fetches texts at
+/// [`RELAY`](crate::RELAY).
 ///
-/// A message of `D`, a node's number in four bytes and a text of at most [`LONGEST_TEXT`](crate::LONGEST_TEXT) bytes leaves the text for that node;
-/// the sender is told in one letter whether it is held ([`letters`](crate::letters)). A message of `F` alone fetches: each mail for the sender is sent
-/// to it and held no longer. Answers are taken in silence. The timer sets the clock, and what came more than [`LIFETIME`](crate::LIFETIME) before is
-/// held no longer; or it tells a wish of the node's user ([`wishes`](crate::wishes)).
+/// - A message of `D`, a node's number in four bytes and a text leaves the text for that node. The answer is one letter, which says
+///   whether the text is held ([`letters`](crate::letters)). It is not held if it has more than [`LONGEST_TEXT`](crate::LONGEST_TEXT)
+///   bytes, or if [`MOST_MAILS`](crate::MOST_MAILS) mails are held already.
+/// - A message of `F` alone fetches. Each mail for the sender is sent to it, and is held no longer.
+/// - An answer does nothing. Any other message is answered by `?`.
+/// - A moment of the timer below 2^63 is the time. It sets the clock, but never back. A mail that came more than
+///   [`LIFETIME`](crate::LIFETIME) before is held no longer.
+/// - Any other moment is a wish of the node's user ([`wishes`](crate::wishes)).
 #[derive(Clone, Copy, Debug)]
 pub struct Mailbox;
 

@@ -13,7 +13,7 @@ use replay_verifier::{Output, OutputList, Step};
 use state_codec::{Coded, Keeps, Text};
 use std::alloc::Global;
 
-/// A step that answers a node with a receipt.
+/// Makes the step to this state that answers a node with a receipt.
 fn answer(alloc: Global, state: Held, to: NodeId, letter: u8) -> Result<Step<Held>, Memory>
     ensures { IfOk result (λ x. x ≡ answered state to letter) }
 {
@@ -28,7 +28,7 @@ fn answer(alloc: Global, state: Held, to: NodeId, letter: u8) -> Result<Step<Hel
     })
 }
 
-/// The step on a text of `from` for the node `to`.
+/// Makes the step on a text of `from` for the node `to`.
 fn deliver(
     alloc: Global,
     held: &Held,
@@ -58,7 +58,7 @@ fn deliver(
     Ok(answer(alloc, state, from, STORED)?)
 }
 
-/// The mail, as it is sent on.
+/// Returns the message in which the mail is sent to its receiver.
 fn sent(alloc: Global, mail: &Mail) -> Result<Output, Memory>
     ensures { IfOk result (λ o. o ≡ sent mail.now) }
 {
@@ -72,14 +72,14 @@ fn sent(alloc: Global, mail: &Mail) -> Result<Output, Memory>
     })
 }
 
-/// Whether the mail is for the node.
+/// Returns whether the mail is for the node.
 fn is_for(node: NodeId, mail: &Mail) -> bool
     ensures { result ≡ is_for node mail.now }
 {
     mail.to == node
 }
 
-/// The mails for the node, as they are sent on.
+/// Returns the messages in which the mails for the node are sent to it.
 fn sent_to(alloc: Global, mails: &[Mail], to: NodeId) -> Result<Vec<Output>, Memory>
     ensures { IfOk result (λ v. v.items ≡ map sent (filter (is_for to) mails.now)) }
 {
@@ -92,7 +92,7 @@ fn sent_to(alloc: Global, mails: &[Mail], to: NodeId) -> Result<Vec<Output>, Mem
     Ok(outputs)
 }
 
-/// Keeps the mails for other nodes than this one.
+/// A filter, which keeps the mails for other nodes than this one.
 #[derive(Clone, Copy)]
 struct ForOthers {
     node: NodeId,
@@ -106,7 +106,7 @@ impl Keeps<Mail> for ForOthers {
     }
 }
 
-/// The step on a request of `from` for its mails.
+/// Makes the step on a request of `from` for its mails.
 fn fetch(alloc: Global, held: &Held, from: NodeId) -> Result<Step<Held>, Memory>
     ensures { IfOk result (λ x. x ≡ fetched held.now from) }
 {
@@ -122,7 +122,7 @@ fn fetch(alloc: Global, held: &Held, from: NodeId) -> Result<Step<Held>, Memory>
     })
 }
 
-/// The step on a message of `from`.
+/// Makes the step on a message of `from`.
 pub(crate) fn hear(
     alloc: Global,
     held: &Held,
@@ -142,7 +142,7 @@ pub(crate) fn hear(
     }
 }
 
-/// Keeps the mails that are not too old at this moment.
+/// A filter, which keeps the mails that are not too old at this time.
 #[derive(Clone, Copy)]
 struct Fresh {
     clock: u64,
@@ -156,7 +156,7 @@ impl Keeps<Mail> for Fresh {
     }
 }
 
-/// The step at a moment that is the time.
+/// Makes the step at a moment that is the time.
 fn pass(alloc: Global, held: &Held, moment: u64) -> Result<Step<Held>, Memory>
     ensures { IfOk result (λ x. x ≡ passed held.now moment) }
 {
@@ -172,7 +172,7 @@ fn pass(alloc: Global, held: &Held, moment: u64) -> Result<Step<Held>, Memory>
     })
 }
 
-/// The step at a moment of the timer.
+/// Makes the step at a moment of the timer.
 pub(crate) fn tick(alloc: Global, held: &Held, moment: u64) -> Result<Step<Held>, Memory>
     ensures { IfOk result (λ x. x ≡ ticked held.now moment) }
 {

@@ -1,12 +1,14 @@
-//! What a node's user wishes, as moments of its timer.
+//! The wishes of a node's user, as moments of its timer.
 //!
-//! A moment below 2^63 is the time. Of any other the first of its eight bytes, the highest, says what is wished:
+//! A moment below 2^63 is the time. Any other moment is a wish. It has eight bytes, and the first, which is the highest, says what is
+//! wished:
 //!
-//! - 0x80: to fetch what the relay holds for the node.
-//! - 0x81 to 0x87: to write the last byte of the moment, up to its last seven, behind the node's draft.
-//! - 0x88: to leave the draft at the relay, for the node whose number stands in the last four bytes.
+//! - 0x80: The node fetches what the relay holds for it.
+//! - 0x81 to 0x87: The node writes the last one to seven bytes of the moment to the end of its draft.
+//! - 0x88: The node leaves the draft at the relay, for the node whose number is in the last four bytes.
 //!
-//! All other bytes say nothing, and a moment that begins otherwise does nothing. A text is written in pieces, and left as a whole.
+//! The other bytes of the moment mean nothing. A moment with another first byte does nothing. A user writes a text in pieces, and leaves
+//! it as a whole.
 
 ghost use Rattle.std.specs.Prelude.{◌≡◌, ◌≤◌, ◌^◌, IfOk, false, length, nat_lt};
 ghost use Rattle.mailbox.specs.MailboxMeaning.{IsWriting, ticked};
@@ -17,23 +19,23 @@ use authenticators::NodeId;
 use outcome::Memory;
 use std::alloc::Global;
 
-/// The first byte of a wish to fetch. One to seven above it stand those of wishes to write so many bytes.
+/// The first byte of a wish to fetch. If it is greater by one to seven, the wish is to write as many bytes.
 pub(crate) const FETCH_WISH: u8 = 0x80;
 
 /// The first byte of a wish to leave the draft.
 pub(crate) const LEAVE_WISH: u8 = 0x88;
 
-/// How many bytes of a text one moment writes at most.
+/// The greatest number of bytes of a text that one moment writes.
 const MOST_WRITTEN: usize = 7;
 
-/// The moment at which a node fetches what the relay holds for it.
+/// Returns the moment at which a node fetches what the relay holds for it.
 pub fn fetch() -> u64
     ensures { (held : Held) → ticked held result ≡ fetching held }
 {
     u64::from_be_bytes([FETCH_WISH, 0, 0, 0, 0, 0, 0, 0])
 }
 
-/// The moment at which a node leaves its draft at the relay, for the node `to`.
+/// Returns the moment at which a node leaves its draft at the relay, for the node `to`.
 pub fn leave(to: NodeId) -> u64
     ensures { (held : Held) → ticked held result ≡ leaving held to }
 {
@@ -41,7 +43,7 @@ pub fn leave(to: NodeId) -> u64
     u64::from_be_bytes([LEAVE_WISH, 0, 0, 0, a, b, c, d])
 }
 
-/// The moment at which a node writes these bytes behind its draft, where they are at least one and at most seven.
+/// Returns the moment at which a node writes these bytes to the end of its draft. There must be one to seven bytes.
 fn piece(bytes: &[u8]) -> u64
     ensures wish { nat_lt result (2 ^ 63) ≡ false }
     ensures writes { (held : Held) → 1 ≤ length bytes.now → length bytes.now ≤ 7 → wished held result ≡ writing held bytes.now }
@@ -58,8 +60,8 @@ fn piece(bytes: &[u8]) -> u64
     }
 }
 
-/// The moments at which a node writes the text behind its draft, seven bytes at each, one behind the other. A piece that does not fit
-/// there is not written; those behind it are, where they do.
+/// Returns the moments at which a node writes the text to the end of its draft, in order. Each writes seven bytes, and the last one those
+/// that are left. A piece that does not fit is not written, but a later piece is written if it fits.
 pub fn write(alloc: Global, text: &[u8]) -> Result<Vec<u64>, Memory>
     ensures { IfOk result (λ v. IsWriting text.now v.items) }
 {

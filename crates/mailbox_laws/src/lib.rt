@@ -1,36 +1,37 @@
-//! What follows of the definitions of `mailbox`. Each is a function that does nothing: its contract is the law.
+//! Laws over the definitions of `mailbox`. Each law is a function that does nothing. Its contract is the law.
 //!
-//! A program owes none of these: they tell that the definitions say what a user of the relay expects.
+//! A program need not have such laws. They show that the definitions say what a user of the relay expects.
 #![tactic(auto)]
 
 ghost use Rattle.mailbox_laws.specs.MailLaws.{AnswersAreNotAnswered, FetchesAreSent, OldMailsAreDropped, RequestsAreUnderstood, TextsAreWritten, TextsArrive};
 
-/// A text that fits, left while there is room, is among what a fetch of its receiver right behind it is answered.
+/// If a text is not too long and is left while there is room, a fetch of its receiver right after it is answered with this text.
 pub fn texts_arrive()
     ensures { TextsArrive }
 {}
 
-/// All that a fetch is answered is sent, where its sender is another listed node.
+/// All answers to a fetch are sent if its sender is another listed node.
 pub fn fetches_are_sent()
     ensures { FetchesAreSent }
 {}
 
-/// After a time of the timer nothing is held that came too long before it.
+/// After a time of the timer, the node holds no mail that came more than `LIFETIME` before it.
 pub fn old_mails_are_dropped()
     ensures { OldMailsAreDropped }
 {}
 
-/// What a node answers is not answered, and changes nothing where it is heard.
+/// A node does not answer what another node answers, and is not changed by it.
 pub fn answers_are_not_answered()
     ensures { AnswersAreNotAnswered }
 {}
 
-/// The relay hears the one message by which a draft is left as that text for that node, and the one of a fetch as a fetch.
+/// A node that leaves its draft sends one message, which the relay takes as this text for this node. A node that fetches sends one message,
+/// which the relay takes as a fetch.
 pub fn requests_are_understood()
     ensures { RequestsAreUnderstood }
 {}
 
-/// After the moments that write a text it stands behind the draft, where it fits, and nothing was sent.
+/// After the moments that write a text, the text is at the end of the draft if it fits, and the node has sent nothing.
 pub fn texts_are_written()
     ensures { TextsAreWritten }
 {}

@@ -6,12 +6,12 @@ ghost use Rattle.messages.specs.declared.message.Message.{Message as TheMessage}
 
 use crate::message::{Ack, Message};
 
-/// Two messages are equal exactly where all their fields are.
+/// `==` of two messages is true exactly if all their fields are the same.
 pub fn messages_are_equal_by_fields()
     ensures { TellsEqual TheMessage ⟦<Message as PartialEq>⟧.eq }
 {}
 
-/// Two acknowledgements are equal exactly where all their fields are.
+/// `==` of two acknowledgements is true exactly if all their fields are the same.
 pub fn acks_are_equal_by_fields()
     ensures { TellsEqual TheAck ⟦<Ack as PartialEq>⟧.eq }
 {}

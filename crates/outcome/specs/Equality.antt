@@ -1,4 +1,4 @@
--- What `==` says. The `laws` of each crate prove it of the crate's types.
+-- What `==` means. The `laws` of each crate prove it of the crate's types.
 use Rattle.std.specs.Prelude.{◌≡◌, ◌↔◌, Bool, IsTrue}
 
 -- The test is true exactly of equal values.

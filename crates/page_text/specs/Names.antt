@@ -1,4 +1,4 @@
--- The elements and the attributes that a page can have, and the signs that ASCII has not.
+-- The elements and the attributes that a page can have, and the signs that ASCII lacks.
 use Rattle.std.specs.Prelude.{ℕ, List, codes}
 use Rattle.page_text.specs.declared.names.Attribute.{Attribute}
 use Rattle.page_text.specs.declared.names.Attribute.TheVariants as attribute

@@ -5,12 +5,12 @@ ghost use Rattle.page_text.specs.Escaping.{IsInert, digit, escaped, is_digits, i
 
 use std::alloc::{AllocError, Global};
 
-/// A text has bytes.
+/// Shows that each element of a text is below 256.
 fn are_bytes(text: &[u8])
     ensures { All (λ b. b < 256) text.now }
 {}
 
-/// A hexadecimal digit.
+/// Returns a hexadecimal digit.
 fn digit(nibble: u8) -> u8
     requires { nibble < 16 }
     ensures { result ≡ digit nibble }
@@ -22,14 +22,14 @@ fn digit(nibble: u8) -> u8
     }
 }
 
-/// Whether the byte is seen as its digits.
+/// Returns whether a reader sees the byte as its digits.
 fn is_digits(byte: u8) -> bool
     ensures { result ≡ is_digits byte }
 {
     byte < 32 || byte == b'\\' || 126 < byte
 }
 
-/// Whether the byte stands as a reference.
+/// Returns whether the byte stands as a reference.
 fn is_reference(byte: u8) -> bool
     ensures { result ≡ is_reference byte }
 {
@@ -70,12 +70,13 @@ pub(crate) fn escape(page: &mut Vec<u8>, text: &[u8]) -> Result<(), AllocError>
     Ok(())
 }
 
-/// The text as it stands in a page, in an element or in a quoted attribute.
+/// Returns the text as it stands in a page, in an element or in a quoted attribute. Any bytes may be given. For each of them it takes
+/// five bytes at most. It fails only if memory runs out.
 pub fn escaped(alloc: Global, text: &[u8]) -> Result<Vec<u8>, AllocError>
     ensures exact { IfOk result (λ page. page.items ≡ escaped text.now) }
     // It ends no element and no attribute, and begins none.
     ensures inert { IfOk result (λ page. All IsInert page.items) }
-    // Of two texts a reader sees two.
+    // A reader sees two different texts as different.
     ensures apart { IfOk result (λ page. (other : List ℕ) → All (λ b. b < 256) other → legible other ≡ legible text.now → other ≡ text.now) }
 {
     are_bytes(text);

@@ -1,9 +1,10 @@
 //! Pages of HTML, and how text stands in them.
 //!
-//! - [`escaped`] is how a text stands in a page: `specs/Escaping.antt` says it. It ends no attribute and no element, and begins none.
-//! - A [`Page`] is a head, with a charset and a policy by which it runs and loads nothing, and [`Piece`]s: elements and attributes of a
-//!   closed set ([`Tag`], [`Attribute`]), none of which runs or loads anything, and text, which is escaped, and stands in no tag. `specs/Pages.antt` says it. So
-//!   nothing that comes from outside is ever markup.
+//! - [`escaped`] returns a text as it stands in a page. It ends no attribute and no element, and begins none. `specs/Escaping.antt`
+//!   defines that.
+//! - A [`Page`] has a head, and behind it [`Piece`]s. The head has a charset, and a policy by which the page runs and loads nothing. A
+//!   piece is markup of a closed set ([`Tag`], [`Attribute`]), or text. No element or attribute of the set runs or loads anything. Text
+//!   is escaped, and stands in no tag. `specs/Pages.antt` defines that. So nothing that comes from outside is ever markup.
 #![tactic(auto)]
 
 pub use escaping::escaped;

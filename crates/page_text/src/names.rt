@@ -1,9 +1,9 @@
-//! The elements and the attributes of a page, and the signs that ASCII has not.
+//! The elements and the attributes of a page, and the signs that ASCII lacks.
 
 ghost use Rattle.std.specs.Prelude.{◌≡◌};
 ghost use Rattle.page_text.specs.Names.{attribute_name, sign_number, tag_name};
 
-/// An element of a page: none that runs or loads anything.
+/// An element of HTML or SVG that a page can have. A variant is named after its element. None of these elements runs or loads anything.
 #[derive(Clone, Copy, Debug, PartialEq, Eq)]
 pub enum Tag {
     A,
@@ -43,7 +43,7 @@ pub enum Tag {
     Ul,
 }
 
-/// An attribute of an element: none that runs or loads anything.
+/// An attribute that an element can have. A variant is named after its attribute. None of these attributes runs or loads anything.
 #[derive(Clone, Copy, Debug, PartialEq, Eq)]
 pub enum Attribute {
     AriaHidden,
@@ -68,12 +68,12 @@ pub enum Attribute {
     Y,
 }
 
-/// A sign, as a reference to its character.
+/// A sign that ASCII lacks. It stands in a page as a reference to its character.
 #[derive(Clone, Copy, Debug, PartialEq, Eq)]
 pub enum Sign {
-    /// A check mark.
+    /// A check mark, which is the character 10003.
     Check,
-    /// Three dots in the middle of a line.
+    /// Three dots at half the height of a line, which are the character 8943.
     Dots,
 }
 

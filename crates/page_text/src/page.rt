@@ -13,7 +13,7 @@ use crate::places::{Place, behind_all};
 use std::alloc::{AllocError, Global};
 use std::marker::Model;
 
-/// A piece of a page. Those of markup are of a closed set: what comes from outside is [`Text`](Piece::Text), which is escaped.
+/// A piece of a page. The pieces of markup are a closed set. What comes from outside is [`Text`](Piece::Text), which is escaped.
 #[derive(Clone, Copy, Debug)]
 pub enum Piece<'a> {
     /// The beginning of an element, up to its attributes.
@@ -24,9 +24,9 @@ pub enum Piece<'a> {
     Link,
     /// The end of an attribute's value, or of a link's.
     End,
-    /// The end of an element's attributes. Behind it stands what is in the element.
+    /// The end of an element's attributes. What is in the element follows.
     Inside,
-    /// The end of an element in which nothing is.
+    /// The end of an element's attributes, if nothing is in the element. It ends the element too.
     Alone,
     /// The end of an element.
     Close(Tag),
@@ -38,17 +38,18 @@ pub enum Piece<'a> {
     Text(&'a [u8]),
     /// A number in decimal digits.
     Number(u64),
-    /// Bytes, two hexadecimal digits each.
+    /// Bytes, each as two hexadecimal digits in lower case.
     Digits(&'a [u8]),
 }
 
-/// A page, or a part of one, up to where it is written. A contract sees its bytes.
+/// A page, or a part of one, as far as it is written. A contract sees its bytes.
 #[derive(Debug, Drop)]
 pub struct Page {
     bytes: Vec<u8>,
-    /// Whether it has a head: a part has none.
+    /// Whether it has a head. A part has none.
     has_head: bool,
-    /// Where the next piece stands; none where a call did not write all of its pieces, or wrote one that may not stand where it does.
+    /// Where the next piece stands. It is `None` if a call did not write all of its pieces, or wrote one that may not stand where it
+    /// does.
     place: Option<Place>,
 }
 
@@ -64,7 +65,7 @@ impl Model for Page {
     ghost invariant = { λ p. (place : Place) → p.place ≡ Some place → IsGrown p.has_head place p.bytes.items };
 }
 
-/// Writes the names and signs around a name.
+/// Writes a name, with signs before and behind it.
 fn put_name(
     page: &mut Vec<u8>,
     before: &'static str,
@@ -134,7 +135,7 @@ fn put_all(alloc: Global, page: &mut Vec<u8>, pieces: &[Piece<'_>]) -> Result<()
     Ok(())
 }
 
-/// A byte of a style.
+/// Returns a byte of a style as it is written: a space for `<`, and else the byte.
 fn in_style(byte: u8) -> u8
     ensures { result ≡ in_style byte }
 {
@@ -151,7 +152,7 @@ fn put_style(page: &mut Vec<u8>, style: &[u8]) -> Result<(), AllocError>
     Ok(())
 }
 
-/// How each page begins.
+/// Returns how each page begins.
 #[tactic(auto, unfolding(crate::specs::Pages::front))]
 fn front() -> &'static str
     ensures { result.now ≡ front }
@@ -159,7 +160,7 @@ fn front() -> &'static str
     "<!DOCTYPE html>\n<html lang=\"en\">\n<head>\n<meta charset=\"utf-8\">\n<meta http-equiv=\"Content-Security-Policy\" content=\"default-src 'none'; style-src 'unsafe-inline'; base-uri 'none'; form-action 'none'\">\n<meta name=\"viewport\" content=\"width=device-width, initial-scale=1\">\n<title>"
 }
 
-/// What stands between the title and the style.
+/// Returns what stands between the title and the style.
 #[tactic(auto, unfolding(crate::specs::Pages::before_style))]
 fn before_style() -> &'static str
     ensures { result.now ≡ before_style }
@@ -167,7 +168,7 @@ fn before_style() -> &'static str
     "</title>\n<style>\n"
 }
 
-/// What stands behind the style.
+/// Returns what stands behind the style.
 #[tactic(auto, unfolding(crate::specs::Pages::behind_style))]
 fn behind_style() -> &'static str
     ensures { result.now ≡ behind_style }
@@ -175,7 +176,7 @@ fn behind_style() -> &'static str
     "</style>\n</head>\n"
 }
 
-/// The head of a page.
+/// Returns the head of a page.
 fn head(alloc: Global, title: &[u8], style: &[u8]) -> Result<Vec<u8>, AllocError>
     ensures { IfOk result (λ page. page.items ≡ head_of title.now style.now) }
 {
@@ -188,7 +189,8 @@ fn head(alloc: Global, title: &[u8], style: &[u8]) -> Result<Vec<u8>, AllocError
     Ok(page)
 }
 
-/// Where the next piece stands behind a part that is written behind a page: outside of tags, where both end so and the part has no head.
+/// Returns where the next piece stands, if a part is written behind a page. It is outside of tags, if both end there and the part has no
+/// head. Else it is `None`.
 fn joint_of(page: Option<Place>, has_head: bool, part: Option<Place>) -> Option<Place>
     ensures { (next : ThePlace) → result ≡ Some next → (next ≡ Outside) × (page ≡ Some Outside) × (part ≡ Some Outside) × (has_head ≡ false) }
 {
@@ -198,7 +200,7 @@ fn joint_of(page: Option<Place>, has_head: bool, part: Option<Place>) -> Option<
     }
 }
 
-/// Whether a page has a head, and ends outside of tags.
+/// Returns whether a page has a head, and ends outside of tags.
 fn is_whole(has_head: bool, place: Option<Place>) -> bool
     ensures { result ≡ true → (has_head ≡ true) × (place ≡ Some Outside) }
 {
@@ -209,7 +211,8 @@ fn is_whole(has_head: bool, place: Option<Place>) -> bool
 }
 
 impl Page {
-    /// A page of a title and a style, in which nothing stands yet.
+    /// Returns a page with a head of this title and this style, and with nothing behind it yet. The title is escaped. Each `<` in the style
+    /// becomes a space. It fails only if memory runs out.
     pub fn new(alloc: Global, title: &[u8], style: &[u8]) -> Result<Page, AllocError>
         ensures { IfOk result (λ page. page ≡ head_of title.now style.now) }
     {
@@ -221,7 +224,7 @@ impl Page {
         })
     }
 
-    /// A part of a page, in which nothing stands yet. It takes no memory.
+    /// Returns an empty part of a page, for [`Page::append`]. It has no head, and takes no memory.
     pub fn part(alloc: Global) -> Page
         ensures { result ≡ [] }
     {
@@ -232,8 +235,9 @@ impl Page {
         }
     }
 
-    /// Writes the pieces behind what is written. Where memory runs out, some of them may have been written, and there is no page any
-    /// more; nor where one of them may not stand where it does, as a text in a tag.
+    /// Writes the pieces behind what is written. If memory runs out, it fails, some of the pieces may have been written, and the page
+    /// cannot be finished any more. Nor can it be finished if a piece may not stand where it does, such as a text in a tag. Only
+    /// [`Page::finish`] reports that.
     pub fn write(&mut self, pieces: &[Piece<'_>]) -> Result<(), AllocError>
         ensures { OnOk result (self.new ≡ self.old ++ all_written pieces.now) }
     {
@@ -245,7 +249,8 @@ impl Page {
         Ok(())
     }
 
-    /// Writes a part behind what is written, outside of tags: else there is no page any more, as behind [`Page::write`].
+    /// Writes a part behind what is written. Both must end outside of tags, and the part must have no head. Else, or if memory runs out,
+    /// the page cannot be finished any more, as after [`Page::write`].
     pub fn append(&mut self, part: &Page) -> Result<(), AllocError>
         ensures { OnOk result (self.new ≡ self.old ++ part.now) }
     {
@@ -256,11 +261,12 @@ impl Page {
         Ok(())
     }
 
-    /// The page's bytes; or that memory ran out in a call that wrote, or that a piece stood where it may not, or that it is a part.
+    /// Returns the page's bytes. It fails if memory ran out in a call that wrote, if a piece stands where it may not, if the page ends in a
+    /// tag, or if it is a part.
     pub fn finish(self) -> Result<Vec<u8>, AllocError>
         ensures exact { IfOk result (λ page. page.items ≡ self) }
-        // A head with a charset and a policy, and behind it elements and attributes of the closed set, and texts that are escaped and
-        // stand in no tag.
+        // The page is a head with a charset and a policy, and behind it markup of the closed set and texts, which are escaped and stand in
+        // no tag.
         ensures whole { IfOk result (λ page. IsPage page.items) }
     {
         if is_whole(self.has_head, self.place) {

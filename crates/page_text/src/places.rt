@@ -9,7 +9,7 @@ use crate::page::Piece;
 /// Where in a page the next piece stands.
 #[derive(Clone, Copy, Debug, PartialEq, Eq)]
 pub enum Place {
-    /// In no tag: where an element has its elements and texts.
+    /// In no tag, where an element has its elements and texts.
     Outside,
     /// In the tag by which an element begins, behind its name or an attribute.
     InTag,
@@ -17,7 +17,7 @@ pub enum Place {
     InValue,
 }
 
-/// Where the next piece stands behind this one, outside of tags; none where it may not stand there.
+/// Returns where the next piece stands, if this one stands outside of tags. Returns `None` if it may not stand there.
 #[tactic(auto, unfolding(crate::specs::Pages::outside))]
 fn outside(piece: Piece<'_>) -> Option<Place>
     ensures { result ≡ outside piece.entry }
@@ -34,7 +34,7 @@ fn outside(piece: Piece<'_>) -> Option<Place>
     }
 }
 
-/// The same in a tag.
+/// Returns where the next piece stands, if this one stands in a tag. Returns `None` if it may not stand there.
 #[tactic(auto, unfolding(crate::specs::Pages::in_tag))]
 fn in_tag(piece: Piece<'_>) -> Option<Place>
     ensures { result ≡ in_tag piece.entry }
@@ -46,7 +46,7 @@ fn in_tag(piece: Piece<'_>) -> Option<Place>
     }
 }
 
-/// The same in the value of an attribute.
+/// Returns where the next piece stands, if this one stands in the value of an attribute. Returns `None` if it may not stand there.
 #[tactic(auto, unfolding(crate::specs::Pages::in_value))]
 fn in_value(piece: Piece<'_>) -> Option<Place>
     ensures { result ≡ in_value piece.entry }
@@ -58,7 +58,7 @@ fn in_value(piece: Piece<'_>) -> Option<Place>
     }
 }
 
-/// Where the next piece stands behind this one; none where it may not stand at this place.
+/// Returns where the next piece stands behind this one. Returns `None` if this one may not stand at this place.
 fn behind(place: Place, piece: Piece<'_>) -> Option<Place>
     ensures { result ≡ behind place piece.entry }
 {
@@ -69,7 +69,7 @@ fn behind(place: Place, piece: Piece<'_>) -> Option<Place>
     }
 }
 
-/// The same where a piece before may have stood where it may not.
+/// Returns the same, and `None` if a piece before stood where it may not.
 fn next_of(here: Option<Place>, piece: Piece<'_>) -> Option<Place>
     ensures { result ≡ option_and_then (λ (p : ThePlace). behind p piece.entry) here }
 {
@@ -79,7 +79,7 @@ fn next_of(here: Option<Place>, piece: Piece<'_>) -> Option<Place>
     }
 }
 
-/// Where the next piece stands behind all of these; none where one of them may not stand where it does.
+/// Returns where the next piece stands behind all of these. Returns `None` if one of them may not stand where it does.
 pub(crate) fn behind_all(place: Option<Place>, pieces: &[Piece<'_>]) -> Option<Place>
     ensures { result ≡ behind_all place pieces.now }
 {

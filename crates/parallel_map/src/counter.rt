@@ -1,4 +1,4 @@
-//! The claim counter, and its steps.
+//! The claim counter and its steps.
 
 ghost use Rattle.std.specs.Prelude.{◌≡◌, ◌+◌, ◌-◌, ◌^◌, ◌<◌, ◌≤◌, ◌==◌, [], IfOk};
 ghost use Rattle.parallel_map.specs.Claiming.{Drew, EachOnce, all_parts, joined, view};
@@ -11,10 +11,10 @@ use std::alloc::Global;
 /// The part of a counter that its workers share.
 pub type Numbers = Shared<u8, View, u64, Claims>;
 
-/// Who draws from a counter.
+/// The seat of a worker who draws from a counter.
 pub type Drawer = Seat<u8, View>;
 
-/// A counter: a table of one word and no slot, which has the least number that nobody drew.
+/// A counter: a table of one word and no slot. The word is the least number that nobody drew.
 #[derive(Drop)]
 pub struct Counter {
     pub table: Table<u8, View, u64, Claims, Global>,
@@ -22,7 +22,7 @@ pub struct Counter {
     pub ghost no_slot: { table.shared.table_id.slots ≡ 0 },
 }
 
-/// A counter at 0 of the numbers below the count, and the seat that has all its parts.
+/// Returns a counter at 0 of the numbers below `count`, and the seat that has all its parts.
 pub fn open(alloc: Global, count: u64) -> Result<(Counter, Drawer), Memory>
     ensures count { IfOk result (λ c. c.0.table.shared.key ≡ count) }
     ensures seat { IfOk result (λ c. (c.1.table_id ≡ c.0.table.shared.table_id) × (c.1.me ≡ (view [] 0 all_parts, []))) }
@@ -31,7 +31,7 @@ pub fn open(alloc: Global, count: u64) -> Result<(Counter, Drawer), Memory>
     Ok((Counter { table }, seat))
 }
 
-/// Draws the number that the seat saw last, unless the word is beyond it. It gives the word that was found.
+/// Draws the number that the seat saw last, unless the word is greater. Returns the word that was found.
 pub fn draw(numbers: &Numbers, seat: &mut Drawer, saw: u64) -> u64
     requires table { (seat.old.table_id ≡ numbers.now.table_id) × (numbers.now.table_id.words ≡ 1) }
     requires part { 0 < seat.old.me.0.parts }
@@ -42,7 +42,7 @@ pub fn draw(numbers: &Numbers, seat: &mut Drawer, saw: u64) -> u64
     numbers.compare_exchange::<Draw>(seat, 0, saw, saw + 1)
 }
 
-/// A new seat with one of the seat's parts.
+/// Returns a new seat with one of the seat's parts.
 pub fn split(numbers: &Numbers, seat: &mut Drawer) -> Drawer
     requires table { (seat.old.table_id ≡ numbers.now.table_id) × (numbers.now.table_id.words ≡ 1) }
     requires parts { 1 < seat.old.me.0.parts }
@@ -53,7 +53,7 @@ pub fn split(numbers: &Numbers, seat: &mut Drawer) -> Drawer
     numbers.split_seat::<OnePart>(seat)
 }
 
-/// The seat takes in what the other one knows.
+/// Adds to the seat what the other one knows, and the other one's parts.
 pub fn join(numbers: &Numbers, seat: &mut Drawer, other: Drawer)
     requires table { (seat.old.table_id ≡ numbers.now.table_id) × (other.table_id ≡ numbers.now.table_id) × (numbers.now.table_id.words ≡ 1) }
     requires slots { other.me.1 ≡ [] }
@@ -64,7 +64,7 @@ pub fn join(numbers: &Numbers, seat: &mut Drawer, other: Drawer)
 }
 
 impl Counter {
-    /// The word at the end. A seat that has all parts has each number below it once, and no other.
+    /// Returns the word at the end. A seat that has all parts has each number below it once, and no other number.
     pub fn close(self, seat: Drawer) -> u64
         requires table { seat.table_id ≡ self.table.shared.table_id }
         requires parts { seat.me.0.parts ≡ all_parts }

@@ -4,7 +4,7 @@ use atomic_table::{Join, Play, Split, TableRule};
 use std::collections::LinkedList;
 
 /// What a seat knows: the numbers that it drew, the word that it saw last, and how many parts of the counter it has. Contracts
-/// speak of it; no value of it is made.
+/// speak of it, and no value of it is made.
 pub struct View {
     pub numbers: LinkedList<u64>,
     pub saw: u64,
@@ -23,7 +23,7 @@ impl TableRule<u8, View, u64> for Claims {
     ghost first = { λ count. view [] 0 all_parts };
 }
 
-/// A draw: the word is raised from the number that the seat saw, or seen anew.
+/// A draw. It raises the word by one if the word is the number that the seat saw. Else the seat sees the word anew.
 pub struct Draw;
 
 impl Play<u8, View> for Draw {
@@ -32,7 +32,7 @@ impl Play<u8, View> for Draw {
     ghost then = { Draws };
 }
 
-/// A new seat is given one part.
+/// A new seat, which is given one part.
 pub struct OnePart;
 
 impl Split<View> for OnePart {
@@ -44,7 +44,7 @@ impl Split<View> for OnePart {
     ghost right = { λ v. view [] 0 1 };
 }
 
-/// A seat takes in what another one knows, and the other one is spent.
+/// Two seats made one. A seat takes in what another one knows, and the other one is spent.
 pub struct Together;
 
 impl Join<View> for Together {

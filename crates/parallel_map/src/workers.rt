@@ -1,4 +1,4 @@
-//! Workers that draw numbers, and the values of their work in order.
+//! Workers that draw numbers, and the values of their work, in the order of the numbers.
 
 ghost use Rattle.std.specs.Prelude.{◌≡◌, ℕ, ◌+◌, ◌-◌, ◌<◌, [], IfOk, All, flat_map, map, length, vec_len};
 ghost use Rattle.std.specs.Fork.{GivesEach};
@@ -26,8 +26,8 @@ pub struct Drawn<T> {
     pub placed: Vec<Placed<T>>,
 }
 
-/// Draws numbers, and works at each, until it saw the count, or there is no memory to note one value more. It draws at most as often
-/// as there are numbers.
+/// Draws numbers, and works at each. It ends when it has seen the count, or if there is no memory to note one value more. It draws at
+/// most as often as there are numbers.
 pub fn work_all<T: Drop, F: Fn(usize) -> T>(
     alloc: Global,
     numbers: &Numbers,
@@ -58,7 +58,7 @@ pub fn work_all<T: Drop, F: Fn(usize) -> T>(
     Drawn { seat, placed }
 }
 
-/// A seat with one part for each worker.
+/// Returns a seat with one part for each worker.
 fn deal(
     alloc: Global,
     numbers: &Numbers,
@@ -79,7 +79,7 @@ fn deal(
     Ok(seats)
 }
 
-/// What each worker gives back. Each has a thread of its own, or its turn where none can be made; no clause tells which.
+/// Returns what each worker gives back. Each has a thread of its own, or its turn if none can be made. No clause says which.
 fn run<R: Threads + Sync, T: Send + Drop, F: Fn(usize) -> T + Sync>(
     rt: &R,
     alloc: Global,
@@ -100,7 +100,7 @@ fn run<R: Threads + Sync, T: Send + Drop, F: Fn(usize) -> T + Sync>(
     thread::map_vec(rt, seats, &worker)
 }
 
-/// Joins the workers' seats to one, and puts their values into one list.
+/// Joins the workers' seats to the seat `mine`, and puts their values into one list.
 fn gather<T: Drop>(
     alloc: Global,
     numbers: &Numbers,
@@ -133,17 +133,18 @@ fn sort<T>(placed: &mut Vec<Placed<T>>)
     placed.sort_unstable_by_key(|p| p.place);
 }
 
-/// The values without their places.
+/// Returns the values without their places.
 fn values<T: Drop>(alloc: Global, placed: Vec<Placed<T>>) -> Result<Vec<T>, Memory>
     ensures { IfOk result (λ v. v.items ≡ map (λ p. p.value) placed.items) }
 {
     placed.into_iter().map(|p| p.value).collect(alloc)
 }
 
-/// What `work` gives at each number below the count, in the order of the numbers, by so many workers: 1 to 15.
+/// Returns what `work` gives for each number below `count`, in the order of the numbers. `workers` is the number of workers, from 1 to
+/// 15.
 ///
-/// `Memory` only where a growth was refused, of this call or of one of its workers, and then all that was worked out is dropped. A
-/// worker that is refused room for one value more draws no more numbers; where the others draw all that are left, the answer is whole.
+/// It returns `Memory` only if a growth was refused, of this call or of one of its workers. Then all that was worked out is dropped. A
+/// worker that is refused room for one value more draws no more numbers. If the others draw all that are left, the answer is whole.
 pub fn map_claimed<R: Threads + Sync, T: Send + Drop, F: Fn(usize) -> T + Sync>(
     rt: &R,
     alloc: Global,

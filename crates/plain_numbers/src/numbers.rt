@@ -6,7 +6,7 @@ ghost use Rattle.plain_numbers.specs.within.Plain.{is_plain};
 
 use std::str;
 
-/// Whether the word begins as a number is written: with a digit, which is no zero unless it is the whole word.
+/// Returns whether the word begins as a number is written: with a digit, which is no zero unless it is the whole word.
 fn is_plain(word: &[u8]) -> bool
     ensures { result ≡ is_plain word.now }
 {
@@ -17,7 +17,8 @@ fn is_plain(word: &[u8]) -> bool
     }
 }
 
-/// The number that the word spells, if it is one of 64 bits.
+/// Returns the number that the word spells, if it is one of 64 bits. Returns `None` for any other bytes, such as an empty word, a word
+/// with a sign, a zero in front of other digits, or a number above 2^64 - 1.
 pub fn value_of(word: &[u8]) -> Option<u64>
     ensures { IsRead result word.now }
 {

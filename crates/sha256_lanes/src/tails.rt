@@ -1,9 +1,9 @@
-//! What a text has behind its last whole block, with its padding (FIPS 180-4, section 5.1.1).
+//! What a text has behind its last whole block, and its padding (FIPS 180-4, section 5.1.1).
 
 ghost use Rattle.std.specs.Prelude.{◌≡◌, ◌+◌, ◌*◌, ◌%◌, ◌≤◌, ◌++◌, length, take, drop};
 ghost use Rattle.sha256_lanes.specs.within.Tails.{IsTail, tail_blocks};
 
-// The blocks behind the last whole one: two, where fewer than nine bytes are left of the first.
+// The number of blocks behind the last whole one. It is two if fewer than nine bytes are left of the first, and else one.
 pub(crate) fn tail_blocks(len: usize) -> usize
     ensures value { result ≡ tail_blocks len }
     ensures most { 64 * result ≤ 128 }
@@ -20,7 +20,7 @@ fn put(text: &mut [u8], place: usize, bytes: &[u8])
     text[place..place + bytes.len()].copy_from_slice(bytes);
 }
 
-// The bytes behind the text's last whole block, and the padding: the blocks that are left.
+// The blocks that are left: the bytes behind the text's last whole block, and the padding.
 pub(crate) fn tail(text: &[u8]) -> [u8; 128]
     ensures { IsTail text.now result }
 {

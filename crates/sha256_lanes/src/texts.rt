@@ -90,10 +90,10 @@ fn tails<const N: usize>(texts: &[[u8; N]; 8], len: usize) -> [[u8; 128]; 8]
     ]
 }
 
-/// The digests of eight texts, each of the first `len` bytes of its array.
+/// Returns the SHA-256 digests of eight texts. Text `j` is the first `len` bytes of `texts[j]`.
 ///
-/// The texts are hashed side by side, in about the time of one. Where there are fewer, the lanes that are
-/// left may hash anything.
+/// It hashes the texts side by side, in about the time of one. A caller with fewer texts may put anything in the lanes that
+/// are left.
 pub fn eight_digests<const N: usize>(texts: &[[u8; N]; 8], len: usize) -> [[u8; 32]; 8]
     requires { len ≤ N }
     ensures { (j : ℕ) → j < 8

@@ -17,7 +17,7 @@ use outcome::Memory;
 use std::alloc::Global;
 use std::marker::Model;
 
-/// A list of at most `MOST` items. A contract sees the list of them.
+/// A list of at most `MOST` items. Its text is their count in four bytes, and the text of each item. A contract sees the list of them.
 #[derive(Debug, Drop)]
 pub struct Listed<T, const MOST: u32> {
     items: Vec<T>,
@@ -37,7 +37,7 @@ impl<T, const MOST: u32> Model for Listed<T, MOST> {
 }
 
 impl<T, const MOST: u32> Listed<T, MOST> {
-    /// No items. It takes no memory.
+    /// Makes a list of no items. It takes no memory.
     pub fn new(alloc: Global) -> Listed<T, MOST>
         ensures { result ≡ [] }
     {
@@ -46,14 +46,14 @@ impl<T, const MOST: u32> Listed<T, MOST> {
         }
     }
 
-    /// Whether there is no room for more.
+    /// Returns whether the list has `MOST` items, and so no room for more.
     pub fn is_full(&self) -> bool
         ensures { result ≡ nat_le MOST (length self.now) }
     {
         self.items.len() >= MOST as usize
     }
 
-    /// The items.
+    /// Returns the items.
     pub fn as_slice(&self) -> &[T]
         ensures { result.now ≡ self.now }
     {
@@ -62,7 +62,7 @@ impl<T, const MOST: u32> Listed<T, MOST> {
 }
 
 impl<T: Coded, const MOST: u32> Listed<T, MOST> {
-    /// A copy with one item more at its end.
+    /// Makes a copy with one item more at its end. Returns `Memory` if memory runs out.
     pub fn with(&self, alloc: Global, item: T) -> Result<Listed<T, MOST>, Memory>
         requires { length self.now < MOST }
         ensures { IfOk result (λ l. l ≡ self.now ++ item ∷ []) }
@@ -72,7 +72,7 @@ impl<T: Coded, const MOST: u32> Listed<T, MOST> {
         Ok(Listed { items })
     }
 
-    /// A copy of the items that the test keeps, in their order.
+    /// Copies the items that the test keeps, in their order. Returns `Memory` if memory runs out.
     pub fn kept<K: Keeps<T>>(&self, alloc: Global, test: &K) -> Result<Listed<T, MOST>, Memory>
         ensures { IfOk result (λ l. l ≡ filter (K.keeps test.now) self.now) }
     {
@@ -81,7 +81,7 @@ impl<T: Coded, const MOST: u32> Listed<T, MOST> {
     }
 }
 
-/// A copy of each item.
+/// Copies each item, in order.
 fn copies<T: Coded>(alloc: Global, items: &[T]) -> Result<Vec<T>, Memory>
     ensures { IfOk result (λ v. v.items ≡ items.now) }
 {
@@ -92,7 +92,7 @@ fn copies<T: Coded>(alloc: Global, items: &[T]) -> Result<Vec<T>, Memory>
     Ok(copies)
 }
 
-/// A copy of each item that the test keeps.
+/// Copies each item that the test keeps, in order.
 fn copies_kept<T: Coded, K: Keeps<T>>(
     alloc: Global,
     items: &[T],
@@ -110,7 +110,7 @@ fn copies_kept<T: Coded, K: Keeps<T>>(
     Ok(kept)
 }
 
-/// Writes each item behind the last.
+/// Writes each item after the one before.
 fn write_each<T: Coded>(writer: &mut FieldWriter, items: &[T]) -> Result<(), Memory>
     ensures { Wrote result writer.old writer.new (flat_map T.coding.text items.now) }
 {
@@ -120,7 +120,7 @@ fn write_each<T: Coded>(writer: &mut FieldWriter, items: &[T]) -> Result<(), Mem
     Ok(())
 }
 
-/// Reads so many items.
+/// Reads `count` items.
 fn read_each<T: Coded>(
     alloc: Global,
     count: u32,

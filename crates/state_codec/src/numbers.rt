@@ -1,4 +1,4 @@
-//! Numbers stand in their one, four or eight bytes, the highest first.
+//! Numbers are encoded in their one, four or eight bytes, the highest first.
 
 ghost use Rattle.state_codec.specs.Codings.{IsU8, IsU32, IsU64, u8_coding, u32_coding, u64_coding};
 ghost use Rattle.state_codec.specs.CodingLaws.{u8_lawful, u32_lawful, u64_lawful};

@@ -1,4 +1,4 @@
-//! A pair stands as its parts, one behind the other.
+//! A pair is encoded as its parts, one after the other.
 
 ghost use Rattle.state_codec.specs.Codings.{IsPair, pair_coding};
 ghost use Rattle.state_codec.specs.CodingLaws.{pair_lawful};

@@ -13,7 +13,7 @@ use outcome::Memory;
 use std::alloc::Global;
 use std::marker::Model;
 
-/// A byte string of at most `MOST` bytes. A contract sees the list of its bytes.
+/// A byte string of at most `MOST` bytes. Its text is its length in four bytes, and its bytes. A contract sees the list of its bytes.
 #[derive(Debug, Drop)]
 pub struct Text<const MOST: u32> {
     bytes: ByteString,
@@ -30,7 +30,7 @@ impl<const MOST: u32> Model for Text<MOST> {
 }
 
 impl<const MOST: u32> Text<MOST> {
-    /// A copy of the bytes.
+    /// Copies the bytes into a byte string. Returns `Memory` if memory runs out.
     pub fn from_slice(alloc: Global, bytes: &[u8]) -> Result<Text<MOST>, Memory>
         requires { length bytes.now ≤ MOST }
         ensures { IfOk result (λ t. t ≡ bytes.now) }
@@ -40,7 +40,7 @@ impl<const MOST: u32> Text<MOST> {
         })
     }
 
-    /// The bytes.
+    /// Returns the bytes.
     pub fn as_slice(&self) -> &[u8]
         ensures { result.now ≡ self.now }
     {

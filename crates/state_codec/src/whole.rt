@@ -9,7 +9,7 @@ use log_chain::{FieldReader, FieldWriter};
 use outcome::Memory;
 use std::alloc::Global;
 
-/// The value's text, as a program's `encode`.
+/// Encodes the value, as a program's `encode` does. Returns `Memory` if memory runs out.
 pub fn encoded<S: Coded>(alloc: Global, state: &S) -> Result<Vec<u8>, Memory>
     ensures { IfOk result (λ v. v.items ≡ S.coding.text state.now) }
 {
@@ -18,7 +18,8 @@ pub fn encoded<S: Coded>(alloc: Global, state: &S) -> Result<Vec<u8>, Memory>
     Ok(writer.finish())
 }
 
-/// The value of which these bytes are the text, as a program's `decode`; `None` where there is no such value.
+/// Returns the value whose text is all of these bytes, as a program's `decode` does. Returns `None` if there is no such value. Returns
+/// `Memory` if memory runs out.
 pub fn decoded<S: Coded>(alloc: Global, bytes: &[u8]) -> Result<Option<S>, Memory>
     ensures { IfOk result (λ s. s ≡ whole_of S.coding bytes.now) }
 {

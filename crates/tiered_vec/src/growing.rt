@@ -8,7 +8,7 @@ use outcome::Memory;
 use std::alloc::Global;
 use std::collections::VecDeque;
 
-/// Adds empty tiers, until there are enough for so many elements. Where memory ends, some may have been added.
+/// Adds empty tiers, until there are enough for `most` elements. If memory runs out, some may have been added.
 pub(crate) fn add_tiers<T: Drop>(
     tiers: &mut Vec<VecDeque<T>>,
     alloc: Global,
@@ -28,7 +28,7 @@ pub(crate) fn add_tiers<T: Drop>(
     Ok(())
 }
 
-/// Makes room for so many elements in all in the tiers from one on; those before it are full.
+/// Makes room for `most` elements in all, in the tiers from tier `first` on. Those before it are full.
 pub(crate) fn grow_tiers<T: Drop>(
     tiers: &mut [VecDeque<T>],
     size: usize,

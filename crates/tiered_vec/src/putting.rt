@@ -7,7 +7,7 @@ ghost use Rattle.tiered_vec.specs.within.Tiering.{AreFilled, HaveRoom, capacitie
 use crate::tier::put;
 use std::collections::VecDeque;
 
-/// Puts an element at a place of all. What drops out of a tier goes to the front of the next one.
+/// Puts an element at a place of the whole list. What drops out of a tier goes to the front of the next one.
 pub(crate) fn put_in<T: Drop>(tiers: &mut [VecDeque<T>], size: usize, place: usize, x: T)
     requires some { 0 < size }
     requires inside { place ≤ length (items_of tiers.old) }

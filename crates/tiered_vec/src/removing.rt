@@ -7,7 +7,7 @@ ghost use Rattle.tiered_vec.specs.within.Tiering.{AreFilled, HaveRoom, IsPulled,
 use crate::tier::take;
 use std::collections::VecDeque;
 
-/// Moves the first element of the tier behind this one to its end, where there is one, and tells whether it did.
+/// Moves the first element of the next tier to the end of this one, if there is such an element. Returns whether it did.
 fn pull<T: Drop>(tiers: &mut [VecDeque<T>], tier: usize) -> bool
     requires here { tier < length tiers.old }
     requires gap { slice_index (lengths tiers.old) tier < slice_index (capacities tiers.old) tier }
@@ -27,7 +27,7 @@ fn pull<T: Drop>(tiers: &mut [VecDeque<T>], tier: usize) -> bool
     true
 }
 
-/// Takes out the element at a place of all. Each tier behind gives its first element to the one before.
+/// Takes out the element at a place of the whole list. Each tier behind gives its first element to the one before.
 pub(crate) fn take_out<T: Drop>(tiers: &mut [VecDeque<T>], size: usize, place: usize)
     requires some { 0 < size }
     requires inside { place < length (items_of tiers.old) }

@@ -1,4 +1,4 @@
-//! One tier, a ring of at most so many elements as each tier of its list.
+//! One tier. It is a ring, and it has at most as many elements as a full tier of its list.
 
 ghost use Rattle.std.specs.Prelude.{◌≡◌, ◌↔◌, ◌+◌, ◌<◌, ◌≤◌, ◌++◌, IsSome, OnOk, min};
 ghost use Rattle.std.specs.List.{insert, remove};
@@ -11,10 +11,11 @@ use std::collections::VecDeque;
 /// How many elements a full tier of a short list has.
 pub(crate) const LEAST: usize = 1024;
 
-/// How many a full tier has at most.
+/// How many elements a full tier has at most.
 const GREATEST: usize = 1 << 20;
 
-/// How many elements a full tier has in a list of so many: four times as many as there are tiers, or more.
+/// Returns how many elements a full tier has in a list of `most` elements. These are at least four times as many as there are
+/// tiers, but at most `GREATEST`.
 pub(crate) fn size_for(most: usize) -> usize
     ensures { LEAST ≤ result }
 {
@@ -42,7 +43,7 @@ fn put_at<T: Drop>(tier: &mut VecDeque<T>, place: usize, x: T)
     }
 }
 
-/// Puts an element at a place of a tier. Out of a full one the last element drops, and is handed back.
+/// Puts an element at a place of a tier. If the tier is full, its last element drops out, and is returned.
 pub(crate) fn put<T: Drop>(tier: &mut VecDeque<T>, size: usize, place: usize, x: T) -> Option<T>
     requires inside { place ≤ deque_len tier.old }
     requires below { place < size }
@@ -66,7 +67,7 @@ pub(crate) fn put<T: Drop>(tier: &mut VecDeque<T>, size: usize, place: usize, x:
     }
 }
 
-/// Makes room for so many elements in all, at most those of a full tier. It grows as a `Vec` does, up to a full tier.
+/// Makes room for `most` elements in all, at most those of a full tier. It grows as a `Vec` does, up to a full tier.
 pub(crate) fn grow<T>(tier: &mut VecDeque<T>, size: usize, most: usize) -> Result<(), Memory>
     requires { most ≤ size }
     ensures items { tier.new.items ≡ tier.old.items }

@@ -17,11 +17,11 @@ use std::collections::VecDeque;
 use std::marker::Model;
 use std::mem;
 
-/// A list into which elements are put at any place. A contract sees the elements, and for how many more room was made.
+/// A list into which elements are put at any place. A contract sees the elements, and for how many more elements room was made.
 #[derive(Drop)]
 pub struct TieredVec<T> {
     alloc: Global,
-    /// All full but the last; behind that one there may be empty ones.
+    /// All tiers are full but the last that has elements. Behind that one there may be empty ones.
     tiers: Vec<VecDeque<T>>,
     /// How many elements a full tier has.
     size: usize,
@@ -46,14 +46,14 @@ impl<T> Model for TieredVec<T> {
 }
 
 impl<T: Drop> TieredVec<T> {
-    /// An empty list, which takes no memory.
+    /// Returns an empty list. It takes no memory.
     pub fn new(alloc: Global) -> TieredVec<T>
         ensures { result.items ≡ [] }
     {
         TieredVec::of_size(alloc, LEAST)
     }
 
-    /// An empty list of tiers of so many elements.
+    /// Returns an empty list whose full tiers have `size` elements.
     fn of_size(alloc: Global, size: usize) -> TieredVec<T>
         requires { 0 < size }
         ensures items { result.items ≡ [] }
@@ -68,14 +68,14 @@ impl<T: Drop> TieredVec<T> {
         }
     }
 
-    /// How many elements there are.
+    /// Returns the number of elements.
     pub fn len(&self) -> usize
         ensures { result ≡ length self.now.items }
     {
         self.len
     }
 
-    /// The element at a place, in constant time.
+    /// Returns the element at a place, in constant time. The first place is 0. Returns `None` if no element is at the place.
     pub fn get(&self, place: usize) -> Option<&T>
         ensures { option_copied result ≡ slice_get self.now.items place }
     {
@@ -86,8 +86,11 @@ impl<T: Drop> TieredVec<T> {
         }
     }
 
-    /// Makes room for so many more elements. Where memory ends, the elements and the room are as before. Now and then it moves all
-    /// elements into wider tiers, and has room for both meanwhile: each time the list is four times as long.
+    /// Makes room for `more` further elements. If memory runs out, the elements and the room are as before. `Memory` comes too if
+    /// there would be more elements than a `usize` counts.
+    ///
+    /// Each time that the list has become four times as long, it moves all elements into wider tiers. Meanwhile it has memory for
+    /// both.
     pub fn reserve(&mut self, more: usize) -> Result<(), Memory>
         ensures same { self.new.items ≡ self.old.items }
         ensures kept { self.old.room ≤ self.new.room }
@@ -106,7 +109,7 @@ impl<T: Drop> TieredVec<T> {
         self.make_room(most)
     }
 
-    /// Makes room for so many elements in all, in tiers of the size that they have.
+    /// Makes room for `most` elements in all, in tiers of the size that they have.
     fn make_room(&mut self, most: usize) -> Result<(), Memory>
         requires { length self.old.items + self.old.room ≤ most }
         ensures same { self.new.items ≡ self.old.items }
@@ -119,7 +122,7 @@ impl<T: Drop> TieredVec<T> {
         Ok(())
     }
 
-    /// The same in tiers of another size, into which all elements are moved.
+    /// Makes room for `most` elements in all, in tiers of another size. It moves all elements into these.
     fn widen(&mut self, size: usize, most: usize) -> Result<(), Memory>
         requires some { 0 < size }
         requires more { length self.old.items + self.old.room ≤ most }
@@ -135,8 +138,8 @@ impl<T: Drop> TieredVec<T> {
         Ok(())
     }
 
-    /// Puts an element at a place, for which room was made: it takes no memory. It moves at most half a tier, and one element of each
-    /// tier behind.
+    /// Puts an element at a place, from 0 up to the length. Then the elements from there on are one place further. A caller has made
+    /// room before, so it takes no memory. It moves at most half a tier, and one element of each tier behind.
     pub fn insert(&mut self, place: usize, x: T)
         requires inside { place ≤ length self.old.items }
         requires room { 1 ≤ self.old.room }
@@ -147,7 +150,7 @@ impl<T: Drop> TieredVec<T> {
         self.len += 1;
     }
 
-    /// Takes out the element at a place. It moves at most half a tier, and one element of each tier behind.
+    /// Removes the element at a place, and drops it. It moves at most half a tier, and one element of each tier behind.
     pub fn remove(&mut self, place: usize)
         requires { place < length self.old.items }
         ensures items { self.new.items ≡ remove self.old.items place }
@@ -157,7 +160,7 @@ impl<T: Drop> TieredVec<T> {
         self.len -= 1;
     }
 
-    /// The element at a place that is there.
+    /// Returns the element at a place that is there.
     fn at(&self, place: usize) -> &T
         requires { place < length self.now.items }
         ensures { result.now ≡ slice_index_or self.now.items place result.now }
@@ -165,8 +168,8 @@ impl<T: Drop> TieredVec<T> {
         &self.tiers[place / self.size][place % self.size]
     }
 
-    /// Where what is looked for lies: `Ok` of its place, or, where the elements ascend and it is not there, `Err` of the place where
-    /// it belongs.
+    /// Searches for what the probe looks for, by halving. Returns `Ok` of a place where it lies. If the elements ascend and it is not
+    /// there, returns `Err` of the place where it belongs.
     pub fn search<Q: Probe<T>>(&self, probe: &Q) -> Result<usize, usize>
         ensures bound { IsSearchInRange result (length self.now.items) }
         ensures position { IsBinarySearchResult (Q.order probe.now) self.now.items result }

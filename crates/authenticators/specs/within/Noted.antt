@@ -11,7 +11,7 @@ use Rattle.authenticators.specs.StatementSet.{Conflict, IsAt}
 abbrev pub by_node : Clash → Clash → Ordering
 by_node p q = nat_cmp p.node q.node
 
--- Where the statement stands.
+-- The statement's node and number.
 abbrev pub point_of : Authenticator → Clash
 point_of a = record { node = a.node; seq = a.seq }
 

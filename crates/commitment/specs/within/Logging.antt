@@ -1,4 +1,4 @@
--- What is logged as a block, and how a call that logs one answers.
+-- What is logged as a block, and what a call that logs a block reports.
 use Rattle.std.specs.Prelude.{◌≡◌, ◌≤◌, ◌⊎◌, List, length, Option, None, Some, Result, Err, IfOk, IfErr, OnErr}
 use Rattle.std.specs.List.{All}
 use Rattle.replay_verifier.specs.declared.limits.TheConstants.{LONGEST_PAYLOAD, MOST_OUTPUTS}
@@ -11,7 +11,7 @@ use Rattle.commitment.specs.Accounts.{Account, sender_of}
 use Rattle.messages.specs.Messages.{quote}
 use Rattle.commitment.specs.Nodes.{heard_of}
 
--- The outputs of a step are so few, and each so short, that a block has them all.
+-- The outputs of a step are few enough, and each is short enough, for one block.
 pub record FitBlock (outputs : List Output) : Type 0 where
   pub count : length outputs ≤ MOST_OUTPUTS
   pub payloads : All (λ o. length o.payload ≤ LONGEST_PAYLOAD) outputs
@@ -22,8 +22,8 @@ pub record IsNewTo (a : Account) (m : Message) : Type 0 where
   pub fits : IsQuote (quote m)
   pub unheard : heard_of a (sender_of m) ≡ None
 
--- What forbids the call, if something does, is told whether there is memory or not. Else it refuses for want of memory alone. A
--- refusal leaves the account as it was.
+-- If something forbids the call, the call reports it, with or without memory. Else it refuses only if memory runs out. A refusal leaves
+-- the account as it was.
 pub record RefusesFor {A : Type 0} (fault : Option NodeFault) (result : Result A NodeFault) (old new : Account) : Type 0 where
   pub allowed : IfOk result (λ _. fault ≡ None)
   pub told : (e : NodeFault) → fault ≡ Some e → result ≡ Err e

@@ -16,11 +16,11 @@ pub record HasForm (key : PublicKey) (sig : List ℕ) : Type 0 where
   pub ots_type : u32_at sig 4 ≡ ots_typecode key.ots_type
   pub lms_type : u32_at sig (40 + 32 * chain_count key.ots_type) ≡ lms_typecode key.lms_type
 
--- Q
+-- Q, the digest that the signature signs
 abbrev pub digest_of : Signed → List ℕ
 digest_of s = message_digest s.key.now.id (u32_at s.signature.now 0) (hash_at s.signature.now 8) s.message.now
 
--- Kc
+-- Kc, the one-time public key that the signature gives
 abbrev pub key_of : Signed → List ℕ
 key_of s = key_candidate s.key.now.ots_type s.key.now.id (u32_at s.signature.now 0) (hash_at s.signature.now 8) (drop 40 s.signature.now) s.message.now
 
@@ -40,7 +40,8 @@ pub record IsGroup (ots : OtsType) (n : ℕ) (group : List Signed) : Type 0 wher
   pub ots_type : (j : ℕ) (d : Signed) → j < 8 → (slice_index_or group j d).key.now.ots_type ≡ ots
   pub len : (j : ℕ) (d : Signed) → j < 8 → length (slice_index_or group j d).message.now ≡ n
 
--- The second has the form of a signature, by a key of the first one's type, of a message of the first one's length, which has room.
+-- The second has the form of a signature. Its key has the type of one-time signature of the first key, and its message has the
+-- length of the first message, which has room.
 pub record IsLike (first other : Signed) : Type 0 where
   pub form : HasForm other.key.now other.signature.now
   pub ots_type : other.key.now.ots_type ≡ first.key.now.ots_type

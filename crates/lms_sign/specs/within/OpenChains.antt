@@ -29,11 +29,11 @@ from_signature ots id q text ys i =
     let a = coef text i (width ots) in
     record { place = chain_place id q i; step = a; left = 2 ^ width ots - 1 - a; value = hash_at ys (32 * i) }
 
--- chain i of leaf q before its start is made: the start is the seed hashed as a step of the number 0xff hashes a value
+-- chain i of leaf q before its start is made; its one step, of the number 0xff, hashes the seed as if it were a value
 -- (appendix A)
 abbrev pub from_seed : List ℕ → List ℕ → ℕ → ℕ → OpenChain
 from_seed id seed q i = record { place = chain_place id q i; step = 0xff; left = 1; value = seed }
 
--- a chain at step 0, which takes as many steps as told
+-- the same chain and value at step 0, with this number of steps left
 abbrev pub restarted : OpenChain → ℕ → OpenChain
 restarted c steps = record { place = c.place; step = 0; left = steps; value = c.value }

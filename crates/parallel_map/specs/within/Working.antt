@@ -31,7 +31,7 @@ pub record Settled {T : Type 0} (table : TableId) (d : Drawn T) : Type 0 where
   pub numbers : d.seat.me.0.numbers ≡ places d.placed.items
   pub parts : d.seat.me.0.parts ≡ 1
 
--- And each value is one that the work may give.
+-- The seat has the numbers of its values, and each value is one that the work may give.
 pub record Worked {F T : Type 0} (g : Shared F (ℕ × Unit {0}) T) (f : F) (table : TableId) (d : Drawn T) : Type 0 where
   pub settled : Settled table d
   pub gives : GivesPlaced g f d.placed.items

@@ -2,7 +2,7 @@
 use Rattle.std.specs.Prelude.{◌≡◌, ℕ, ◌+◌, ◌*◌, ◌/◌, ◌%◌, List, length, take, drop}
 use Rattle.sha2.specs.Sha256.{padded_message}
 
--- the blocks of a padded text of n bytes that are no whole blocks of the text
+-- the number of blocks of a padded text of n bytes that are not whole blocks of the text
 abbrev pub tail_blocks : ℕ → ℕ
 tail_blocks n = (n % 64 + 72) / 64
 
