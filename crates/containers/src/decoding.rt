@@ -16,11 +16,11 @@ use evidence_item::Item;
 use log_chain::FieldReader;
 use std::alloc::Global;
 
-/// The item of a text that follows the text `last`.
+/// Reads the item of `text`, which follows the text `last`.
 #[tactic(auto, unfolding(crate::specs::DecodedItems::decoded_of), using(crate::proofs::Decoded::item_decoded))]
 fn decoded_item(alloc: Global, last: &[u8], text: &[u8]) -> Result<Item, Cause>
     ensures exact { Gives cause.Memory (λ item. item.fields) result (decoded_of last.now text.now) }
-    // Memory runs out only where the text is an item's.
+    // Memory runs out only if the text is an item's.
     ensures memory { IfErr result (λ c. c ≡ cause.Memory → IsOk (item_of text.now)) }
 {
     let item = Item::decode(alloc, text)?;
@@ -30,7 +30,7 @@ fn decoded_item(alloc: Global, last: &[u8], text: &[u8]) -> Result<Item, Cause>
     Ok(item)
 }
 
-/// The next item, behind those before it, of which the last has the text `last`; it answers the item's own text.
+/// Reads the next item and adds it to `items`, whose last item has the text `last`. Returns the new item's own text.
 fn next_item<'a>(
     alloc: Global,
     reader: &mut FieldReader<'a>,
@@ -62,12 +62,17 @@ fn next_item<'a>(
     }
 }
 
-/// The items of a text that is there at once, each read and in its place, and **none of them checked**: for what only counts, sorts or
-/// deals out items that others check. It wants neither a directory nor a program, and verifies no signature.
+/// Reads a whole container and returns its items in their order, and **checks none of them**. It is for a caller that only
+/// counts, sorts or deals out items that others check. It needs neither a directory nor a program, and verifies no signature.
 ///
-/// The first of these is told, at the first item that shows it: `Truncated` (40) and `BadMagic` (60) in the header; `Truncated` of
-/// an item's length, `TooLong` (42) of it, `Truncated` of its bytes, its own fault of reading (40 to 43), `NotAscending` (61); and
-/// `Trailing` (43) at the count. `Memory` may come in place of any of them, but not before the first item was read.
+/// It reports the first of these faults, at the first item that shows one:
+///
+/// - Of the header: `Truncated` (40) of the first eight bytes, `BadMagic` (60), `Truncated` of the count.
+/// - Of an item, in this order: `Truncated` of its length, `TooLong` (42) of it, `Truncated` of its bytes, its fault of reading
+///   (40 to 43), `NotAscending` (61).
+/// - `Trailing` (43) at the number of items, if a byte follows the last item.
+///
+/// `Memory` may come in place of any of them, but only after the first item was read.
 pub fn decode_all(alloc: Global, magic: [u8; 8], bytes: &[u8]) -> Result<Vec<Item>, ImportFault>
     ensures items { IfOk result (λ items. import_of magic decoded_of bytes.now ≡ Ok (map (λ (i : Piece). i.fields) items.items)) }
     ensures refused { IfErr result (λ f. Refuses f (import_of magic decoded_of bytes.now)) }

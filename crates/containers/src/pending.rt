@@ -4,12 +4,12 @@ ghost use Rattle.std.specs.Prelude.{◌≡◌, ◌≤◌, drop, length, vec_len}
 
 use std::marker::Model;
 
-/// How many bytes are kept, at least, in front of those that are still to be read, before their memory is freed.
+/// The smallest number of read bytes whose memory is freed at a time: 4 MiB.
 pub const LONGEST_STRIDE: usize = 4_194_304;
 
-/// The bytes that are still to be read of a text. Memory of those in front of them is freed from time to time: of [`LONGEST_STRIDE`] bytes
-/// or more, and of an eighth of those that are left or more, so that reading a text to its end moves a byte eight times at most on
-/// average, and keeps little of what was read.
+/// The bytes that are still to be read. From time to time it frees the memory of the bytes that were read: as soon as they are
+/// at least [`LONGEST_STRIDE`] and at least an eighth of those that are left. So reading to the end moves a byte eight times at
+/// most on average, and little is kept of what was read.
 ///
 /// A contract sees the bytes that are left.
 #[derive(Drop)]
@@ -27,7 +27,7 @@ impl Model for Pending {
     ghost view = { λ p. drop p.start p.bytes.items };
 }
 
-/// Takes so many bytes off the front, and frees their memory.
+/// Takes `count` bytes off the front, and frees their memory.
 fn free_front(bytes: &mut Vec<u8>, count: usize)
     requires { count ≤ vec_len bytes.old }
     ensures { bytes.new.items ≡ drop count bytes.old.items }
@@ -37,21 +37,21 @@ fn free_front(bytes: &mut Vec<u8>, count: usize)
 }
 
 impl Pending {
-    /// All bytes are left.
+    /// Returns a `Pending` of these bytes, all of which are left.
     pub fn new(bytes: Vec<u8>) -> Pending
         ensures { result ≡ bytes.items }
     {
         Pending { bytes, start: 0 }
     }
 
-    /// The bytes that are left.
+    /// Returns the bytes that are left.
     pub fn rest(&self) -> &[u8]
         ensures { result.now ≡ self.now }
     {
         &self.bytes[self.start..]
     }
 
-    /// Takes so many bytes off the front. It takes no memory.
+    /// Takes `count` bytes off the front. It takes no memory.
     pub fn skip(&mut self, count: usize)
         requires { count ≤ length self.old }
         ensures { self.new ≡ drop count self.old }

@@ -1,4 +1,4 @@
-//! The count of a container's items, their texts, and its end.
+//! The count of a container's items, the bytes of each item, and the container's end.
 
 ghost use Rattle.std.specs.Prelude.{◌≡◌, ◌++◌, [], IfErr, IfOk, OnErr, OnOk, Err, Ok, length, suc, List, ℕ};
 ghost use Rattle.log_chain.specs.Fields.{bytes_at};
@@ -12,7 +12,7 @@ use crate::fault::{Cause, ImportFault};
 use item_forms::LONGEST_ITEM;
 use log_chain::{FieldFault, FieldReader};
 
-/// A fault of a field of the container itself, where so many items were read.
+/// Returns the fault of a field of the container itself, after `item` items were read.
 fn field_fault(item: u64, fault: FieldFault) -> ImportFault
     ensures { result ≡ as_fault (of_field item fault) }
 {
@@ -23,11 +23,14 @@ fn field_fault(item: u64, fault: FieldFault) -> ImportFault
     ImportFault { item, cause }
 }
 
-/// How many items a container says that it has, behind the eight bytes by which it is known. It takes no memory, and leaves the reader
-/// at the first item.
+/// Reads the header, and returns how many items the container says that it has. The header is the eight bytes `magic` and the
+/// count. It takes no memory, and leaves the reader at the first item.
 ///
-/// The first of these is told, at item 0: `Truncated` (40) where fewer than eight bytes are there, `BadMagic` (60), `Truncated` of the
-/// count.
+/// It reports the first of these faults, at item 0:
+///
+/// - `Truncated` (40), if there are fewer than eight bytes.
+/// - `BadMagic` (60), if the first eight bytes are not `magic`.
+/// - `Truncated`, if the count is cut off.
 pub fn read_count(reader: &mut FieldReader, magic: &[u8; 8]) -> Result<u64, ImportFault>
     ensures counted { IfOk result (λ count. (reads : ItemReader) → import_of magic.now reads reader.old ≡ rest_of reads count [] [] reader.new) }
     ensures behind { OnOk result ((front : List ℕ) × (reader.old ≡ front ++ reader.new)) }
@@ -50,9 +53,10 @@ pub fn read_count(reader: &mut FieldReader, magic: &[u8; 8]) -> Result<u64, Impo
     }
 }
 
-/// The text of the next item, where so many were read. It takes no memory.
+/// Returns the bytes of the next item, after `item` items were read. It takes no memory.
 ///
-/// The first of these is told, at the next item: `Truncated` (40) of its length, `TooLong` (42), `Truncated` of its bytes.
+/// It reports the first of these faults, at that item: `Truncated` (40) of its length, `TooLong` (42), `Truncated` of its
+/// bytes. Then the reader is as it was.
 pub fn next_text<'a>(reader: &mut FieldReader<'a>, item: u64) -> Result<&'a [u8], ImportFault>
     ensures text { IfOk result (λ text. bytes_at LONGEST_ITEM reader.old ≡ Ok (text.now, reader.new)) }
     ensures refused { IfErr result (λ f. (reads : ItemReader) (n : ℕ) (last : List ℕ) (before : List Fields) → length before ≡ item → rest_of reads (suc n) last before reader.old ≡ Err f) }
@@ -65,9 +69,9 @@ pub fn next_text<'a>(reader: &mut FieldReader<'a>, item: u64) -> Result<&'a [u8]
     }
 }
 
-/// Tests that no byte follows the items of a container, of which so many were read. It takes no memory.
+/// Tests that no byte follows the last item of a container, of which `items` were read. It takes no memory.
 ///
-/// `Trailing` (43) is told at the count of the items.
+/// If a byte follows, it reports `Trailing` (43) at the number of items.
 pub fn read_end(reader: &FieldReader, items: u64) -> Result<(), ImportFault>
     ensures read { OnOk result ((reads : ItemReader) (last : List ℕ) (before : List Fields) → rest_of reads 0 last before reader.now ≡ Ok before) }
     ensures refused { IfErr result (λ f. (reads : ItemReader) (last : List ℕ) (before : List Fields) → length before ≡ items → rest_of reads 0 last before reader.now ≡ Err f) }

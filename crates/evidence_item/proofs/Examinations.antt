@@ -1,5 +1,6 @@
 -- What is known of items whose claims were verified, and lists that are made beside others.
-use Rattle.std.proofs.Common.{◌≡◌, ℕ, ◌+◌, ◌-◌, ◌<◌, ◌≤◌, Bool, true, false, cond, List, [], ◌∷◌, ◌++◌, length, map, take, drop, get_or, Option, Some, None, Result, Ok, Err, refl, sym, ap, ◌∙◌, subst, arith, below_more}
+use Rattle.std.proofs.Common.{◌≡◌, ℕ, ◌+◌, ◌-◌, ◌<◌, ◌≤◌, Bool, true, false, cond, List, [], ◌∷◌, ◌++◌, length, map, take, drop, get_or, Option, Some, None, is_some, Result, Ok, Err, refl, sym, ap, ◌∙◌, subst, arith, below_more}
+use Rattle.std.proofs.lemmas.Bool.{true≢false}
 use Rattle.std.specs.Prelude.{◌&&◌, ◌||◌, not}
 use Rattle.std.specs.List.{flat_map, list_all, list_any}
 use Rattle.std.proofs.lemmas.List.{drop_at, drop_more, drop-drop, get_or_append_left, get_or_default, get_or_at, length-append, length-drop, length-map, length_push, map-append, take_at}
@@ -13,6 +14,8 @@ use Rattle.evidence_item.specs.declared.examining.Found.{Found}
 use Rattle.evidence_item.specs.declared.fault.ItemFault.{ItemFault}
 use Rattle.evidence_item.specs.declared.fault.ItemFault.TheVariants.{BadSignature}
 use Rattle.evidence_item.specs.declared.stating.Stated.{Stated}
+use Rattle.evidence_item.specs.Checking.{is_segment}
+use Rattle.evidence_item.specs.declared.examining.Examined.{Examined}
 use Rattle.evidence_item.specs.Examining.{IsExamined, IsKnown}
 use Rattle.evidence_item.specs.Statements.{is_valid_statement, statements_of}
 use Rattle.evidence_item.specs.Validity.{early_table, fault_of}
@@ -74,6 +77,15 @@ known_stage ds x (Some (Ok s)) own v e =
     subst (λ (answers : List Bool). IsExamined ds x (record { answer = concluded answers (Some (Ok s)) })) (sym e)
     (known_stated ds x s (list_all (λ b. b) (map (is_claim_signed ds) (claims_of s))) v refl)
 
+pub known_other : (ds : Listing) (x : Fields) (stage : Stage) (own : List Bool) → IsStage ds x stage → is_segment x ≡ false → is_some (concluded own stage) ≡ true
+known_other ds x None own v e = absurd (true≢false (sym v ∙ e))
+known_other ds x (Some (Err f)) own v e = refl
+known_other ds x (Some (Ok s)) own v e = refl
+
+-- What is known of the item is true, and it is known unless the item is a segment.
+abbrev pub IsSettled : Listing → Piece → Examined → Type 0
+IsSettled ds x e = IsExamined ds x.fields e × (is_segment x.fields ≡ false → is_some e.answer ≡ true)
+
 -- ---- answers that are left
 
 -- The answers that are left begin with those of the next stage, and behind them are those of the stages behind it.
@@ -102,7 +114,7 @@ next_answers ds stages k at answers stage low below is left =
 pub known_next : (ds : Listing) (items : List Piece) (stages : List Stage) (k at count : ℕ) (answers read : List Bool) (stage again : Stage) (answer : Option (Result Found ItemFault))
     → AreStages ds items stages → at ≤ length answers → k < length stages → stage ≡ get_or stages k stage → again ≡ get_or stages k again
     → drop at answers ≡ map (is_claim_signed ds) (flat_map claims_in (drop k stages)) → count ≡ length (claims_in stage) → read ≡ answers
-    → answer ≡ concluded (take ((at + count) - at) (drop at read)) again → (x : Piece) → IsExamined ds (get_or items k x).fields (record { answer = answer })
+    → answer ≡ concluded (take ((at + count) - at) (drop at read)) again → (x : Piece) → IsSettled ds (get_or items k x) (record { answer = answer })
 known_next ds items stages k at count answers read stage again answer are low below one other left counted same told x =
     let both : again ≡ stage = other ∙ get_or_default stages k again stage below ∙ sym one in
     let next = next_answers ds stages k at answers stage low below (sym one) left in
@@ -112,5 +124,5 @@ known_next ds items stages k at count answers read stage again answer are low be
     let answer_is : answer ≡ concluded (take ((at + count) - at) (drop at read)) stage = told ∙ ap (concluded (take ((at + count) - at) (drop at read))) both in
     let place : k < length items = subst (λ m. k < m) are.count below in
     let of_stage : IsStage ds (get_or items k x).fields stage = subst (λ (s : Stage). IsStage ds (get_or items k x).fields s) (sym one) (are.each k x stage place) in
-    subst (λ (a : Option (Result Found ItemFault)). IsExamined ds (get_or items k x).fields (record { answer = a })) (sym answer_is)
-    (known_stage ds (get_or items k x).fields stage (take ((at + count) - at) (drop at read)) of_stage own)
+    subst (λ (a : Option (Result Found ItemFault)). IsSettled ds (get_or items k x) (record { answer = a })) (sym answer_is)
+    (known_stage ds (get_or items k x).fields stage (take ((at + count) - at) (drop at read)) of_stage own, known_other ds (get_or items k x).fields stage (take ((at + count) - at) (drop at read)) of_stage)

@@ -1,5 +1,5 @@
 -- What is known of an item before it is checked.
-use Rattle.std.specs.Prelude.{◌≡◌, ◌<◌, ℕ, false, List, Option, Some, None, IfSome, MatchResult, Result, length, slice_index_or}
+use Rattle.std.specs.Prelude.{◌≡◌, ◌<◌, ℕ, true, false, is_some, List, Option, Some, None, IfSome, MatchResult, Result, length, slice_index_or}
 use Rattle.authenticators.specs.Directory.{Listing}
 use Rattle.item_forms.specs.declared.forms.Fields.{Fields}
 use Rattle.item_forms.specs.Pieces.{Piece}
@@ -20,16 +20,18 @@ hashes_as (Some sent) (Some received) = Some (findings.Ack sent received)
 abbrev pub findings_as : Found → Option Findings
 findings_as f = hashes_as f.sent f.received
 
--- Of an item that is no segment: no test holds, and what was found is its own; or why it is refused.
+-- What is known of an item that is no segment. If the item is valid, then no test holds, and what was found is its own. If it is not, then
+-- the first test that holds refuses it.
 pub record IsKnown (ds : Listing) (x : Fields) (answer : Result Found ItemFault) : Type 0 where
   pub other : is_segment x ≡ false
   pub told : MatchResult answer (λ f. (fault_of ds x ≡ None) × (findings_of ds x ≡ findings_as f)) (λ e. fault_of ds x ≡ Some e)
 
--- What is known of the item is so, if anything is.
+-- If something is known of the item, then it is true.
 abbrev pub IsExamined : Listing → Fields → Examined → Type 0
 IsExamined ds x e = IfSome e.answer (IsKnown ds x)
 
--- There is something for each item, at its place.
+-- There is one answer for each item, at its place. It is true, and it is there for each item that is no segment.
 pub record AreExamined (ds : Listing) (items : List Piece) (all : List Examined) : Type 0 where
   pub count : length all ≡ length items
   pub each : (n : ℕ) (x : Piece) (e : Examined) → n < length items → IsExamined ds (slice_index_or items n x).fields (slice_index_or all n e)
+  pub others : (n : ℕ) (x : Piece) (e : Examined) → n < length items → is_segment (slice_index_or items n x).fields ≡ false → is_some (slice_index_or all n e).answer ≡ true

@@ -1,4 +1,4 @@
-//! What is known of items before they are checked, whose signatures are verified together.
+//! Items whose signatures are verified together before the items are checked.
 
 ghost use Rattle.std.specs.Prelude.{◌≡◌, ◌<◌, Err, ◌++◌, IfOk, Ok, OnOk, Some, cond, false, length, map};
 ghost use Rattle.std.specs.List.{flat_map, list_all};
@@ -18,15 +18,16 @@ use log_chain::Hash;
 use outcome::Memory;
 use std::alloc::Global;
 
-/// What is found of a valid item that is no segment: of a message the hash of the sender's SEND entry, of an acknowledged message that and
-/// the hash of the receiver's RECV entry.
+/// What is found of a valid item that is no segment. For a message it is the hash of the sender's SEND entry. For an acknowledged message it is
+/// that hash and the hash of the receiver's RECV entry.
 #[derive(Clone, Copy, Debug)]
 pub(crate) struct Found {
     sent: Option<Hash>,
     received: Option<Hash>,
 }
 
-/// What is known of an item before it is checked: of what is no segment, whether it is valid.
+/// What is known of an item before it is checked: whether it is valid, unless it is a segment. [`examine_all`] makes it, and
+/// [`check_examined`](crate::check_examined) takes it.
 #[derive(Clone, Copy, Debug)]
 pub struct Examined {
     pub(crate) answer: Option<Result<Found, ItemFault>>,
@@ -45,7 +46,7 @@ impl Found {
     }
 }
 
-/// Whether all that is stated is signed: each signature is verified alone, the second one if the first is good.
+/// Returns whether all that is stated is signed. It verifies each signature alone, and the second one only if the first is good.
 fn are_signed(directory: &Directory, stated: &Stated) -> bool
     ensures { result ≡ list_all (is_claim_signed directory.now) (claims_of stated.now) }
 {
@@ -59,7 +60,7 @@ fn are_signed(directory: &Directory, stated: &Stated) -> bool
     }
 }
 
-/// What is found of the item where all that it states is signed.
+/// Returns what is found of the item if all that it states is signed.
 fn found_of(stated: &Stated) -> Found
     ensures { result ≡ found_of stated.now }
 {
@@ -71,7 +72,7 @@ fn found_of(stated: &Stated) -> Found
     Found { sent, received }
 }
 
-/// What is known where it is known whether all that is stated is signed.
+/// Concludes whether the item is valid. `signed` says whether all that it states is signed.
 fn conclude(stated: &Stated, signed: bool) -> Result<Found, ItemFault>
     ensures { result ≡ cond signed (Ok (found_of stated.now)) (Err BadSignature) }
 {
@@ -82,7 +83,7 @@ fn conclude(stated: &Stated, signed: bool) -> Result<Found, ItemFault>
     }
 }
 
-/// Whether an item is valid that is no segment, and what is found of it.
+/// Returns what is found of an item that is no segment, or why it is not valid.
 pub(crate) fn examine(directory: &Directory, form: Form<'_>) -> Result<Found, ItemFault>
     requires { is_segment (shown form) ≡ false }
     ensures { IsKnown directory.now (shown form.entry) result }
@@ -93,7 +94,7 @@ pub(crate) fn examine(directory: &Directory, form: Form<'_>) -> Result<Found, It
     }
 }
 
-/// What is stated by the item, or why it is refused whatever its signatures are; nothing of a segment.
+/// Returns what the item states, or why it is refused whatever its signatures are. For a segment it returns `None`.
 fn stage<'a>(directory: &Directory, item: &'a Item) -> Option<Result<Stated<'a>, ItemFault>>
     ensures { IsStage directory.now item.now.fields result }
 {
@@ -103,7 +104,7 @@ fn stage<'a>(directory: &Directory, item: &'a Item) -> Option<Result<Stated<'a>,
     }
 }
 
-/// The same of each item.
+/// Does the same for each item.
 fn stage_all<'a>(
     alloc: Global,
     directory: &Directory,
@@ -118,7 +119,7 @@ fn stage_all<'a>(
     Ok(stages)
 }
 
-/// How many statements are there to be verified.
+/// Counts the statements that are to be verified.
 fn count_in(stage: &Option<Result<Stated, ItemFault>>) -> usize
     ensures { result ≡ length (claims_in stage.now) }
 {
@@ -129,7 +130,7 @@ fn count_in(stage: &Option<Result<Stated, ItemFault>>) -> usize
     }
 }
 
-/// Puts the statements to the list.
+/// Appends the statements to the list.
 fn put_claims<'a>(claims: &mut Vec<Claim<'a>>, stated: &Stated<'a>) -> Result<(), Memory>
     ensures { OnOk result (claims.new.items ≡ claims.old.items ++ claims_of stated.now) }
 {
@@ -145,7 +146,7 @@ fn put_claims<'a>(claims: &mut Vec<Claim<'a>>, stated: &Stated<'a>) -> Result<()
     Ok(())
 }
 
-/// All that are to be verified, in the order of the items.
+/// Lists all statements that are to be verified, in the order of the items.
 fn claims_in<'a>(
     alloc: Global,
     stages: &[Option<Result<Stated<'a>, ItemFault>>],
@@ -161,14 +162,14 @@ fn claims_in<'a>(
     Ok(claims)
 }
 
-/// Whether all are true.
+/// Returns whether all are true.
 fn are_true(answers: &[bool]) -> bool
     ensures { result ≡ list_all (λ b. b) answers.now }
 {
     answers.iter().all(|answer| *answer)
 }
 
-/// What is known of the item whose statements were verified with these answers.
+/// Concludes what is known of an item. `answers` says of each of its statements whether it is signed.
 fn conclude_stage(
     stage: &Option<Result<Stated, ItemFault>>,
     answers: &[bool],
@@ -182,9 +183,9 @@ fn conclude_stage(
     }
 }
 
-/// Examines each item under the directory: what is no segment is known to be valid or not, and of segments nothing is known. Signatures are
-/// verified together, eight at a time (`Directory::verifies_all`), and each once; [`check_examined`](crate::check_examined) verifies them no more.
-/// It takes some 68 KB of memory, and some 600 bytes more for each item.
+/// Examines each item under the directory. Afterwards it is known of each item whether it is valid, unless it is a segment: nothing is known of
+/// segments. It verifies each signature once, eight at a time (`Directory::verifies_all`). [`check_examined`](crate::check_examined) then
+/// verifies them no more. It takes some 68 KB of memory, and some 600 bytes more for each item.
 pub fn examine_all(
     alloc: Global,
     directory: &Directory,

@@ -17,15 +17,15 @@ use item_forms::{AckItem, AuditChallenge, Form, Message, Statement};
 pub(crate) enum Stated<'a> {
     /// The statement itself.
     Auth(Claim<'a>),
-    /// The first statement, where there is one, and the last one.
+    /// The first statement, if there is one, and the last one.
     Audit(Option<Claim<'a>>, Claim<'a>),
-    /// The sender's.
+    /// The sender's statement.
     Send(Claim<'a>),
-    /// The sender's and the receiver's.
+    /// The sender's and the receiver's statement.
     Ack(Claim<'a>, Claim<'a>),
 }
 
-/// The node's statement.
+/// Claims that the node signed the statement.
 fn claim_of(node: NodeId, statement: &Statement) -> Claim<'_>
     ensures { said result ≡ named node statement.now }
 {
@@ -37,7 +37,7 @@ fn claim_of(node: NodeId, statement: &Statement) -> Claim<'_>
     )
 }
 
-/// The same of the first statement of an audit challenge, where there is one.
+/// Does the same for the first statement of an audit challenge, if there is one.
 fn first_claim(node: NodeId, first: &Option<Statement>) -> Option<Claim<'_>>
     ensures { map said (first_in result) ≡ first_named node first.now }
 {
@@ -47,7 +47,7 @@ fn first_claim(node: NodeId, first: &Option<Statement>) -> Option<Claim<'_>>
     }
 }
 
-/// The sender's statement of the SEND entry of a message. Its hash is computed once.
+/// Claims the sender's statement of the SEND entry of a message. It computes its hash once.
 fn sent_claim(message: &Message) -> Claim<'_>
     ensures { said result ≡ sent message.now }
 {
@@ -59,7 +59,7 @@ fn sent_claim(message: &Message) -> Claim<'_>
     )
 }
 
-/// The receiver's statement of the RECV entry of an acknowledged message. Its hash is computed once.
+/// Claims the receiver's statement of the RECV entry of an acknowledged message. It computes its hash once.
 fn acknowledged_claim(ack: &AckItem) -> Claim<'_>
     ensures { said result ≡ acknowledged ack.now }
 {
@@ -71,7 +71,7 @@ fn acknowledged_claim(ack: &AckItem) -> Claim<'_>
     )
 }
 
-/// What a statement states.
+/// Returns what a statement states, or why it is refused whatever its signature is.
 fn state_auth<'a>(
     directory: &Directory,
     authenticator: &'a Authenticator,
@@ -89,7 +89,7 @@ fn state_auth<'a>(
     )))
 }
 
-/// Whether the first entry that is named does not come before the last one.
+/// Returns whether the first entry that is named does not come before the last one.
 fn comes_late(first: &Option<Statement>, last: &Statement) -> bool
     ensures { result ≡ comes_late first.now last.now }
 {
@@ -99,7 +99,7 @@ fn comes_late(first: &Option<Statement>, last: &Statement) -> bool
     }
 }
 
-/// What an audit challenge states.
+/// Returns what an audit challenge states, or why it is refused whatever its signatures are.
 fn state_audit<'a>(
     directory: &Directory,
     challenge: &'a AuditChallenge,
@@ -116,7 +116,7 @@ fn state_audit<'a>(
     Ok(Stated::Audit(first, claim_of(challenge.node, &challenge.last)))
 }
 
-/// Why a message is refused whatever its signature is, if it is.
+/// Returns why a message is refused whatever its signature is, if it is refused.
 fn parties_fault(directory: &Directory, message: &Message) -> Option<ItemFault>
     ensures { result ≡ early_fault directory.now (form.Send message.now) }
 {
@@ -129,7 +129,7 @@ fn parties_fault(directory: &Directory, message: &Message) -> Option<ItemFault>
     }
 }
 
-/// What a message states.
+/// Returns what a message states, or why it is refused whatever its signature is.
 fn state_send<'a>(directory: &Directory, message: &'a Message) -> Result<Stated<'a>, ItemFault>
     ensures { MatchResult result (States directory.now (form.Send message.now)) (λ e. early_fault directory.now (form.Send message.now) ≡ Some e) }
 {
@@ -139,7 +139,7 @@ fn state_send<'a>(directory: &Directory, message: &'a Message) -> Result<Stated<
     }
 }
 
-/// What an acknowledged message states.
+/// Returns what an acknowledged message states, or why it is refused whatever its signatures are.
 fn state_ack<'a>(directory: &Directory, ack: &'a AckItem) -> Result<Stated<'a>, ItemFault>
     ensures { MatchResult result (States directory.now (form.Ack ack.now)) (λ e. early_fault directory.now (form.Ack ack.now) ≡ Some e) }
 {
@@ -149,7 +149,7 @@ fn state_ack<'a>(directory: &Directory, ack: &'a AckItem) -> Result<Stated<'a>, 
     }
 }
 
-/// What an item states that is no segment, or why it is refused whatever its signatures are.
+/// Returns what an item that is no segment states, or why it is refused whatever its signatures are.
 pub(crate) fn state<'a>(directory: &Directory, form: Form<'a>) -> Result<Stated<'a>, ItemFault>
     requires { is_segment (shown form) ≡ false }
     ensures { MatchResult result (States directory.now (shown form.entry)) (λ e. early_fault directory.now (shown form.entry) ≡ Some e) }

@@ -1,4 +1,4 @@
--- Forged statements: those of a node that a set holds and that the node did not sign.
+-- Forged statements: a set holds them of a node, and the node did not sign them.
 use Rattle.std.specs.Prelude.{◌≡◌, ◌≢◌, ℕ, ◌<◌, ◌^◌, List}
 use Rattle.std.specs.List.{Contains}
 use Rattle.log_chain.specs.Fields.{IsBytesOf}
@@ -12,8 +12,8 @@ use Rattle.evidence_set.specs.Valid.{AreValid}
 use Rattle.evidence_set.specs.Held.{IsHeld}
 use Rattle.evidence_set.specs.ItemSets.{Items, IsWithin, insert, none}
 
--- The set holds a statement of node j whose number and hash are not among those that were signed. The number is one of eight bytes,
--- the hash one of 32 bytes.
+-- The set holds a statement of node j whose number and hash are not among those that the node signed. The number has eight bytes, and the
+-- hash has 32 bytes.
 pub record Forged (ds : Listing) (E : Items) (j : ℕ) (signed : List Stamp) : Type 0 where
   pub statement : Authenticator
   pub held : IsHeld ds E j statement
@@ -23,18 +23,23 @@ pub record Forged (ds : Listing) (E : Items) (j : ℕ) (signed : List Stamp) : T
 
 -- ---- laws, which `laws` proves
 
--- A statement of the node that is held and was not signed is a forgery, and where the items are valid one of the node's keys
--- verifies it; there is none where each was signed, as where the set is empty or has but another signature of what was signed,
--- and a statement of another node is none; and more items take none back.
+-- What is a forgery and what is none.
 pub record ForgeriesAreUnsigned : Type 0 where
+  -- A statement that the set holds and its node did not sign is a forgery.
   pub found : (ds : Listing) (E : Items) (j : ℕ) (signed : List Stamp) (a : Authenticator)
       → IsHeld ds E j a → ¬ (Contains signed (stamp a)) → Forged ds E j signed
+  -- If the items are valid, one of the node's keys verifies the forged statement.
   pub verifies : (ds : Listing) (E : Items) (j : ℕ) (signed : List Stamp) → AreValid ds E → (f : Forged ds E j signed) → IsSigned ds f.statement
+  -- If the node signed each statement that the set holds of it, there is no forgery.
   pub all_signed : (ds : Listing) (E : Items) (j : ℕ) (signed : List Stamp)
       → ((a : Authenticator) → IsHeld ds E j a → Contains signed (stamp a)) → ¬ (Forged ds E j signed)
+  -- The empty set has no forgery.
   pub empty : (ds : Listing) (j : ℕ) (signed : List Stamp) → ¬ (Forged ds none j signed)
+  -- Another signature of what the node signed is no forgery.
   pub again : (ds : Listing) (x : Piece) (a : Authenticator) (signed : List Stamp)
       → x.fields ≡ form.Auth a → Contains signed (stamp a) → ¬ (Forged ds (insert none x) a.node signed)
+  -- A statement of another node is no forgery of node j.
   pub others : (ds : Listing) (x : Piece) (a : Authenticator) (j : ℕ) (signed : List Stamp)
       → x.fields ≡ form.Auth a → j ≢ a.node → ¬ (Forged ds (insert none x) j signed)
+  -- A set with a forgery still has one if more items are added.
   pub stay : (ds : Listing) (A B : Items) (j : ℕ) (signed : List Stamp) → IsWithin A B → Forged ds A j signed → Forged ds B j signed

@@ -8,23 +8,23 @@ use replay_verifier::laws::{
     deviating_lists_do_not_conform, prefixes_conform, the_test_is_genuine,
 };
 
-/// A key that is added to a directory stands behind those of its node, and changes no other.
+/// A key that is added to a directory comes after the other keys of its node, and changes no other key.
 pub fn keys_are_added_behind()
     ensures { KeysAreAddedBehind }
 {}
 
-/// With further keys the same nodes are listed, each key keeps its number, and what was signed is signed.
+/// With further keys, the same nodes are listed, each key keeps its number, and what was signed is signed.
 pub fn further_keys_keep_statements()
     ensures { FurtherKeysKeepStatements }
 {}
 
-/// An item that is valid is valid with further keys.
+/// An item that is valid stays valid with further keys.
 pub fn further_keys_keep_items()
     ensures { FurtherKeysKeepItems }
 {}
 
-/// What conforms conforms with further keys; and what deviates deviates so, but for a RECV entry at that place whose quote was not
-/// genuine and is with the further keys.
+/// What conforms still conforms with further keys. What deviates still deviates, at the same entry and for the same reason,
+/// with one exception. If the entry is a RECV entry whose quote was not genuine, it may be genuine with the further keys.
 pub fn further_keys_keep_verdicts<S>()
     ensures { FurtherKeysKeepVerdicts S }
 {
@@ -35,8 +35,8 @@ pub fn further_keys_keep_verdicts<S>()
     prefixes_conform::<S>();
 }
 
-/// A proof by two statements, or by a statement and a segment, convicts with further keys. So does one by a segment that deviates, but
-/// at such an entry.
+/// A proof of two statements, or of a statement and a segment, still convicts with further keys. So does a proof of a segment
+/// that deviates, with the exception of an entry whose quote becomes genuine.
 pub fn further_keys_keep_proofs<S>()
     ensures { FurtherKeysKeepProofs S }
 {
@@ -48,8 +48,8 @@ pub fn further_keys_keep_proofs<S>()
     deviating_lists_do_not_conform::<S>();
 }
 
-/// What exposes a node by statements, or by a statement and a segment, exposes it with further keys; and a segment that does not conform
-/// with them did not before.
+/// If two statements expose a node, or a statement and a segment, they still expose it with further keys. A segment that does
+/// not conform with further keys did not conform before.
 pub fn further_keys_keep_exposures<S>()
     ensures { FurtherKeysKeepExposures S }
 {}

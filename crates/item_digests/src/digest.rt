@@ -7,7 +7,7 @@ use crate::feeding::feed_tagged;
 use item_forms::{Hash, Item};
 use sha2::{Digest, Sha256};
 
-/// The SHA-256 value of the item's spelling. Each field is hashed where it lies; it takes no memory.
+/// Returns the item's digest: the SHA-256 value of its encoding. It hashes each field where it lies, and takes no memory.
 pub fn digest_of(item: &Item) -> Hash
     ensures { result ≡ digest_of item.now }
 {

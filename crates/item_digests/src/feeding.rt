@@ -1,4 +1,4 @@
-//! Hashing an item: each field in turn, as it is written.
+//! Hashing of items: each field in turn, as the encoding has it.
 
 ghost use Rattle.std.specs.Prelude.{[], ◌∷◌, ◌<◌, ◌^◌, IfSome, length};
 ghost use Rattle.std.specs.Int.{to_be_bytes, w32, w64};
@@ -13,14 +13,14 @@ use item_forms::{AckItem, AuditChallenge, Authenticator, Entry, Form, Hash, Segm
 use messages::Message;
 use sha2::{Digest, Sha256};
 
-/// Hashes one byte more.
+/// Feeds the hasher one byte.
 pub fn feed_u8(hasher: &mut Sha256, value: u8)
     ensures { Feeds hasher.old hasher.new (value ∷ []) }
 {
     hasher.update([value]);
 }
 
-/// Hashes a number of four bytes more.
+/// Feeds the hasher a number in four bytes, with its highest byte first.
 pub fn feed_u32(hasher: &mut Sha256, value: u32)
     ensures { Feeds hasher.old hasher.new (to_be_bytes w32 value) }
 {
@@ -33,14 +33,14 @@ fn feed_u64(hasher: &mut Sha256, value: u64)
     hasher.update(value.to_be_bytes());
 }
 
-/// Hashes a hash more.
+/// Feeds the hasher the 32 bytes of a hash.
 pub fn feed_hash(hasher: &mut Sha256, hash: Hash)
     ensures { Feeds hasher.old hasher.new hash }
 {
     hasher.update(hash.0);
 }
 
-/// Hashes a length of four bytes more, and the bytes.
+/// Feeds the hasher the length of the bytes, in four bytes, and then the bytes.
 pub fn feed_bytes(hasher: &mut Sha256, bytes: &[u8])
     requires { length bytes.now < 2 ^ 32 }
     ensures { Feeds hasher.old hasher.new (bytes_text bytes.now) }
@@ -58,7 +58,7 @@ fn feed_statement(hasher: &mut Sha256, statement: &Statement)
     feed_bytes(hasher, statement.sig.as_slice());
 }
 
-/// Hashes an entry more, as a segment's spelling has it.
+/// Feeds the hasher an entry, as a segment's encoding has it.
 pub fn feed_entry(hasher: &mut Sha256, entry: &Entry)
     requires { FitsEntry entry.now }
     ensures { Feeds hasher.old hasher.new (entry_spelling entry.now) }
@@ -149,7 +149,7 @@ fn feed_ack(hasher: &mut Sha256, ack: &AckItem)
     feed_bytes(hasher, ack.sig.as_slice());
 }
 
-/// The form's tag, and its fields.
+/// Feeds the hasher the encoding of an item of this form: its tag, and then its fields.
 pub(crate) fn feed_tagged(hasher: &mut Sha256, form: Form<'_>)
     requires { Fits (shown form) }
     ensures { Feeds hasher.old hasher.new (spelling (shown form.entry)) }

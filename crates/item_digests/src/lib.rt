@@ -1,8 +1,9 @@
-//! Digests of items: the SHA-256 value (FIPS 180-4) of an item's spelling, by which a store tells another what it has.
+//! Digests of items. The digest of an item is the SHA-256 value (FIPS 180-4) of its encoding. By digests a store reports to another store
+//! which items it has.
 //!
-//! [`digest_of`] hashes the fields as they are lent, one behind the other: nothing is spelled, and no memory is taken.
-//! What keeps entries in a form of its own feeds a hasher by [`feed_entry`] and the others. `specs/Digests.antt` says what a digest is,
-//! and `specs/Feeding.antt` what feeding is.
+//! [`digest_of`] hashes the fields one after the other, as they are lent. It makes no encoding, and takes no memory. A crate that keeps
+//! entries in another form can feed a hasher by [`feed_entry`] and the other calls. `specs/Digests.antt` says what a digest is, and
+//! `specs/Feeding.antt` says what feeding is.
 #![tactic(auto)]
 
 pub use digest::digest_of;

@@ -1,4 +1,4 @@
-//! Items behind their lengths, as texts with several items hold them one behind the other.
+//! Items with their lengths in front. An encoding of several items has them so, one after the other.
 
 ghost use Rattle.std.specs.Prelude.{◌+◌, ◌≡◌, ◌≤◌, IfErr, IsOk, OnErr, length};
 ghost use Rattle.log_chain.specs.Fields.{Writes};
@@ -18,7 +18,7 @@ use log_chain::{FieldReader, FieldWriter};
 use outcome::Memory;
 use std::alloc::Global;
 
-/// Whether the bytes begin with another tag than the wanted one.
+/// Returns whether the bytes begin with another tag than the wanted one.
 fn is_other_tag(wanted: Option<u8>, bytes: &[u8]) -> bool
     ensures { result ≡ is_other_tag wanted bytes.now }
 {
@@ -31,12 +31,18 @@ fn is_other_tag(wanted: Option<u8>, bytes: &[u8]) -> bool
     }
 }
 
-/// Reads an item behind its length, which is of the wanted tag where one is wanted. After a refusal the reader stands where it
-/// stood.
+/// Reads an item that has its length in front. With `wanted` it reads only an item of this tag. After a refusal the reader stands where
+/// it stood.
 ///
-/// It is refused with the first of these: `Truncated` (40) of the length, `TooLong` (42) where it is above [`LONGEST_ITEM`],
-/// `Truncated` where fewer bytes are left, `BadTag` (41) where they begin with another tag than the wanted one, and what
-/// [`Item::decode`] tells of them. `Memory` may come in place of the item, and of none of its faults.
+/// It reports the first of these:
+///
+/// - `Truncated` (40): the bytes end within the length, which has four bytes.
+/// - `TooLong` (42): the length is above [`LONGEST_ITEM`].
+/// - `Truncated` (40): fewer bytes are left than the length says.
+/// - `BadTag` (41): these bytes begin with another tag than the wanted one.
+/// - What [`Item::decode`] reports of these bytes.
+///
+/// `Memory` may come in place of the item, but never in place of one of these faults.
 #[tactic(auto, unfolding(crate::specs::FramedItems::framed_at))]
 pub fn read_framed(
     alloc: Global,
@@ -44,7 +50,7 @@ pub fn read_framed(
     reader: &mut FieldReader,
 ) -> Result<Item, DecodeFault>
     ensures took { Took fault.Memory (λ item. item.fields) result reader.new (framed_at wanted reader.old) }
-    // Memory runs out only where there is an item: each fault is told, whether there is memory or not.
+    // `Memory` comes only if there is an item: each fault of the bytes is reported without memory too.
     ensures told { IfErr result (λ e. e ≡ fault.Memory → IsOk (framed_at wanted reader.old)) }
     ensures stays { OnErr result (reader.new ≡ reader.old) }
 {
@@ -58,8 +64,8 @@ pub fn read_framed(
     Ok(item)
 }
 
-/// Goes over an item behind its length, which is refused as [`read_framed`] refuses it. It takes no memory, and after a refusal the
-/// reader stands where it stood.
+/// Goes over an item that has its length in front. It reports the same faults as [`read_framed`], but never `Memory`: it takes no memory.
+/// After a refusal the reader stands where it stood.
 #[tactic(auto, using(crate::proofs::Skipped::field_lends), unfolding(crate::specs::FramedItems::framed_at))]
 pub fn scan_framed(wanted: Option<u8>, reader: &mut FieldReader) -> Result<(), DecodeFault>
     ensures skips { Skips result reader.new (framed_at wanted reader.old) }
@@ -76,7 +82,7 @@ pub fn scan_framed(wanted: Option<u8>, reader: &mut FieldReader) -> Result<(), D
     Ok(())
 }
 
-/// How many bytes an item of this form has with its length in front. It takes no memory.
+/// Returns how many bytes an item of this form takes with its length in front: four more than its encoding. It takes no memory.
 #[tactic(auto, using(crate::proofs::FramedTexts::framed_length))]
 pub fn framed_len(form: Form<'_>) -> usize
     requires { Fits (shown form) }
@@ -87,7 +93,7 @@ pub fn framed_len(form: Form<'_>) -> usize
     4 + form.encoded_len()
 }
 
-/// Writes an item of this form behind its length, behind what is written. Where memory runs out, nothing of it is written.
+/// Writes an item of this form, with its length in front, after what is written already. If memory runs out, it writes nothing.
 pub fn write_framed(writer: &mut FieldWriter, form: Form<'_>) -> Result<(), Memory>
     requires { Fits (shown form) }
     ensures { Writes result writer.old writer.new (framed (shown form.entry)) }

@@ -1,5 +1,5 @@
 //! Limits of items.
 
-/// The greatest number of bytes of an item's spelling: that of a segment of 4,096 entries, each with the longest content, and the
-/// longest signature text.
+/// The greatest number of bytes of an item's encoding. A segment has as many if it has 4,096 entries with the longest content each, and
+/// the longest signature text.
 pub const LONGEST_ITEM: usize = 536_933_530;

@@ -1,5 +1,5 @@
-//! Texts of items gone over without memory: each field is met from left to right, and none is copied. So a text with a fault is
-//! refused before anything is kept of it.
+//! Checks of encodings without memory. A call goes over each field from left to right, and copies none. So bytes with a fault are
+//! refused before anything of them is kept.
 
 ghost use Rattle.std.specs.Prelude.{◌≡◌, IfErr};
 ghost use Rattle.outcome.specs.Outcome.{told_as};
@@ -164,7 +164,8 @@ fn skip_item(reader: &mut FieldReader) -> Result<(), DecodeFault>
 }
 
 impl Item {
-    /// Whether all the bytes are an item's text: it is refused as [`Item::decode`] is. It takes no memory.
+    /// Checks that all the bytes are an item's encoding. It reports the same faults as [`Item::decode`], but never `Memory`: it takes no
+    /// memory.
     #[tactic(auto, using(crate::proofs::Skipped::field_lends), unfolding(crate::specs::Reading::item_of))]
     pub fn scan(bytes: &[u8]) -> Result<(), DecodeFault>
         ensures scans { result ≡ without_value (item_of bytes.now) }

@@ -15,16 +15,18 @@ use Rattle.node_journals.specs.Refusals.{of_field}
 
 -- ---- spelling
 
--- The eight bytes by which a node's journal is known.
+-- The eight bytes with which a node's journal begins.
 abbrev pub magic : List ℕ
 magic = codes "PRNODEJ1"
 
--- The eight bytes, node 4, first number 8, digest of the directory 32, key 56, the program's name.
+-- The encoding of a beginning. It has the eight bytes, the node in 4 bytes, the first number in 8, the digest of the directory
+-- in 32, and the key in 56. The program's name follows, behind its length in four bytes.
 abbrev pub beginning_text : Beginning → List ℕ
 beginning_text b = magic ++ to_be_bytes w32 b.me ++ to_be_bytes w64 b.first_seq ++ b.directory ++ key_text b.key ++ bytes_text b.program
 
 -- ---- what has a spelling
 
+-- The beginning has an encoding: its numbers, its digest, its key and its program's name are within their limits.
 pub record FitsBeginning (b : Beginning) : Type 0 where
   pub me : b.me < 2 ^ 32
   pub first_seq : b.first_seq < 2 ^ 64
@@ -34,16 +36,18 @@ pub record FitsBeginning (b : Beginning) : Type 0 where
 
 -- ---- reading
 
--- the eight bytes, and nothing else in their place
+-- The test of the first eight bytes.
 abbrev pub known : List ℕ → Result (Unit {0}) RecordFault
 known front = if bytes_eq front magic then Ok tt else Err BadMagic
 
+-- The first eight bytes, which must be those of a node's journal.
 unfoldable pub magic_at : List ℕ → Read (Unit {0}) RecordFault
 magic_at bytes = do
   front ← told_as of_field (take_at 8 bytes)
   known ← known front.0
   Ok (known, front.1)
 
+-- The fields of a beginning, in the order of `beginning_text`.
 unfoldable pub beginning_at : List ℕ → Read Beginning RecordFault
 beginning_at bytes = do
   known ← magic_at bytes
@@ -54,13 +58,13 @@ beginning_at bytes = do
   program ← told_as of_field (bytes_at LONGEST_NAME key.1)
   Ok (record { me = me.0; first_seq = first.0; directory = directory.0; key = key.0; program = program.0 }, program.1)
 
--- the beginning that takes all of the bytes
+-- The beginning that takes up all of the bytes.
 unfoldable pub beginning_of : List ℕ → Result Beginning RecordFault
 beginning_of bytes = ended (beginning_at bytes)
 
 -- ---- a law, which `laws` proves
 
--- What is read is spelled so, and what is spelled so is read.
+-- What is read is the encoding of the beginning that was read, and the encoding of a beginning is read as that beginning.
 pub record BeginningsReadBack : Type 0 where
   pub found : (bytes : List ℕ) (b : Beginning) → IsBytes bytes → beginning_of bytes ≡ Ok b → FitsBeginning b × (bytes ≡ beginning_text b)
   pub only : (b : Beginning) → FitsBeginning b → beginning_of (beginning_text b) ≡ Ok b

@@ -17,7 +17,7 @@ use Rattle.node_journals.specs.Keys.{key_for}
 
 -- ---- what is given
 
--- What a record gives a node: none where it names a key that none of the secrets makes.
+-- What a record gives a node, or None if it names a key that none of the secrets makes.
 abbrev pub given_of : List Secret → Recorded → Option Given
 given_of secrets (Received m entropy) = Some (Receive m entropy)
 given_of secrets (Ticked moment entropy) = Some (Tick moment entropy)
@@ -27,7 +27,7 @@ given_of secrets (Rekeyed key) = option_map Rekey (key_for secrets key)
 
 -- ---- what is answered
 
--- What a call answers beside the node.
+-- What a call answers, without the node.
 pub data Answer : Type 0 where
   -- an acknowledgement, and the messages that are sent
   AnswerReceived : Ack → List Message → Answer
@@ -51,22 +51,27 @@ said reply.Rekeyed = AnswerRekeyed
 said (reply.Refused fault) = AnswerRefused fault
 said (reply.KeyRefused fault) = AnswerKeyRefused fault
 
+-- The answer that the result of receiving a message makes.
 abbrev pub of_receipt : {S : Type 0} → Result (NodeState S × Ack × List Message) NodeFault → Answer
 of_receipt (Ok x) = AnswerReceived x.1 x.2
 of_receipt (Err e) = AnswerRefused e
 
+-- The answer that the result of a tick makes.
 abbrev pub of_tick : {S : Type 0} → Result (NodeState S × List Message) NodeFault → Answer
 of_tick (Ok x) = AnswerTicked x.1
 of_tick (Err e) = AnswerRefused e
 
+-- The answer that the result of a checkpoint makes.
 abbrev pub of_checkpoint : {S : Type 0} → Result (NodeState S × ℕ) NodeFault → Answer
 of_checkpoint (Ok x) = AnswerCheckpointed x.1
 of_checkpoint (Err e) = AnswerRefused e
 
+-- The answer that the result of accepting an acknowledgement makes.
 abbrev pub of_acceptance : {S : Type 0} → Result (NodeState S) NodeFault → Answer
 of_acceptance (Ok x) = AnswerAcknowledged
 of_acceptance (Err e) = AnswerRefused e
 
+-- The answer that the result of a further key makes.
 abbrev pub of_rekeying : {S : Type 0} → Option (NodeState S) → Answer
 of_rekeying (Some x) = AnswerRekeyed
 of_rekeying None = AnswerKeyRefused WrongKey

@@ -12,15 +12,15 @@ abbrev pub seed_of : List Secret → List ℕ → Option (List ℕ)
 seed_of [] id = None
 seed_of (s ∷ ss) id = if bytes_eq s.id id then Some s.seed else seed_of ss id
 
--- The private key, where it is that of the public one.
+-- The private key, if it is that of the public key.
 abbrev pub if_is : PublicKey → PrivateKey → Option PrivateKey
 if_is key k = if same_key (public_key k) key then Some k else None
 
--- The key of a seed. Trees above a height of 10 are not made.
+-- The key of a seed, if it is that of the public key. Keys with trees above a height of 10 are not made.
 abbrev pub made_of : PublicKey → Option (List ℕ) → Option PrivateKey
 made_of key None = None
 made_of key (Some seed) = if nat_lt 10 (height key.lms_type) then None else if_is key (new_key key.lms_type key.ots_type key.id seed)
 
--- The private key of a public one, with no leaf used, where one of the secrets makes it.
+-- The private key of a public key, with no leaf used, if one of the secrets makes it.
 abbrev pub key_for : List Secret → PublicKey → Option PrivateKey
 key_for secrets key = made_of key (seed_of secrets key.id)

@@ -27,7 +27,7 @@ pub record Supplied (S : Type 0) : Type 0 where
   pub directory : Listing
   pub secrets : List Secret
 
--- Nothing where the test passes, else the refusal.
+-- `Ok` if the test passes, else the refusal.
 abbrev pub refused_unless : RebuildFault → Bool → Result (Unit {0}) RebuildFault
 refused_unless e passes = if passes then Ok tt else Err e
 
@@ -38,7 +38,7 @@ abbrev pub first_of : List (List ℕ) → Result Beginning RebuildFault
 first_of [] = Err EmptyJournal
 first_of (first ∷ texts) = told_as as_no_beginning (beginning_of first)
 
--- The node that began so: under the same program and directory, by a key that one of the secrets makes.
+-- The node that began so: under the same program and directory, with a key that one of the secrets makes.
 unfoldable pub begun_as : {S : Type 0} → Supplied S → Beginning → Result (NodeState S) RebuildFault
 begun_as by b = do
   _ ← refused_unless OtherProgram (bytes_eq b.program by.name)
@@ -63,7 +63,7 @@ inputs_of secrets (text ∷ texts) = do
   inputs ← inputs_of secrets texts
   Ok (input ∷ inputs)
 
--- The node once it was given what the records of these texts give.
+-- The node after it was given what the records of these texts give, in order.
 unfoldable pub replayed : {S : Type 0} → Meaning S → List Secret → NodeState S → List (List ℕ) → Result (NodeState S) RebuildFault
 replayed p secrets n texts = do
   inputs ← inputs_of secrets texts
@@ -71,12 +71,12 @@ replayed p secrets n texts = do
 
 -- ---- the whole
 
--- The texts behind the first.
+-- The texts after the first.
 abbrev pub behind_first : List (List ℕ) → List (List ℕ)
 behind_first [] = []
 behind_first (first ∷ texts) = texts
 
--- The node of a journal: the one that its first text began, once it was given what the further ones record, in order.
+-- The node of a journal: the one that its first text began, after it was given what the further texts record, in order.
 unfoldable pub rebuilt : {S : Type 0} → Supplied S → List (List ℕ) → Result (NodeState S) RebuildFault
 rebuilt by texts = do
   beginning ← first_of texts

@@ -1,5 +1,5 @@
--- Records as bytes: what a node is given by one call. A number is unsigned, with its highest byte first; bytes of any number stand behind
--- their length in four bytes.
+-- Records as bytes: what a node is given by one call. A number is unsigned, with its highest byte first. Before bytes of any
+-- number, their length is in four bytes.
 use Rattle.std.specs.Prelude.{◌≡◌, ℕ, ◌<◌, ◌^◌, ◌==◌, List, [], ◌∷◌, ◌++◌, length, Some, Result, Ok, Err, if◌then◌else◌}
 use Rattle.std.specs.Int.{w8, w32, w64, to_be_bytes}
 use Rattle.outcome.specs.Bytes.{IsBytes}
@@ -22,11 +22,13 @@ use Rattle.node_journals.specs.Refusals.{of_field, of_item, of_key}
 
 -- ---- spelling
 
--- Node 4, the message's number 8, number 8, hash before it 32, signature.
+-- An acknowledgement: the node in 4 bytes, the message's number in 8, its own number in 8, the hash before it in 32, and the
+-- signature.
 abbrev pub ack_text : Ack → List ℕ
 ack_text a = to_be_bytes w32 a.from ++ to_be_bytes w64 a.send_seq ++ to_be_bytes w64 a.seq ++ a.prev ++ bytes_text a.sig
 
--- A byte for its kind, and what it has. A message stands as the send challenge of it, behind its length.
+-- The encoding of a record: a byte for its kind, and what it has. A message is encoded as its send challenge, behind its
+-- length.
 abbrev pub recorded_text : Recorded → List ℕ
 recorded_text (Received m entropy) = 1 ∷ (entropy ++ framed (form.Send m))
 recorded_text (Ticked moment entropy) = 2 ∷ (entropy ++ to_be_bytes w64 moment)
@@ -36,6 +38,7 @@ recorded_text (Rekeyed key) = 5 ∷ key_text key
 
 -- ---- what has a spelling
 
+-- The acknowledgement has an encoding: its numbers, its hash and its signature are within their limits.
 pub record FitsRecordedAck (a : Ack) : Type 0 where
   pub from : a.from < 2 ^ 32
   pub send_seq : a.send_seq < 2 ^ 64
@@ -43,6 +46,7 @@ pub record FitsRecordedAck (a : Ack) : Type 0 where
   pub prev : IsBytesOf 32 a.prev
   pub sig : IsBytesUpTo LONGEST_SIGNATURE_TEXT a.sig
 
+-- The record has an encoding: all that it has is within its limits.
 abbrev pub FitsRecord : Recorded → Type 0
 FitsRecord (Received m entropy) = FitsMessage m × IsBytesOf 32 entropy
 FitsRecord (Ticked moment entropy) = (moment < 2 ^ 64) × IsBytesOf 32 entropy
@@ -52,11 +56,12 @@ FitsRecord (Rekeyed key) = IsKey key
 
 -- ---- reading: the first fault that is met from the left is told
 
--- the message of a send challenge
+-- The message of a send challenge.
 abbrev pub message_in : Fields → Result Message RecordFault
 message_in (form.Send m) = Ok m
 message_in x = Err BadTag
 
+-- A received message: its entropy, and its send challenge.
 unfoldable pub received_at : List ℕ → Read Recorded RecordFault
 received_at bytes = do
   entropy ← told_as of_field (take_at 32 bytes)
@@ -64,12 +69,14 @@ received_at bytes = do
   message ← message_in item.0
   Ok (Received message entropy.0, item.1)
 
+-- A tick: its entropy, and its moment in eight bytes.
 unfoldable pub ticked_at : List ℕ → Read Recorded RecordFault
 ticked_at bytes = do
   entropy ← told_as of_field (take_at 32 bytes)
   moment ← told_as of_field (number_at w64 entropy.1)
   Ok (Ticked moment.0 entropy.0, moment.1)
 
+-- An acknowledgement, in the order of `ack_text`.
 unfoldable pub ack_at : List ℕ → Read Recorded RecordFault
 ack_at bytes = do
   from ← told_as of_field (number_at w32 bytes)
@@ -79,13 +86,14 @@ ack_at bytes = do
   sig ← told_as of_field (bytes_at LONGEST_SIGNATURE_TEXT prev.1)
   Ok (Acknowledged (record { from = from.0; send_seq = send_seq.0; seq = seq.0; prev = prev.0; sig = sig.0 }), sig.1)
 
+-- A public key, in 56 bytes.
 unfoldable pub key_at : List ℕ → Read PublicKey RecordFault
 key_at bytes = do
   text ← told_as of_field (take_at 56 bytes)
   key ← told_as of_key (key_of text.0)
   Ok (key, text.1)
 
--- what a record of this kind has
+-- What a record of this kind has.
 unfoldable pub kind_at : ℕ → List ℕ → Read Recorded RecordFault
 kind_at kind bytes =
     if kind == 1 then received_at bytes
@@ -95,14 +103,15 @@ kind_at kind bytes =
     else (if kind == 5 then (key_at bytes >>= λ k. Ok (Rekeyed k.0, k.1))
     else Err BadTag))))
 
--- what was read, where nothing is left
+-- What was read, if nothing is left.
 abbrev pub to_end : {A : Type 0} → A × List ℕ → Result A RecordFault
 to_end r = if length r.1 == 0 then Ok r.0 else Err Trailing
 
+-- What a reading gives, if nothing is left over.
 abbrev pub ended : {A : Type 0} → Read A RecordFault → Result A RecordFault
 ended r = r >>= to_end
 
--- the record that takes all of the bytes
+-- The record that takes up all of the bytes.
 unfoldable pub recorded_of : List ℕ → Result Recorded RecordFault
 recorded_of bytes = do
   kind ← told_as of_field (number_at w8 bytes)
@@ -110,7 +119,7 @@ recorded_of bytes = do
 
 -- ---- a law, which `laws` proves
 
--- What is read is spelled so, and what is spelled so is read.
+-- What is read is the encoding of the record that was read, and the encoding of a record is read as that record.
 pub record RecordsReadBack : Type 0 where
   pub found : (bytes : List ℕ) (r : Recorded) → IsBytes bytes → recorded_of bytes ≡ Ok r → FitsRecord r × (bytes ≡ recorded_text r)
   pub only : (r : Recorded) → FitsRecord r → recorded_of (recorded_text r) ≡ Ok r

@@ -4,7 +4,7 @@ use Rattle.std.specs.List.{list_any}
 use Rattle.std.specs.Str.{bytes_eq}
 use Rattle.authenticators.specs.declared.authenticator.Authenticator.{Authenticator}
 
--- Two statements are of one number and hash.
+-- Two statements have the same number and hash.
 abbrev pub is_same_stamp : Authenticator → Authenticator → Bool
 is_same_stamp a b = (a.seq == b.seq) && bytes_eq a.hash b.hash
 

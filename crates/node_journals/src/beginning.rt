@@ -14,28 +14,29 @@ use outcome::Memory;
 use sha2::{Digest, Sha256};
 use std::alloc::Global;
 
-/// The most bytes of a program's name.
+/// The greatest number of bytes of a program's name.
 pub const LONGEST_NAME: usize = 255;
 
-/// What a node's journal begins with.
+/// The eight bytes with which a node's journal begins.
 pub(crate) const MAGIC: [u8; 8] = *b"PRNODEJ1";
 
-/// How a node began. No seed stands in it.
+/// How a node began. It has no seed.
 #[derive(Debug, Drop)]
 pub struct Beginning {
     /// The node.
     pub me: NodeId,
     /// The number of its first entry.
     pub first_seq: u64,
-    /// SHA-256 of the directory's text.
+    /// The SHA-256 value of the directory's encoding.
     pub directory: Hash,
-    /// The key by which it begins to sign.
+    /// The key with which it begins to sign.
     pub key: PublicKey,
-    /// The name of its program, at most 255 bytes. It is to tell programs apart that do not do the same: it has a version, or a digest.
+    /// The name of its program, at most 255 bytes. Programs that do not do the same must have different names. So the name has
+    /// a version, or a digest.
     pub program: ByteString,
 }
 
-/// SHA-256 of the directory's text.
+/// Returns the SHA-256 value of the directory's encoding.
 pub(crate) fn digest_of(directory: &Directory) -> Result<Hash, Memory>
     ensures { IfOk result (λ digest. digest ≡ sha256 (directory_text directory.now)) }
 {
@@ -44,8 +45,10 @@ pub(crate) fn digest_of(directory: &Directory) -> Result<Hash, Memory>
 }
 
 impl Beginning {
-    /// The beginning of a node under this directory: `TooLong` (42) where the program's name has more than 255 bytes, told whether there is
-    /// memory or not; `Memory` (99).
+    /// Makes the beginning of a node under this directory.
+    ///
+    /// It reports `TooLong` (42) if the program's name has more than 255 bytes, even if memory runs out. It reports `Memory`
+    /// (99) if a growth is refused.
     pub fn new(
         alloc: Global,
         program: &[u8],
@@ -74,7 +77,7 @@ impl Beginning {
         })
     }
 
-    /// The text, which is the first of a journal. The error is want of memory.
+    /// Writes the encoding, which is the first text of a journal. The error means that memory ran out.
     pub fn to_bytes(&self, alloc: Global) -> Result<Vec<u8>, Memory>
         requires { length self.now.program ≤ LONGEST_NAME }
         ensures { IfOk result (λ text. text.items ≡ beginning_text self.now) }

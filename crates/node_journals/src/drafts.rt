@@ -1,4 +1,4 @@
-//! Records that are drafted: their texts are written before a node is given them.
+//! Drafts of records: the encoding of a record is written before the node is given it.
 
 ghost use Rattle.std.specs.Prelude.{◌≡◌, ◌↔◌, IfErr, IfOk, IsErrAnd, None, OnOk, Some};
 ghost use Rattle.node_journals.specs.Giving.{given_of};
@@ -12,7 +12,7 @@ use crate::recorded::Recorded;
 use std::alloc::Global;
 use std::marker::Model;
 
-/// What a node is given once the text of its record is written and synced. A contract sees what that is.
+/// What a node is given after the encoding of its record is written and synced. A contract sees what that is.
 #[derive(Drop)]
 pub struct Draft {
     pub(crate) input: Input,
@@ -30,24 +30,30 @@ impl Model for Draft {
 /// A record that was drafted.
 #[derive(Drop)]
 pub struct Drafted {
-    /// The text, which is written and synced first.
+    /// The record's encoding, which must be written and synced first.
     pub text: Vec<u8>,
-    /// What the node is then given.
+    /// What the node is given then.
     pub draft: Draft,
 }
 
-/// A record that was not drafted, and why. Nothing has happened.
+/// A record that was not drafted, and the reason. Nothing has happened.
 #[derive(Drop)]
 pub struct DraftRefused {
+    /// The reason.
     pub fault: DraftFault,
+    /// The record, given back.
     pub recorded: Recorded,
 }
 
 impl Recorded {
-    /// Drafts a record. A further key is made here, of the secrets.
+    /// Drafts a record. If the record names a further key, the key is made here from the secrets.
     ///
-    /// It is refused, and given back, with `TooLong` (42) where it has no text, told whether there is memory or not; with `OtherKey` (128)
-    /// where it names a key that none of the secrets makes; with `Memory` (99) in place of the latter.
+    /// If it refuses, the record is given back, with the first of these faults:
+    ///
+    /// - `TooLong` (42), if the record has no encoding. This is reported even if memory runs out.
+    /// - `OtherKey` (128), if the record names a key that none of the secrets makes.
+    ///
+    /// `Memory` (99) may come in place of the latter, or of the result.
     pub fn draft(self, alloc: Global, secrets: &[Secret]) -> Result<Drafted, DraftRefused>
         ensures text { IfOk result (λ d. d.text.items ≡ recorded_text self) }
         ensures given { IfOk result (λ d. given_of secrets.now self ≡ Some d.draft) }

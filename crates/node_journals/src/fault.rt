@@ -1,4 +1,4 @@
-//! Why bytes are no record, why nothing is drafted, why a node ended, and why none is rebuilt.
+//! The errors of this crate: why bytes are no record, why nothing is drafted, why a node ended, and why no node is rebuilt.
 
 ghost use Rattle.std.specs.Prelude.{◌≡◌};
 ghost use Rattle.node_journals.specs.Refusals.{draft_name, draft_number, give_name, give_number, of_field, of_item, of_key, rebuild_name, rebuild_number, record_name, record_number};
@@ -9,7 +9,7 @@ use log_chain::FieldFault;
 use std::alloc::AllocError;
 use thiserror::Error;
 
-/// Why bytes are no record, or no beginning. Reading tells the leftmost fault.
+/// Why bytes are no record, or no beginning. Reading reports the leftmost fault.
 #[derive(Clone, Copy, Debug, PartialEq, Eq, Error)]
 pub enum RecordFault {
     /// 2: the type of a key's tree is unknown.
@@ -21,17 +21,17 @@ pub enum RecordFault {
     /// 40: the bytes end within a field.
     #[error("the bytes end within a field")]
     Truncated,
-    /// 41: the kind is none of 1 to 5, or the item is no send challenge.
-    #[error("the record is of no kind that there is, or its item is no send challenge")]
+    /// 41: the kind is not 1 to 5, or the item is no send challenge.
+    #[error("the kind of the record is unknown, or its item is no send challenge")]
     BadTag,
-    /// 42: a length is above its limit. It is told before `Truncated` of what it counts.
+    /// 42: a length is above its limit. It is reported before `Truncated` of the bytes that it counts.
     #[error("a length is above its limit")]
     TooLong,
     /// 43: bytes are left over.
     #[error("bytes are left over after the record")]
     Trailing,
-    /// 60: the first bytes are not those of a node's journal.
-    #[error("the bytes do not begin as a node's journal")]
+    /// 60: the first eight bytes are not those with which a node's journal begins.
+    #[error("the first bytes are not those of a node's journal")]
     BadMagic,
     /// 99: a growth of memory was refused.
     #[error("memory ran out")]
@@ -55,8 +55,8 @@ pub enum DraftFault {
 /// Why there is no node any more.
 #[derive(Clone, Copy, Debug, PartialEq, Eq, Error)]
 pub enum GiveFault {
-    /// 130: memory ran out behind a record that is written. The node is to be rebuilt of its journal.
-    #[error("memory ran out behind a written record: the node is to be rebuilt of its journal")]
+    /// 130: memory ran out after a record was written. The node must be rebuilt from its journal.
+    #[error("memory ran out after the record was written: rebuild the node from its journal")]
     Ended,
 }
 
@@ -66,19 +66,19 @@ pub enum RebuildFault {
     /// 30: the directory does not list the node.
     #[error("the node is not listed in the directory")]
     UnknownNode,
-    /// 31: the key by which the node began is none of those that the directory lists for it.
-    #[error("the key is none of the node's")]
+    /// 31: the key with which the node began is none of those that the directory lists for it.
+    #[error("the key is none of the node's keys")]
     WrongKey,
     /// 99: a growth of memory was refused.
     #[error("memory ran out")]
     Memory,
-    /// 126: the journal has no text: no node began by it.
-    #[error("the journal is empty: no node began by it")]
+    /// 126: the journal has no text, so no node began with it.
+    #[error("the journal is empty")]
     EmptyJournal,
     /// 127: the first text is no beginning.
-    #[error("the journal does not begin as a node's")]
+    #[error("the first text of the journal is not that of a node's journal")]
     NoBeginning,
-    /// 123: the journal is of another program.
+    /// 123: the journal names another program.
     #[error("the journal is of another program")]
     OtherProgram,
     /// 124: the journal is of another directory.
@@ -87,13 +87,13 @@ pub enum RebuildFault {
     /// 128: none of the secrets makes a key that the journal names.
     #[error("none of the seeds makes a key that the journal names")]
     OtherKey,
-    /// 129: a text behind the first is no record.
+    /// 129: a text after the first is no record.
     #[error("a text of the journal is no record")]
     BadRecord,
 }
 
 impl RecordFault {
-    /// The number of the refusal.
+    /// Returns the number of the refusal.
     pub fn number(&self) -> u8
         ensures { result ≡ record_number self.now }
     {
@@ -109,7 +109,7 @@ impl RecordFault {
         }
     }
 
-    /// The name of the refusal, which is that of its variant.
+    /// Returns the name of the refusal, which is that of its variant.
     pub fn name(&self) -> &'static str
         ensures { result.now ≡ record_name self.now }
     {
@@ -127,7 +127,7 @@ impl RecordFault {
 }
 
 impl DraftFault {
-    /// The number of the refusal.
+    /// Returns the number of the refusal.
     pub fn number(&self) -> u8
         ensures { result ≡ draft_number self.now }
     {
@@ -138,7 +138,7 @@ impl DraftFault {
         }
     }
 
-    /// The name of the refusal, which is that of its variant.
+    /// Returns the name of the refusal, which is that of its variant.
     pub fn name(&self) -> &'static str
         ensures { result.now ≡ draft_name self.now }
     {
@@ -151,7 +151,7 @@ impl DraftFault {
 }
 
 impl GiveFault {
-    /// The number of the refusal.
+    /// Returns the number of the refusal.
     pub fn number(&self) -> u8
         ensures { result ≡ give_number self.now }
     {
@@ -160,7 +160,7 @@ impl GiveFault {
         }
     }
 
-    /// The name of the refusal, which is that of its variant.
+    /// Returns the name of the refusal, which is that of its variant.
     pub fn name(&self) -> &'static str
         ensures { result.now ≡ give_name self.now }
     {
@@ -171,7 +171,7 @@ impl GiveFault {
 }
 
 impl RebuildFault {
-    /// The number of the refusal.
+    /// Returns the number of the refusal.
     pub fn number(&self) -> u8
         ensures { result ≡ rebuild_number self.now }
     {
@@ -188,7 +188,7 @@ impl RebuildFault {
         }
     }
 
-    /// The name of the refusal, which is that of its variant.
+    /// Returns the name of the refusal, which is that of its variant.
     pub fn name(&self) -> &'static str
         ensures { result.now ≡ rebuild_name self.now }
     {

@@ -1,4 +1,4 @@
-//! A node is given what is recorded.
+//! Giving a node what is recorded.
 
 ghost use Rattle.std.specs.Prelude.{◌≡◌, ◌⊎◌, IfErr, IfOk, None, OnErr, OnOk, Some};
 ghost use Rattle.commitment.specs.Calls.{Given, after_call};
@@ -17,15 +17,15 @@ use std::alloc::{AllocError, Global};
 /// What a node's call answers.
 #[derive(Debug, Drop)]
 pub enum Reply {
-    /// To a message: its acknowledgement and the messages that are sent.
+    /// The answer to a message: its acknowledgement, and the messages that are sent.
     Received(Ack, Vec<Message>),
-    /// To a tick: the messages that are sent.
+    /// The answer to a tick: the messages that are sent.
     Ticked(Vec<Message>),
-    /// To a checkpoint: its number.
+    /// The answer to a checkpoint: the number of its entry.
     Checkpointed(u64),
     /// The acknowledgement was accepted.
     Acknowledged,
-    /// The node signs by the key.
+    /// The node signs with the key from now on.
     Rekeyed,
     /// The call was refused, and the node is as it was.
     Refused(NodeFault),
@@ -33,7 +33,7 @@ pub enum Reply {
     KeyRefused(NewFault),
 }
 
-/// What a node is given by one call, its key made.
+/// What a node is given by one call. A key is made already.
 #[derive(Drop)]
 pub(crate) enum Input {
     Receive(Message, [u8; 32]),
@@ -43,14 +43,14 @@ pub(crate) enum Input {
     Rekey(SecretKey),
 }
 
-/// A record that gives a node nothing, and why.
+/// A record that gives a node nothing, and the reason.
 #[derive(Drop)]
 pub(crate) struct NotGiven {
     pub fault: DraftFault,
     pub recorded: Recorded,
 }
 
-/// What a record gives a node.
+/// Returns what a record gives a node.
 pub(crate) fn input_of(
     alloc: Global,
     secrets: &[Secret],
@@ -143,8 +143,8 @@ fn give_key<P: Program + Drop>(node: &mut Node<P>, key: SecretKey) -> Reply
     }
 }
 
-/// Gives the node the input. What the node becomes is what its call makes of it, and the reply is the call's own answer: a refusal is an
-/// answer, and leaves the node as it was. Want of memory is none, and leaves the node too.
+/// Gives the node the input. The node becomes what its call makes of it, and the reply is the call's own answer. A refusal is
+/// an answer too, and leaves the node as it was. If memory runs out, there is no answer, and the node is as it was.
 pub(crate) fn apply<P: Program + Drop>(node: &mut Node<P>, input: Input) -> Result<Reply, Memory>
     ensures given { OnOk result (node.new ≡ after_call P.means node.old (given_by input)) }
     ensures answer { IfOk result (λ reply. said reply ≡ answer_to P.means node.old (given_by input)) }

@@ -1,4 +1,4 @@
-//! Nodes that live by their journals.
+//! Nodes that are given only what is written in their journals.
 
 ghost use Rattle.std.specs.Prelude.{◌≡◌, IfOk};
 ghost use Rattle.commitment.specs.Calls.{after_call};
@@ -11,16 +11,16 @@ use commitment::Node;
 use replay_verifier::Program;
 use std::marker::Model;
 
-/// A node that is given nothing but what was drafted for its journal. [`rebuild`](crate::rebuild) makes it, also the first time.
+/// A node that is given only what was drafted for its journal. [`rebuild`](crate::rebuild) makes it, also the first time.
 ///
 /// # What a caller must do
 ///
-/// - Write the text of a draft to the journal, and sync it, before the draft is given; give drafts in the order of their texts, each once,
-///   and all whose texts were written; and send what is replied only then. `append` of `journal` writes a group of texts and syncs them: at
-///   `Ok` all of the group's drafts are given. At another error than `InDoubt` none is. After `InDoubt` the journal is opened again, and
-///   the node is rebuilt of it.
-/// - Have one process at a time on a journal.
-/// - Keep the journal from everybody else: it has the entropy of each signature, though no seed.
+/// - Write the text of a draft to the journal and sync it before the draft is given. Give drafts in the order of their texts,
+///   each once, and give all whose texts were written. Send the replies only then. `append` of `journal` writes a group of
+///   texts and syncs them. After `Ok`, give all drafts of the group. After `InDoubt`, open the journal again and rebuild the
+///   node from it. After any other error, give none of them.
+/// - Have only one process at a time on a journal.
+/// - Keep the journal secret. It has the entropy of each signature, though no seed.
 ///
 /// A contract sees the node.
 #[derive(Drop)]
@@ -37,18 +37,28 @@ impl<P: Program + Drop> Model for Journalled<P> {
 }
 
 impl<P: Program + Drop> Journalled<P> {
-    /// The node, to look at.
+    /// Returns the node, to read from.
     pub fn node(&self) -> &Node<P>
         ensures { result.now ≡ self.now }
     {
         &self.node
     }
 
-    /// Gives the node what was drafted. The node becomes what its own call makes of it, and the reply is the call's own answer: what the
-    /// node refuses is told by [`Reply::Refused`] and [`Reply::KeyRefused`], and leaves it as it was.
+    /// Returns the node itself, for a library whose host writes the journal. From then on no type keeps the order of the steps: the host
+    /// keeps it, as [`Journalled`] says what a caller must do.
+    pub fn into_node(self) -> Node<P>
+        ensures { result ≡ self }
+    {
+        let Journalled { node } = self;
+        node
+    }
+
+    /// Gives the node what was drafted. The node becomes what its own call makes of it, and the reply is the call's own answer.
+    /// If the node refuses the call, the reply is [`Reply::Refused`] or [`Reply::KeyRefused`], and the node is as it was.
     ///
-    /// `Ended` (130) where memory runs out: the record is written, so a node that went on without it would sign other texts than the one
-    /// that is rebuilt. So there is no node any more, and [`rebuild`](crate::rebuild) makes it of the journal.
+    /// Reports `Ended` (130) if memory runs out. Then there is no node any more, and [`rebuild`](crate::rebuild) makes it from
+    /// the journal. The reason: the record is written, so a node that went on without it would sign other texts than the
+    /// rebuilt one.
     pub fn give(self, draft: Draft) -> Result<(Journalled<P>, Reply), GiveFault>
         ensures given { IfOk result (λ x. x.0 ≡ after_call P.means self draft) }
         ensures answer { IfOk result (λ x. said x.1 ≡ answer_to P.means self draft) }

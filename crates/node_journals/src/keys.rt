@@ -1,4 +1,4 @@
-//! The keys that a node's operator can make again.
+//! The keys that a node's operator can make again from their seeds.
 
 ghost use Rattle.std.specs.Prelude.{◌≡◌, IfOk};
 ghost use Rattle.node_journals.specs.Keys.{key_for, seed_of};
@@ -7,16 +7,17 @@ use lms_sign::{MakeFault, PublicKey, SecretKey};
 use outcome::Memory;
 use std::alloc::{AllocError, Global};
 
-/// The identifier and the seed of a key. One identifier is of one key.
+/// The identifier and the seed of a key. Each key needs an identifier of its own: of secrets with one identifier, only the
+/// first is used.
 #[derive(Clone, Copy)]
 pub struct Secret {
     /// The identifier.
     pub id: [u8; 16],
-    /// The seed, which nobody else is to see.
+    /// The seed, which nobody else may see.
     pub seed: [u8; 32],
 }
 
-/// The seed with the identifier.
+/// Returns the seed of the first secret with the identifier.
 fn seed_of(secrets: &[Secret], id: &[u8; 16]) -> Option<[u8; 32]>
     ensures { result ≡ seed_of secrets.now id.now }
 {
@@ -32,7 +33,8 @@ fn seed_of(secrets: &[Secret], id: &[u8; 16]) -> Option<[u8; 32]>
     }
 }
 
-/// The key, with no leaf used, whose public key this is, where one of the secrets makes it.
+/// Returns the key of this public key, with no leaf used, or `None` if no secret makes it. A key with a tree above the height
+/// of 10 is not made.
 pub(crate) fn key_for(
     alloc: Global,
     secrets: &[Secret],

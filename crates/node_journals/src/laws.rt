@@ -9,7 +9,7 @@ use lms_sign::laws::keys_have_one_text;
 use node_runs::runs_only_add;
 use replay_verifier::Program;
 
-/// What is read as a record is spelled so, and what is spelled so is read.
+/// What is read as a record is the encoding of that record, and the encoding of a record is read as that record.
 pub fn records_read_back()
     ensures { RecordsReadBack }
 {
@@ -17,15 +17,16 @@ pub fn records_read_back()
     framed_items_read_back();
 }
 
-/// What is read as a beginning is spelled so, and what is spelled so is read.
+/// What is read as a beginning is the encoding of that beginning, and the encoding of a beginning is read as that beginning.
 pub fn beginnings_read_back()
     ensures { BeginningsReadBack }
 {
     keys_have_one_text();
 }
 
-/// Of two journals of which one begins the other, the one is rebuilt where the other is, and what its node signed begins what the other's
-/// signed; whatever a crash at any moment leaves of a journal stands between the two; and a node's own journal is rebuilt.
+/// If one journal begins another, is not empty, and the other can be rebuilt, the one can be rebuilt too. What its node keeps
+/// begins what the other's node keeps. What a crash at any moment leaves of a growing journal is rebuilt to a node between the
+/// two. A node's own journal can be rebuilt.
 pub fn journals_rebuild<P: Program>()
     ensures { JournalsRebuild P.State }
 {
@@ -34,7 +35,7 @@ pub fn journals_rebuild<P: Program>()
     runs_only_add::<P>();
 }
 
-/// Whatever crashes come between, each leaf of a key signs one text.
+/// Each leaf of a key signs one text, whatever crashes come between.
 pub fn leaves_sign_once()
     ensures { LeavesSignOnce }
 {}

@@ -1,17 +1,23 @@
-//! Journals of nodes: what a node is given is written down before it is given it, so a node that a crash ended comes back as it was.
+//! Journals of nodes. What a node is given is written to its journal before the node is given it. So a node that a crash ended
+//! comes back as it was.
 //!
-//! A journal's first text is a [`Beginning`], and each further one a [`Recorded`]: what the node was given by one call. They are texts of
-//! `journal`, which has them on the disk whole or not at all.
+//! The first text of a journal is the encoding of a [`Beginning`]. Each further one is the encoding of a [`Recorded`]: what the
+//! node was given by one call. The crate `journal` keeps each text on the disk whole, or not at all.
 //!
-//! 1. A node begins as it comes back: the text of its [`Beginning`] is written and synced, and [`rebuild`] makes the node of that one text.
-//! 2. For each call, or for a group of calls, [`Recorded::draft`] makes the records' texts. They are written and synced. Only then
-//!    [`Journalled::give`] gives each to the node, in the order of the texts, and only then is sent what it replies.
-//! 3. After a crash [`rebuild`] makes the node of the journal's texts, and [`is_safe_to_resume`] compares it with what witnesses hold.
+//! 1. A node begins as it comes back: the encoding of its [`Beginning`] is written and synced, and [`rebuild`] makes the node
+//!    from this one text.
+//! 2. For each call, or for a group of calls, [`Recorded::draft`] makes the encodings of the records. They are written and
+//!    synced. Only then [`Journalled::give`] gives each record to the node, in the order of the texts. What the node replies is
+//!    sent only after that.
+//! 3. After a crash [`rebuild`] makes the node from the journal's texts, and [`is_safe_to_resume`] compares it with what
+//!    witnesses hold.
 //!
-//! A node is a function of its keys and of what it is given, down to the bytes of its signatures: so the rebuilt one signs by each leaf
-//! what the first one signed by it. `specs/Records.antt` and `specs/Beginnings.antt` have the texts, `specs/Giving.antt` what a record
-//! gives and what is answered, `specs/Rebuilding.antt` which node a journal is rebuilt to, `specs/Laws.antt` what follows; [`laws`] proves
-//! it.
+//! A node is a function of its keys and of what it is given, down to the bytes of its signatures. So the rebuilt node signs
+//! with each leaf what the first node signed with it.
+//!
+//! `specs/Records.antt` and `specs/Beginnings.antt` define the encodings. `specs/Giving.antt` defines what a record gives a
+//! node and what the node answers, and `specs/Rebuilding.antt` which node a journal is rebuilt to. `specs/Laws.antt` has the
+//! laws that follow, and [`laws`] proves them.
 #![tactic(auto)]
 
 pub use beginning::{Beginning, LONGEST_NAME};

@@ -1,4 +1,5 @@
-//! Records and beginnings from bytes. All fields are gone over before one is copied, so a fault is told whether there is memory or not.
+//! Reading records and beginnings from bytes. All fields are read once before one is copied, so a fault is reported even if
+//! memory runs out.
 
 ghost use Rattle.std.specs.Prelude.{◌≡◌, IfErr, IfOk, IsOk};
 ghost use Rattle.outcome.specs.Outcome.{Gives, Reads};
@@ -127,18 +128,23 @@ fn read_recorded(alloc: Global, bytes: &[u8]) -> Result<Recorded, RecordFault>
 }
 
 impl Recorded {
-    /// Reads the text of a record, as [`Recorded::to_bytes`] writes it. It is refused with the first fault that is met from the left:
-    /// `Truncated` (40), `BadTag` (41) of another kind or of an item that is no send challenge, `TooLong` (42) of a length,
-    /// `UnknownLmsType` (2) and `UnknownOtsType` (3) of a key, `Trailing` (43). `Memory` (99) may come in place of a record, and of none of
-    /// its faults.
+    /// Reads the encoding of a record, as [`Recorded::to_bytes`] writes it. It reports the leftmost fault:
+    ///
+    /// - `Truncated` (40), if the bytes end within a field.
+    /// - `BadTag` (41), if the kind is not 1 to 5, or the item is no send challenge.
+    /// - `TooLong` (42), if a length is above its limit.
+    /// - `UnknownLmsType` (2) or `UnknownOtsType` (3), if a key has an unknown type.
+    /// - `Trailing` (43), if bytes are left over.
+    ///
+    /// `Memory` (99) may come in place of a record, but not in place of a fault.
     pub fn from_bytes(alloc: Global, bytes: &[u8]) -> Result<Recorded, RecordFault>
-        // What is read is spelled so.
+        // The bytes are the encoding of what is read.
         ensures found { IfOk result (λ r. FitsRecord r × (bytes.now ≡ recorded_text r)) }
-        // What is spelled so is read, unless memory runs out.
+        // An encoding is read, unless memory runs out.
         ensures only { (r : TheRecorded) → FitsRecord r → bytes.now ≡ recorded_text r → Gives Memory (λ x. x) result (Ok r) }
-        // Which fault it is.
+        // The fault is the one that is defined.
         ensures exact { Gives Memory (λ r. r) result (recorded_of bytes.now) }
-        // Each fault is told, whether there is memory or not.
+        // Each fault is reported even if memory runs out.
         ensures told { IfErr result (λ e. e ≡ Memory → IsOk (recorded_of bytes.now)) }
     {
         records_read_back();
@@ -176,17 +182,23 @@ fn read_beginning(alloc: Global, bytes: &[u8]) -> Result<Beginning, RecordFault>
 }
 
 impl Beginning {
-    /// Reads the first text of a node's journal, as [`Beginning::to_bytes`] writes it. It is refused with the first fault that is met from
-    /// the left: `Truncated` (40), `BadMagic` (60), `UnknownLmsType` (2) and `UnknownOtsType` (3) of the key, `TooLong` (42) of the name,
-    /// `Trailing` (43). `Memory` (99) may come in place of a beginning, and of none of its faults.
+    /// Reads the first text of a node's journal, as [`Beginning::to_bytes`] writes it. It reports the leftmost fault:
+    ///
+    /// - `Truncated` (40), if the bytes end within a field.
+    /// - `BadMagic` (60), if the first eight bytes are not `PRNODEJ1`.
+    /// - `UnknownLmsType` (2) or `UnknownOtsType` (3), if the key has an unknown type.
+    /// - `TooLong` (42), if the program's name is above 255 bytes.
+    /// - `Trailing` (43), if bytes are left over.
+    ///
+    /// `Memory` (99) may come in place of a beginning, but not in place of a fault.
     pub fn from_bytes(alloc: Global, bytes: &[u8]) -> Result<Beginning, RecordFault>
-        // What is read is spelled so.
+        // The bytes are the encoding of what is read.
         ensures found { IfOk result (λ b. FitsBeginning b × (bytes.now ≡ beginning_text b)) }
-        // What is spelled so is read, unless memory runs out.
+        // An encoding is read, unless memory runs out.
         ensures only { (b : TheBeginning) → FitsBeginning b → bytes.now ≡ beginning_text b → Gives Memory (λ x. x) result (Ok b) }
-        // Which fault it is.
+        // The fault is the one that is defined.
         ensures exact { Gives Memory (λ b. b) result (beginning_of bytes.now) }
-        // Each fault is told, whether there is memory or not.
+        // Each fault is reported even if memory runs out.
         ensures told { IfErr result (λ e. e ≡ Memory → IsOk (beginning_of bytes.now)) }
     {
         beginnings_read_back();

@@ -1,4 +1,4 @@
-//! Nodes from their journals.
+//! Making nodes from their journals.
 
 ghost use Rattle.std.specs.Prelude.{◌≡◌, Err, IfErr, IfOk, Ok, OnOk};
 ghost use Rattle.std.specs.Str.{bytes_eq};
@@ -28,7 +28,7 @@ use outcome::Memory;
 use replay_verifier::Program;
 use std::alloc::Global;
 
-/// The beginning that the first text is.
+/// Returns the beginning that the first text is.
 fn beginning_in(alloc: Global, texts: &[Vec<u8>]) -> Result<Beginning, RebuildFault>
     ensures gives { Gives fault.Memory (λ b. b) result (first_of (texts_of texts.now)) }
     ensures told { (e : TheRebuildFault) → first_of (texts_of texts.now) ≡ Err e → result ≡ Err e }
@@ -43,7 +43,7 @@ fn beginning_in(alloc: Global, texts: &[Vec<u8>]) -> Result<Beginning, RebuildFa
     }
 }
 
-/// The texts behind the first.
+/// Returns the texts after the first.
 fn behind_first(texts: &[Vec<u8>]) -> &[Vec<u8>]
     ensures { texts_of result.now ≡ behind_first (texts_of texts.now) }
 {
@@ -53,7 +53,7 @@ fn behind_first(texts: &[Vec<u8>]) -> &[Vec<u8>]
     }
 }
 
-/// Whether this is SHA-256 of the directory's text.
+/// Returns whether this is the SHA-256 value of the directory's encoding.
 fn is_digest_of(digest: &Hash, directory: &Directory) -> Result<bool, Memory>
     ensures { IfOk result (λ is. is ≡ bytes_eq digest.now (sha256 (directory_text directory.now))) }
 {
@@ -61,7 +61,7 @@ fn is_digest_of(digest: &Hash, directory: &Directory) -> Result<bool, Memory>
     Ok(*digest == made)
 }
 
-/// The node that began so.
+/// Returns the node that began so.
 #[tactic(auto, unfolding(crate::specs::Rebuilding::begun_as))]
 fn begun<P: Program + Drop>(
     alloc: Global,
@@ -109,7 +109,7 @@ fn recorded_in(alloc: Global, text: &[u8]) -> Result<Recorded, RebuildFault>
     }
 }
 
-/// What the record of a text gives a node.
+/// Returns what the record of a text gives a node.
 #[tactic(auto, unfolding(crate::specs::Rebuilding::input_of))]
 fn input_in(alloc: Global, secrets: &[Secret], text: &[u8]) -> Result<Input, RebuildFault>
     ensures { Gives fault.Memory given_by result (input_of secrets.now text.now) }
@@ -156,20 +156,28 @@ fn replay<P: Program + Drop>(
     Ok(())
 }
 
-/// The node of a journal, whose texts these are, in order: the one that its first text began, once it was given what the further texts
-/// record. The operator supplies program, name, directory and seeds again.
+/// Rebuilds the node of a journal from its texts, in order. It is the node that the first text began, after it was given what
+/// the further texts record. The operator supplies the program, its name, the directory and the seeds again.
 ///
-/// It is refused, in this order, with `EmptyJournal` (126) and `NoBeginning` (127), told whether there is memory or not; `OtherProgram`
-/// (123) where the journal names another program; `OtherDirectory` (124) where it is of another directory; `OtherKey` (128) where none of
-/// the seeds makes the key; `UnknownNode` (30) and `WrongKey` (31), as [`Node::new`] does; then for each text in order `BadRecord` (129)
-/// where it is no record, and `OtherKey` where it names a key that none of the seeds makes. `Memory` (99) may come in place of any but the
-/// first two. A journal that a node wrote of itself is refused for memory alone: [`journals_rebuild`](crate::laws::journals_rebuild).
+/// It reports the first of these refusals:
 ///
-/// A refusal by which a call ended before the crash is no refusal here: the call is refused again, as it was.
+/// - `EmptyJournal` (126) or `NoBeginning` (127), if there is no first text, or it is no beginning. These are reported even if
+///   memory runs out.
+/// - `OtherProgram` (123), if the journal names another program.
+/// - `OtherDirectory` (124), if the journal is of another directory.
+/// - `OtherKey` (128), if none of the secrets makes the key.
+/// - `UnknownNode` (30) or `WrongKey` (31), as of [`Node::new`].
+/// - For each further text, in order: `BadRecord` (129) if it is no record, `OtherKey` if it names a key that none of the
+///   secrets makes.
 ///
-/// **An old copy of a journal is a danger.** What the node did behind its end is not in it, and the node would sign other texts by leaves
-/// that have signed, which lets anybody forge its signatures. Whoever restores a journal asks all witnesses first:
-/// [`is_safe_to_resume`](crate::is_safe_to_resume).
+/// `Memory` (99) may come in place of any but the first two, or of the result. A journal that a node wrote of itself is refused
+/// only if memory runs out: see [`journals_rebuild`](crate::laws::journals_rebuild).
+///
+/// If the node refused a recorded call before the crash, it refuses the call again. That is no refusal of this function.
+///
+/// **An old copy of a journal is a danger.** It does not have what the node did after its end. The node would sign other texts
+/// with leaves that have signed, and then anybody could forge its signatures. Whoever restores a journal asks all witnesses
+/// first: see [`is_safe_to_resume`](crate::is_safe_to_resume).
 #[tactic(auto, unfolding(crate::specs::Rebuilding::rebuilt))]
 pub fn rebuild<P: Program + Drop>(
     alloc: Global,

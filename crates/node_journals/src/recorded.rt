@@ -12,23 +12,23 @@ use log_chain::ByteString;
 use log_chain::laws::{bytes_fit, hash_fits};
 use messages::{Ack, LONGEST_PAYLOAD, Message};
 
-/// What a node is given by one call. An answer to a send challenge is the receipt of its message. An answer to an audit challenge changes
-/// nothing of a node, and has no record.
+/// What a node is given by one call. An answer to a send challenge is recorded as the receipt of its message. An answer to an
+/// audit challenge changes nothing of a node, and has no record.
 #[derive(Debug, Drop)]
 pub enum Recorded {
-    /// A message, and the entropy of the call.
+    /// A message, and the entropy of the call in 32 bytes.
     Received(Message, [u8; 32]),
-    /// A tick of the timer at a moment, and the entropy of the call.
+    /// A tick of the timer at a moment, and the entropy of the call in 32 bytes.
     Ticked(u64, [u8; 32]),
     /// A checkpoint.
     Checkpointed,
     /// An acknowledgement.
     Acknowledged(Ack),
-    /// The next key to sign by. Its seed stands in no journal.
+    /// The next key to sign with. No journal has its seed.
     Rekeyed(PublicKey),
 }
 
-/// Whether there are at most so many bytes.
+/// Returns whether there are at most `most` bytes.
 fn is_within(text: &ByteString, most: usize) -> bool
     ensures { IsTrue result ↔ IsBytesUpTo most text.now }
 {
@@ -56,7 +56,7 @@ fn ack_fits(ack: &Ack) -> bool
     is_within(&ack.sig, LONGEST_SIGNATURE_TEXT)
 }
 
-/// A key has an identifier of 16 bytes and a root of 32.
+/// Shows that a key has an identifier of 16 bytes and a root of 32. It does nothing, and is called for the prover.
 pub(crate) fn key_fits(key: PublicKey)
     ensures { IsKey key }
 {
@@ -65,7 +65,8 @@ pub(crate) fn key_fits(key: PublicKey)
 }
 
 impl Recorded {
-    /// Whether the record has a text: no signature in it has more than 9,325 bytes, and no payload more than 65,536. It takes no memory.
+    /// Returns whether the record has an encoding: no signature in it has more than 9,325 bytes, and no payload more than
+    /// 65,536. It takes no memory.
     pub fn fits(&self) -> bool
         ensures { IsTrue result ↔ FitsRecord self.now }
     {

@@ -1,4 +1,4 @@
-//! Records as bytes.
+//! Writing records as bytes.
 
 ghost use Rattle.std.specs.Prelude.{◌≡◌, ◌++◌, IfOk, OnOk};
 ghost use Rattle.node_journals.specs.Records.{FitsRecord, FitsRecordedAck, ack_text, recorded_text};
@@ -53,7 +53,7 @@ fn put_recorded(writer: &mut FieldWriter, recorded: &Recorded) -> Result<(), Mem
 }
 
 impl Recorded {
-    /// The text of the record. The error is want of memory.
+    /// Writes the encoding of the record. The error means that memory ran out.
     pub fn to_bytes(&self, alloc: Global) -> Result<Vec<u8>, Memory>
         requires { FitsRecord self.now }
         ensures { IfOk result (λ text. text.items ≡ recorded_text self.now) }

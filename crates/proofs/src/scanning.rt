@@ -1,4 +1,4 @@
-//! Texts of proofs gone over without memory: each part is met from left to right, and none is copied.
+//! Checks of encodings without memory. A call goes over each part from left to right, and copies none.
 
 ghost use Rattle.std.specs.Prelude.{◌≡◌, IfErr};
 ghost use Rattle.item_forms.specs.Skipping.{Skips, TakesNoMemory, without_value};
@@ -76,7 +76,7 @@ fn skip_proof(reader: &mut FieldReader) -> Result<(), DecodeFault>
     skip_form_parts(form, reader)
 }
 
-/// Whether all the bytes are a proof's text: they are refused as `Proof::decode` refuses them. It takes no memory.
+/// Checks that all the bytes are a proof's encoding. It reports the same faults as `Proof::decode`, but never `Memory`: it takes no memory.
 #[tactic(auto, unfolding(crate::specs::ProofTexts::proof_of))]
 pub(crate) fn scan(bytes: &[u8]) -> Result<(), DecodeFault>
     ensures scans { result ≡ without_value (proof_of bytes.now) }

@@ -1,5 +1,5 @@
 -- What items that are no segments state.
-use Rattle.std.specs.Prelude.{◌≡◌, ◌<◌, ℕ, Bool, false, IfSome, length, slice_index_or, List, [], ◌∷◌, ◌++◌, Option, Some, None, Result, Ok, Err, cond, map}
+use Rattle.std.specs.Prelude.{◌≡◌, ◌<◌, ℕ, Bool, true, false, length, slice_index_or, List, [], ◌∷◌, ◌++◌, Option, Some, None, Result, Ok, Err, cond, map}
 use Rattle.std.specs.List.{list_all}
 use Rattle.authenticators.specs.declared.authenticator.Authenticator.{Authenticator}
 use Rattle.authenticators.specs.declared.claims.Claim.{Claim}
@@ -55,7 +55,8 @@ IsStated ds x (Ok s) = States ds x s
 IsStated ds x (Err e) = (is_segment x ≡ false) × (early_fault ds x ≡ Some e)
 
 abbrev pub IsStage : Listing → Fields → Stage → Type 0
-IsStage ds x stage = IfSome stage (IsStated ds x)
+IsStage ds x None = is_segment x ≡ true
+IsStage ds x (Some stated) = IsStated ds x stated
 
 -- There is one for each item, at its place.
 pub record AreStages (ds : Listing) (items : List Piece) (stages : List Stage) : Type 0 where
