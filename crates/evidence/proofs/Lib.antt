@@ -1,3 +1,4 @@
 mod ComingBack
 mod Importing
+mod Sent
 pub mod SetTexts

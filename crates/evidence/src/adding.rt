@@ -1,4 +1,4 @@
-//! Adding the items of a text to a store.
+//! Adding the items of a container to a store.
 
 ghost use Rattle.std.specs.Prelude.{◌≡◌, ◌+◌, IfErr, IfOk, OnErr, OnOk};
 ghost use Rattle.std.specs.List.{All};
@@ -14,8 +14,10 @@ use containers::{Cause, ImportFault};
 use evidence_item::Checked;
 use replay_verifier::Program;
 
-/// Adds all of the items, which ascend as a text has them and were checked under the store's directory; or none, with `Memory` (99) behind
-/// the last of them. It answers how many are new.
+/// Adds all of the items to a store, or none. Returns how many of them are new. The items ascend by their encodings, and were
+/// checked under the store's directory.
+///
+/// If memory runs out, it reports `Memory` (99) at the number of the items, and the store is as it was.
 pub fn add_all<P: Program, S: Evidence<P>>(
     store: &mut S,
     items: Vec<Checked<P>>,

@@ -1,4 +1,4 @@
-//! Why a store refuses.
+//! The errors of stores.
 
 ghost use Rattle.std.specs.Prelude.{◌≡◌};
 ghost use Rattle.evidence.specs.declared.fault.AskFault.TheVariants.{Memory};
@@ -7,16 +7,18 @@ ghost use Rattle.evidence.specs.Refusals.{name_of, number_of, unknown_name, unkn
 use authenticators::Directory;
 use evidence_item::Checked;
 use std::alloc::{AllocError, AllocFailed};
+use std::io;
 use thiserror::Error;
 
-/// A store that could not be made, since a growth was refused. The directory is given back.
+/// The error if a store could not be made because a growth was refused. The directory is given back.
 #[derive(Debug, Drop, Error)]
-#[error("out of memory for a store")]
+#[error("memory ran out")]
 pub struct NewStoreRefused(pub Directory);
 
-/// A checked item that could not be taken, since a growth was refused. It is given back.
+/// The error if a store did not take a checked item, because a growth was refused or there is no room for one item more. The
+/// item is given back.
 #[derive(Debug, Drop, Error)]
-#[error("out of memory for an item")]
+#[error("memory ran out, or the store has no room for one more item")]
 pub struct TakeRefused<P>(pub Checked<P>);
 
 /// 44: the node is not listed in the store's directory.
@@ -25,14 +27,14 @@ pub struct TakeRefused<P>(pub Checked<P>);
 pub struct UnknownNode;
 
 impl UnknownNode {
-    /// The number of the refusal, which is that of [`AskFault::UnknownNode`].
+    /// Returns the number of the refusal, which is that of [`AskFault::UnknownNode`].
     pub fn number(&self) -> u8
         ensures { result ≡ unknown_number }
     {
         44
     }
 
-    /// The name of the refusal.
+    /// Returns the name of the refusal.
     pub fn name(&self) -> &'static str
         ensures { result.now ≡ unknown_name }
     {
@@ -52,7 +54,7 @@ pub enum AskFault {
 }
 
 impl AskFault {
-    /// The number of the refusal.
+    /// Returns the number of the refusal.
     pub fn number(&self) -> u8
         ensures { result ≡ number_of self.now }
     {
@@ -62,7 +64,7 @@ impl AskFault {
         }
     }
 
-    /// The name of the refusal, which is that of its variant.
+    /// Returns the name of the refusal, which is that of its variant.
     pub fn name(&self) -> &'static str
         ensures { result.now ≡ name_of self.now }
     {
@@ -96,5 +98,36 @@ impl From<UnknownNode> for AskFault {
 
     fn from(_: UnknownNode) -> AskFault {
         AskFault::UnknownNode
+    }
+}
+
+/// Why a text was not written whole.
+#[derive(Clone, Copy, Debug, PartialEq, Eq, Error)]
+pub enum WriteFault {
+    /// A growth of memory was refused.
+    #[error("memory ran out")]
+    Memory,
+    /// The writer did not take all of the bytes. How many it took is not known.
+    #[error("a write failed")]
+    WriteFailed,
+}
+
+impl From<AllocError> for WriteFault {
+    ghost use Rattle.evidence.specs.declared.fault.WriteFault.TheVariants.{Memory};
+
+    ghost from_gives = { λ _ e. e ≡ Memory };
+
+    fn from(_: AllocError) -> WriteFault {
+        WriteFault::Memory
+    }
+}
+
+impl From<io::Error> for WriteFault {
+    ghost use Rattle.evidence.specs.declared.fault.WriteFault.TheVariants.{WriteFailed};
+
+    ghost from_gives = { λ _ e. e ≡ WriteFailed };
+
+    fn from(_: io::Error) -> WriteFault {
+        WriteFault::WriteFailed
     }
 }

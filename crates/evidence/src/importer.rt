@@ -1,4 +1,4 @@
-//! Reading the text of a set that comes in pieces.
+//! Reading the encoding of a set that comes in pieces.
 
 ghost use Rattle.std.specs.Prelude.{◌≡◌, ◌+◌, ◌≤◌, ◌++◌, [], IfErr, IfOk, IsOk, OnErr, OnOk, Ok, Err, List, length, ℕ};
 ghost use Rattle.containers.specs.declared.fault.Cause.TheVariants as cause;
@@ -21,10 +21,11 @@ use replay_verifier::Program;
 use std::alloc::Global;
 use std::marker::Model;
 
-/// Reads the text of a set that comes in pieces, and checks each item as soon as its bytes are there; at the end of the text a store
-/// takes all of its items, or none. It keeps the items that were read and the bytes of the one under way.
+/// A reader of the encoding of a set, which comes in pieces. It checks each item as soon as all of its bytes are there. At the
+/// end a store takes all of the items, or none. The importer keeps the items that were read, and the bytes of the item that is
+/// not complete yet.
 ///
-/// A contract sees the directory, and the pieces so far, joined, or the fault by which they were refused.
+/// A contract sees the directory. It also sees the pieces so far, joined, or the fault by which they were refused.
 #[derive(Drop)]
 pub struct Importer<P: Program> {
     alloc: Global,
@@ -47,7 +48,8 @@ impl<P: Program> Model for Importer<P> {
 }
 
 impl<P: Program> Importer<P> {
-    /// An importer that was fed nothing. Its items are checked under the directory. It takes no memory.
+    /// Returns an importer that was fed nothing. Its items are checked under the directory. It takes no memory, and is never
+    /// refused.
     pub fn new(alloc: Global, directory: Directory) -> Result<Importer<P>, NewStoreRefused>
         ensures begun { IfOk result (λ i. i ≡ record { directory = directory; fed = Ok [] }) }
         ensures lent { IsOk result }
@@ -59,12 +61,14 @@ impl<P: Program> Importer<P> {
         })
     }
 
-    /// The next piece, of any length.
+    /// Reads the next piece, of any length.
     ///
-    /// It is refused as soon as the pieces so far show a fault, whatever follows: with that of [`Evidence::import`] of the text so far
-    /// which is no cut-off. A text that is only cut off goes on. `Memory` may come in place of a fault, but of none that the bytes show
-    /// whatever their items are: `BadMagic` (60), and in front of the first item `TooLong` (42) and `Trailing` (43); nor before the
-    /// header's 16 bytes are whole. After a refusal each later call answers the same fault.
+    /// It refuses as soon as the pieces so far show a fault, whatever follows. The fault is the one that [`Evidence::import`]
+    /// reports of the bytes so far. Bytes that are only cut off are no fault yet.
+    ///
+    /// `Memory` may come in place of a fault, but not before the 16 bytes of the header are there. Nor does it come in place of
+    /// a fault that the bytes show whatever their items are. That is `BadMagic` (60), `TooLong` (42) of the first item, or
+    /// `Trailing` (43) if there are no items. After a refusal each later call returns the same fault.
     pub fn feed(&mut self, program: &P, piece: &[u8]) -> Result<(), ImportFault>
         ensures directory { self.new.directory ≡ self.old.directory }
         ensures fed { Feeds result (fed_by (checked_of self.old.directory) piece.now self.old.fed) self.new.fed }
@@ -76,17 +80,18 @@ impl<P: Program> Importer<P> {
         feed(self.alloc, program, &self.directory, &mut self.stage, piece)
     }
 
-    /// The end of the text: the store, which is of the same directory, takes its items, all or none. It answers how many are new.
+    /// Ends the reading, and adds all of the items to the store, or none. The store has the same directory. Returns how many of
+    /// the items are new.
     ///
-    /// `Truncated` (40) where the text is cut off: at item 0 in the header, else at the item under way. After a refusal of `feed` it
-    /// answers the same fault. `Memory` may come in place of the answer, and of no fault. Each item was checked as it was read, so the
-    /// program is not asked again.
+    /// Returns `Truncated` (40) if the bytes are cut off: at item 0 in the header, else at the item that is not complete. If
+    /// `feed` refused, it returns the same fault. `Memory` may come in place of the result, but not in place of a fault. Each
+    /// item was checked when it was read, so the program is not run again.
     pub fn finish<S: Evidence<P>>(self, _program: &P, store: &mut S) -> Result<u64, ImportFault>
         requires { (S.contents store.old).directory ≡ self.directory }
         ensures told { IfOk result (λ new. count (S.contents store.old).items + new ≡ count (S.contents store.new).items) }
         ensures joined { OnOk result ((text : List ℕ) × (added : Items) × (self.fed ≡ Ok text) × (text ≡ set_text (magic_of text) added) × (S.contents store.new ≡ with_items (S.contents store.old) (Join (S.contents store.old).items added))) }
         ensures fault { IfErr result (λ f. Refuses f (imported self)) }
-        // A fault is told, whether there is memory or not.
+        // A fault is reported even if memory runs out.
         ensures exact { (f : TheFault) → imported self ≡ Err f → result ≡ Err f }
         ensures refused { OnErr result (S.contents store.new ≡ S.contents store.old) }
     {

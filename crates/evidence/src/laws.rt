@@ -8,8 +8,8 @@ use evidence_item::laws::valid_items_have_no_fault;
 use evidence_set::laws::{joins_are_least_upper_bounds, sets_are_as_expected};
 use item_forms::laws::{items_have_one_text, spellings_are_short};
 
-/// The text of a set of valid items is read as just these, what is read is the text of a set, and sets with one text are one: of
-/// stores, packs and whatever else is known by eight bytes in front.
+/// The encoding of a set of valid items is read as just these items. What is read is the encoding of a set. Sets with one
+/// encoding are equal. This holds of stores, of packs, and of any other container, whichever eight bytes it begins with.
 pub fn sets_have_one_text()
     ensures { SetsHaveOneText }
 {
@@ -19,12 +19,13 @@ pub fn sets_have_one_text()
     valid_items_have_no_fault();
 }
 
-/// A fault of the pieces so far is that of each text that begins with them.
+/// If the pieces so far show a fault, all bytes that begin with them are refused with the same fault.
 pub fn refused_pieces_stay()
     ensures { RefusedPiecesStay }
 {}
 
-/// What a store exports is read as its items, and the store with no item that imports it, under the same directory, has equal contents.
+/// What a store exports is read as its items. A store without items, under the same directory, that imports the export has
+/// equal contents.
 pub fn exports_come_back()
     ensures { ExportsComeBack }
 {

@@ -1,4 +1,4 @@
-//! The text of a set, and the eight bytes by which it is known.
+//! The encoding of a set, and the eight bytes with which it begins.
 
 ghost use Rattle.std.specs.Prelude.{◌≡◌, IfErr, IfOk, IsOk, OnOk};
 ghost use Rattle.std.specs.List.{All};
@@ -19,13 +19,14 @@ use log_chain::laws::bytes_fit;
 use replay_verifier::Program;
 use std::alloc::Global;
 
-/// The eight bytes by which the text of a set is known.
+/// The eight bytes with which the encoding of a set begins.
 pub const MAGIC: [u8; 8] = *b"PRSTORE2";
 
-/// Those by which it was known before a node had more than one key.
+/// The eight bytes with which it began before a node had more than one key.
 const OLD_MAGIC: [u8; 8] = *b"PRSTORE1";
 
-/// Those by which the text of a set is read: the ones of before where it begins with them. It takes no memory.
+/// Returns the eight bytes with which the encoding of a set is expected to begin: `PRSTORE1` if `bytes` begins so, else
+/// [`MAGIC`]. It takes no memory.
 pub fn magic_of(bytes: &[u8]) -> [u8; 8]
     ensures { result ≡ magic_of bytes.now }
 {
@@ -36,7 +37,7 @@ pub fn magic_of(bytes: &[u8]) -> [u8; 8]
     }
 }
 
-/// The items of the text of a set, each checked under the directory, in the order of their spellings.
+/// Returns the items of the encoding of a set, each checked under the directory, in the order of their encodings.
 pub(crate) fn items_of<P: Program>(
     alloc: Global,
     program: &P,

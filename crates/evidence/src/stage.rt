@@ -32,7 +32,7 @@ pub(crate) type Head = ArrayVec<u8, 8>;
 /// What was fed so far.
 #[derive(Drop)]
 pub(crate) enum Stage<P> {
-    /// Fewer than the eight bytes by which a text is known.
+    /// Fewer than the eight bytes with which the encoding of a set begins.
     Head(Head),
     /// The eight bytes and what follows them.
     Items(Reading<P>),
@@ -40,7 +40,7 @@ pub(crate) enum Stage<P> {
     Refused(ImportFault),
 }
 
-/// Moves bytes from the front of the piece to the head, until it has eight. What is left of the piece.
+/// Moves bytes from the front of the piece to the head, until the head has eight. Returns what is left of the piece.
 fn fill<'a>(head: &mut Head, piece: &'a [u8]) -> &'a [u8]
     requires { length head.old.items < 8 }
     ensures moved { head.new.items ++ result.now ≡ head.old.items ++ piece.now }
@@ -52,7 +52,7 @@ fn fill<'a>(head: &mut Head, piece: &'a [u8]) -> &'a [u8]
     rest
 }
 
-/// Where a text stands behind its first eight bytes. It takes no memory.
+/// Returns the stage after the first eight bytes. It takes no memory.
 fn begun<P: Program>(alloc: Global, head: &[u8]) -> Stage<P>
     requires { length head.now ≡ 8 }
     ensures stage { (ds : Listing) → IsStage ds P.means result }
@@ -68,7 +68,7 @@ fn begun<P: Program>(alloc: Global, head: &[u8]) -> Stage<P>
     Stage::Items(Reading::new(alloc, magic))
 }
 
-/// Takes the first eight bytes from the front of the piece, as far as they are wanting. What is left of the piece.
+/// Takes bytes from the front of the piece, as many as the first eight still lack. Returns what is left of the piece.
 fn take_head<'a, P: Program>(alloc: Global, stage: &mut Stage<P>, piece: &'a [u8]) -> &'a [u8]
     requires { IsOpen stage.old }
     ensures stage { (ds : Listing) → IsStage ds P.means stage.old → IsStage ds P.means stage.new }
@@ -88,7 +88,7 @@ fn take_head<'a, P: Program>(alloc: Global, stage: &mut Stage<P>, piece: &'a [u8
     rest
 }
 
-/// The next piece.
+/// Reads the next piece.
 pub(crate) fn feed<P: Program>(
     alloc: Global,
     program: &P,
@@ -111,7 +111,7 @@ pub(crate) fn feed<P: Program>(
     }
 }
 
-/// The end of the text: its items, each checked. It takes no memory.
+/// Ends the reading and returns the items, each checked. It takes no memory.
 pub(crate) fn finish<P: Program>(stage: Stage<P>) -> Result<Vec<Checked<P>>, ImportFault>
     ensures checked { (ds : Listing) → IsStage ds P.means stage → IfOk result (λ items. All (IsChecked ds P.means) items.items) }
     ensures ascending { (ds : Listing) → IsStage ds P.means stage → IfOk result (λ items. IsStrictlySortedBy by_bytes (pieces items.items)) }

@@ -39,7 +39,7 @@ fn lend<'a, P>(
     Ok(())
 }
 
-/// The same of the challenge whose place stands somewhere among others.
+/// Does the same for the challenge whose place stands somewhere among others.
 fn lend_at<'a, P>(
     found: &mut Vec<&'a Item>,
     items: &'a [KeptItem<P>],
@@ -57,7 +57,7 @@ fn lend_at<'a, P>(
     }
 }
 
-/// The challenges against the node at these places, in their order.
+/// Returns the challenges against the node at these places, in their order.
 fn challenges_at<'a, P>(
     alloc: Global,
     items: &'a [KeptItem<P>],
@@ -74,7 +74,7 @@ fn challenges_at<'a, P>(
     Ok(found)
 }
 
-/// The challenges against a listed node that no item answers, in the order of the items' spellings: they stand so in its table.
+/// Returns the challenges against a listed node that no item answers, in the order of their encodings. They stand so in its table.
 pub(crate) fn open_challenges<'a, P: Program>(
     alloc: Global,
     directory: &Directory,

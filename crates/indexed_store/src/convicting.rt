@@ -59,7 +59,7 @@ fn segment_at<P>(alloc: Global, items: &[KeptItem<P>], place: u32) -> Result<Opt
     Ok(Some(copy))
 }
 
-/// A proof of the statements of two rows, which are signed.
+/// Returns a proof of the statements of two rows, which are signed.
 fn of_two<P>(
     alloc: Global,
     directory: &Directory,
@@ -82,7 +82,7 @@ fn of_two<P>(
     Ok(Some(proof))
 }
 
-/// A proof of the segment at a place.
+/// Returns a proof of the segment at a place.
 fn of_segment<P>(alloc: Global, items: &[KeptItem<P>], place: u32) -> Result<Option<Proof>, Memory>
     ensures { IfOk result (IsSegmentMade items.now place) }
 {
@@ -94,7 +94,7 @@ fn of_segment<P>(alloc: Global, items: &[KeptItem<P>], place: u32) -> Result<Opt
     Ok(Some(proof))
 }
 
-/// A proof of the statement of a row, which is signed, and of the segment at a place.
+/// Returns a proof of the statement of a row, which is signed, and of the segment at a place.
 fn of_denial<P>(
     alloc: Global,
     directory: &Directory,
@@ -117,7 +117,7 @@ fn of_denial<P>(
     Ok(Some(proof))
 }
 
-/// A proof of what exposes a node.
+/// Returns a proof of what exposes a node.
 fn proof_by<P>(
     alloc: Global,
     directory: &Directory,
@@ -134,7 +134,7 @@ fn proof_by<P>(
     }
 }
 
-/// A proof that convicts the listed node, where the items expose it. Its table has what does, so nothing is searched.
+/// Returns a proof that convicts the listed node, if the items expose it. The node's table has what exposes it, so nothing is searched.
 pub(crate) fn proof<P: Program>(
     alloc: Global,
     directory: &Directory,

@@ -1,4 +1,4 @@
-//! The digests of items, which are kept from when one was asked for.
+//! The digests of items. They are kept once one was asked for.
 
 ghost use Rattle.std.specs.Prelude.{◌≡◌, [], slice_get};
 ghost use Rattle.indexed_store.specs.within.Digested.{AreDigests};
@@ -9,8 +9,8 @@ use std::alloc::Global;
 use std::marker::Model;
 use std::sync::atomic::{AtomicBool, Ordering};
 
-/// The digests of the first items as they came: none until one is asked for, and of all from the next change on. A contract sees the
-/// list of them.
+/// The digests of the first items as they came. There are none until one is asked for. From the next change on they are those of all items.
+/// A contract sees the list of them.
 #[derive(Drop)]
 pub(crate) struct Digests {
     made: Vec<Hash>,
@@ -25,7 +25,7 @@ impl Model for Digests {
     ghost view = { λ d. d.made.items };
 }
 
-/// Makes the digests of the items that have none yet. Where there is no memory for more, fewer are made.
+/// Makes the digests of the items that have none yet. If there is no memory for more, it makes fewer.
 fn make_each<P>(made: &mut Vec<Hash>, items: &[KeptItem<P>])
     requires { AreDigests made.old.items items.now }
     ensures { AreDigests made.new.items items.now }
@@ -38,7 +38,7 @@ fn make_each<P>(made: &mut Vec<Hash>, items: &[KeptItem<P>])
 }
 
 impl Digests {
-    /// None.
+    /// Returns no digests.
     pub(crate) fn new(alloc: Global) -> Digests
         ensures { result ≡ [] }
     {
@@ -48,7 +48,7 @@ impl Digests {
         }
     }
 
-    /// That of the item at a place, if it is kept. It takes no memory.
+    /// Returns the digest of the item at a place, if it is kept. It takes no memory.
     pub(crate) fn ask(&self, place: u32) -> Option<Hash>
         ensures { result ≡ slice_get self.now place }
     {
@@ -56,7 +56,7 @@ impl Digests {
         self.made.get(place as usize).copied()
     }
 
-    /// Keeps those of all items, if one was asked for. Where there is no memory for that, it keeps fewer.
+    /// Keeps the digests of all items, if one was asked for. If there is no memory for that, it keeps fewer.
     pub(crate) fn keep_up<P>(&mut self, items: &[KeptItem<P>])
         requires { AreDigests self.old items.now }
         ensures { AreDigests self.new items.now }

@@ -12,7 +12,7 @@ use evidence_item::Item;
 use kept_items::KeptItem;
 use node_tables::{gap_of, gap_of_kept};
 
-/// Whether one of the items is this one. It is looked up by binary search.
+/// Returns whether one of the items is this one. It takes a binary search.
 pub(crate) fn has<P>(index: &Index<P>, item: &Item) -> bool
     requires { IsOrdered index.now }
     ensures { result ≡ is_kept index.now.items.items item.now }
@@ -23,7 +23,7 @@ pub(crate) fn has<P>(index: &Index<P>, item: &Item) -> bool
     }
 }
 
-/// Whether the set has the item.
+/// Returns whether the set has the item.
 pub(crate) fn holds<P>(index: &Index<P>, item: &Item) -> bool
     requires { IsOrdered index.now }
     ensures { result ≡ contains (set_of index.now.items.items) item.now }
@@ -31,7 +31,7 @@ pub(crate) fn holds<P>(index: &Index<P>, item: &Item) -> bool
     has(index, item)
 }
 
-/// Whether the set has an item of another store.
+/// Returns whether the set has an item of another store.
 pub(crate) fn keeps<P>(index: &Index<P>, other: &KeptItem<P>) -> bool
     requires { IsOrdered index.now }
     ensures { result ≡ is_kept index.now.items.items other.now.item }
@@ -42,7 +42,7 @@ pub(crate) fn keeps<P>(index: &Index<P>, other: &KeptItem<P>) -> bool
     }
 }
 
-/// Whether each of the other items is kept, each looked up once.
+/// Returns whether each of the other items is kept. It looks each up once.
 fn keeps_each<P>(index: &Index<P>, others: &[KeptItem<P>]) -> bool
     requires { IsOrdered index.now }
     ensures { result ≡ list_all (λ (c : TheChecked). is_kept index.now.items.items c.item) others.now }
@@ -55,7 +55,7 @@ fn keeps_each<P>(index: &Index<P>, others: &[KeptItem<P>]) -> bool
     true
 }
 
-/// Whether the set of the other items is within that of these. It takes no memory.
+/// Returns whether these items include the set of the other items. It takes no memory.
 pub(crate) fn includes<P>(index: &Index<P>, others: &[KeptItem<P>]) -> bool
     requires { IsOrdered index.now }
     ensures { IsTrue result ↔ IsWithin (set_of others.now) (set_of index.now.items.items) }

@@ -1,4 +1,4 @@
-//! The items of a store, by what they are looked up.
+//! The items of a store, with what they are looked up by.
 
 ghost use Rattle.std.specs.Prelude.{◌≡◌, ◌≢◌, ℕ, IfNone, IfSome, Some, slice_get};
 ghost use Rattle.std.specs.List.{Contains};
@@ -10,18 +10,18 @@ use kept_items::KeptItem;
 use node_tables::{Table, place_of};
 use tiered_vec::TieredVec;
 
-/// Items as they came, the places of all of them in the order of their spellings, and what they say of each listed node.
+/// Items as they came, the places of all of them in the order of their encodings, and what they say of each listed node.
 #[derive(Drop)]
 pub(crate) struct Index<P> {
     /// The items as they came.
     pub items: Vec<KeptItem<P>>,
-    /// Their places, in the order of their spellings.
+    /// Their places, in the order of their encodings.
     pub order: TieredVec<u32>,
     /// What they say of each node that is listed.
     pub tables: Vec<Table>,
 }
 
-/// The table of the node, where it has one. It is looked up by binary search.
+/// Returns the table of the node, if it has one. It takes a binary search.
 pub(crate) fn table_of<P>(index: &Index<P>, node: NodeId) -> Option<&Table>
     requires { AscendByNode index.now.tables.items }
     ensures none { IfNone result ((t : TheTable) → Contains index.now.tables.items t → t.node ≢ node) }

@@ -1,13 +1,12 @@
 //! The indexed store.
 
-ghost use Rattle.std.specs.Prelude.{◌≡◌, ◌↔◌, ◌+◌, IfErr, IfOk, IsTrue, OnErr, OnOk, Ok, false, not};
+ghost use Rattle.std.specs.Prelude.{◌≡◌, ◌+◌, IfErr, IfOk, OnErr, OnOk, Ok, false, not};
 ghost use Rattle.std.specs.List.{All};
 ghost use Rattle.std.specs.List.Sorted.{IsStrictlySortedBy};
 ghost use Rattle.item_forms.specs.Pieces.{by_bytes};
 ghost use Rattle.evidence_item.specs.Checking.{IsChecked};
 ghost use Rattle.evidence_set.specs.ItemSets.{Has, Join, contains, count, insert, pieces, set_of};
 ghost use Rattle.evidence.specs.Contents.{with_items};
-ghost use Rattle.localities.specs.Known.{IsKnown};
 
 use crate::challenges::open_challenges;
 use crate::convicting::proof;
@@ -16,11 +15,11 @@ use crate::including::{holds, includes};
 use crate::index::Index;
 use crate::indicating::indication;
 use crate::knowing::knows;
-use crate::listing::{count, digest_at, export, item_at};
+use crate::listing::{count, digest_at, export, export_to, item_at};
 use crate::merging::{merge, take_all};
 use crate::taking::take;
 use authenticators::{Directory, NodeId};
-use evidence::{AskFault, Evidence, NewStoreRefused, TakeRefused, UnknownNode};
+use evidence::{AskFault, Evidence, NewStoreRefused, TakeRefused, UnknownNode, WriteFault};
 use evidence_item::{Checked, Hash, Item};
 use evidence_set::Indication;
 use kept_entries::EntryPool;
@@ -29,14 +28,16 @@ use outcome::Memory;
 use proofs::Proof;
 use replay_verifier::Program;
 use std::alloc::Global;
+use std::io;
 use std::marker::Model;
 use tiered_vec::TieredVec;
 
-/// A store that keeps, beside its items as they came, their order by spellings, and of each listed node what they say of it: so an item
-/// more touches the tables of the nodes that it speaks of alone, and a question is a look-up. Entries that several segments have are kept
-/// once. A contract sees the directory and the set of the items.
+/// A store that keeps its items as they came, their order by encodings, and what they say of each listed node. So a new item changes only
+/// the tables of the nodes that it is about, and a question about a node is a look-up. Entries that several segments have are kept once.
+/// A contract sees the directory and the set of the items.
 ///
-/// It has room for 2^32 items; one more is refused as a growth is. Once a digest is asked for, it keeps those of all items from the next
+/// It has room for 2^32 items, and refuses one more as if a growth were refused. It keeps no digests until one is asked for. From the next
+/// change on it keeps those of all items, or fewer if there is no memory for them.
 /// change on; before, none is made.
 #[derive(Drop)]
 pub struct IndexedStore<P: Program> {
@@ -62,20 +63,10 @@ impl<P: Program> Model for IndexedStore<P> {
     ghost invariant = { λ s. IsStoreAtRest s.directory P.means s.index s.digests };
 }
 
-impl<P: Program> IndexedStore<P> {
-    /// Whether anything is known of the node: whether the items hold a statement of it, or a challenge against it. A node that behaved well
-    /// is trusted, and so is one of which nothing is known. Of a node that is not listed nothing is known. It is a look-up.
-    pub fn knows(&self, node: NodeId) -> bool
-        ensures { IsTrue result ↔ IsKnown self.now.directory self.now.items node }
-    {
-        knows(&self.directory, &self.index, node)
-    }
-}
-
 impl<P: Program> Evidence<P> for IndexedStore<P> {
     ghost contents = { λ s. s };
 
-    /// It takes memory for a table of each listed node.
+    /// Returns a store with no item. It takes memory for a table of each listed node.
     fn new(alloc: Global, directory: Directory) -> Result<IndexedStore<P>, NewStoreRefused> {
         let Ok(tables) = empty_tables(alloc, &directory) else {
             return Err(NewStoreRefused(directory));
@@ -144,12 +135,17 @@ impl<P: Program> Evidence<P> for IndexedStore<P> {
         merged
     }
 
-    /// It is a look-up.
+    /// Returns what the items say of the node. It is a look-up.
     fn indication(&self, node: NodeId) -> Result<Indication, UnknownNode> {
         if !self.directory.contains(node) {
             return Err(UnknownNode);
         }
         Ok(indication(&self.directory, &self.index, node))
+    }
+
+    /// It is a look-up.
+    fn knows(&self, node: NodeId) -> bool {
+        knows(&self.directory, &self.index, node)
     }
 
     fn includes(&self, other: &IndexedStore<P>) -> bool {
@@ -174,6 +170,10 @@ impl<P: Program> Evidence<P> for IndexedStore<P> {
 
     fn export(&self) -> Result<Vec<u8>, Memory> {
         export(self.alloc, &self.index)
+    }
+
+    fn export_to<W: io::Write>(&self, writer: &mut W) -> Result<(), WriteFault> {
+        export_to(self.alloc, &self.index, writer)
     }
 
     fn allocator(&self) -> Global {

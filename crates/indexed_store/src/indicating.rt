@@ -14,7 +14,7 @@ use node_tables::Table;
 use replay_verifier::Program;
 use replay_verifier::laws::deviating_lists_do_not_conform;
 
-/// What the table of a node tells.
+/// Returns the indication that the table of a node gives.
 fn indication_of(table: &Table) -> Indication
     ensures { Tells table.now result }
 {
@@ -27,7 +27,7 @@ fn indication_of(table: &Table) -> Indication
     Indication::Suspected
 }
 
-/// What the items say of a listed node: a look-up. It takes no memory.
+/// Returns what the items say of a listed node. It is a look-up, and takes no memory.
 pub(crate) fn indication<P: Program>(
     directory: &Directory,
     index: &Index<P>,

@@ -12,7 +12,7 @@ use node_tables::Table;
 use replay_verifier::Program;
 use replay_verifier::laws::deviating_lists_do_not_conform;
 
-/// Whether the table has a statement of its node, or an open challenge against it.
+/// Returns whether the table has a statement of its node, or an open challenge against it.
 fn has_any(table: &Table) -> bool
     ensures { IsTrue result ↔ ((table.now.rows.items ≢ []) ⊎ (table.now.unanswered.items ≢ [])) }
 {
@@ -22,8 +22,8 @@ fn has_any(table: &Table) -> bool
     table.unanswered.len() > 0
 }
 
-/// Whether anything is known of a node: a look-up, which takes no memory. A challenge that is answered need not be looked for, since what
-/// answers it holds a statement of the node. Of a node that is not listed nothing is known.
+/// Returns whether anything is known of a node. It is a look-up, and takes no memory. A challenge that is answered need not be looked for,
+/// since what answers it holds a statement of the node. Nothing is known of a node that is not listed.
 pub(crate) fn knows<P: Program>(directory: &Directory, index: &Index<P>, node: NodeId) -> bool
     requires { IsIndex directory.now P.means index.now }
     ensures { IsTrue result ↔ IsKnown directory.now (set_of index.now.items.items) node }

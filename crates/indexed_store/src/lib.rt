@@ -1,11 +1,15 @@
-//! The indexed store of evidence. [`IndexedStore`] keeps its items as they came, their order by spellings, and of each node what the items
-//! say of it: a question about a node looks up what is kept of that node, and an item that is taken its place. What is taken is held
-//! against the node's segments and open challenges. A challenge looks up what answers it, and an acknowledgement or a segment closes
-//! challenges by look-up; a statement that is new looks at the segments that its number can contradict. Segments and audit challenges meet
-//! by hashes: an open challenge is looked at again only when a longer segment comes up to an entry that it names.
+//! The indexed store of evidence. [`IndexedStore`] keeps its items as they came, their order by encodings, and what the items say of each
+//! node. So a question about a node looks up what is kept of that node, and taking an item looks up its place.
 //!
-//! Its contract is that of the trait `Evidence`, and it tells beside that whether anything is known of a node. What it keeps of a node is in
-//! `node_tables`, how it keeps an item in `kept_items`.
+//! What is taken is compared with the node's segments and open challenges:
+//!
+//! - A challenge looks up what answers it. An acknowledgement or a segment looks up the challenges that it closes.
+//! - A new statement looks at the segments that its number can contradict.
+//! - Segments and audit challenges meet by hashes. An open challenge is looked at again only if a longer segment comes, up to an entry that
+//!   it names.
+//!
+//! Its contract is that of the trait `Evidence`. In addition it reports whether anything is known of a node. `node_tables` has what it
+//! keeps of a node, and `kept_items` how it keeps an item.
 #![tactic(auto)]
 
 pub use indexed_store::IndexedStore;

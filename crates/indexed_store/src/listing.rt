@@ -1,6 +1,7 @@
 //! The items of a set in their order.
 
 ghost use Rattle.std.specs.Prelude.{◌≡◌, ◌++◌, ℕ, IfOk, IfSome, OnOk, Some, map, option_map, slice_get};
+ghost use Rattle.std.specs.Io.KnownBytes.{Appends};
 ghost use Rattle.std.specs.List.{Contains, flat_map};
 ghost use Rattle.item_digests.specs.Digests.{digest_of};
 ghost use Rattle.evidence_item.specs.Checking.{Checked as TheChecked};
@@ -13,12 +14,13 @@ ghost use Rattle.indexed_store.specs.within.Resting.{IsOrdered};
 use crate::digests::Digests;
 use crate::index::Index;
 use containers::{HasItem, write_all};
-use evidence::MAGIC;
+use evidence::{MAGIC, WriteFault, write_pieces};
 use evidence_item::{Checked, Hash};
 use kept_items::KeptItem;
 use log_chain::FieldWriter;
 use outcome::Memory;
 use std::alloc::Global;
+use std::io;
 
 /// How many items the set has.
 pub(crate) fn count<P>(index: &Index<P>) -> u64
@@ -28,7 +30,7 @@ pub(crate) fn count<P>(index: &Index<P>) -> u64
     index.order.len() as u64
 }
 
-/// The item at a place of the order, where there is one.
+/// Returns the item at a place of the order, if there is one.
 fn kept_at<'a, P>(index: &'a Index<P>, n: u64) -> Option<&'a KeptItem<P>>
     requires { IsOrdered index.now }
     ensures item { option_map (λ k. k.now.item) result ≡ slice_get (listed (set_of index.now.items.items)) n }
@@ -43,7 +45,7 @@ fn kept_at<'a, P>(index: &'a Index<P>, n: u64) -> Option<&'a KeptItem<P>>
     }
 }
 
-/// A copy of the item at a place of the order, where there is one.
+/// Returns a copy of the item at a place of the order, if there is one.
 pub(crate) fn item_at<P>(
     alloc: Global,
     index: &Index<P>,
@@ -59,7 +61,7 @@ pub(crate) fn item_at<P>(
     }
 }
 
-/// The digest of the item at a place of the order, where there is one, hashed where the item lies.
+/// Returns the digest of the item at a place of the order, if there is one. It hashes the item where it lies.
 fn hashed_at<P>(index: &Index<P>, n: u64) -> Option<Hash>
     requires { IsOrdered index.now }
     ensures { result ≡ option_map digest_of (slice_get (listed (set_of index.now.items.items)) n) }
@@ -70,7 +72,7 @@ fn hashed_at<P>(index: &Index<P>, n: u64) -> Option<Hash>
     }
 }
 
-/// That digest, if it is kept.
+/// Returns that digest, if it is kept.
 fn made_at<P>(index: &Index<P>, digests: &Digests, n: u64) -> Option<Hash>
     requires order { IsOrdered index.now }
     requires made { AreDigests digests.now index.now.items.items }
@@ -82,7 +84,7 @@ fn made_at<P>(index: &Index<P>, digests: &Digests, n: u64) -> Option<Hash>
     }
 }
 
-/// The digest of the item at a place of the order, where there is one.
+/// Returns the digest of the item at a place of the order, if there is one.
 pub(crate) fn digest_at<P>(index: &Index<P>, digests: &Digests, n: u64) -> Option<Hash>
     requires order { IsOrdered index.now }
     requires made { AreDigests digests.now index.now.items.items }
@@ -137,7 +139,7 @@ fn lend_at<'a, P>(found: &mut Vec<Lent<'a, P>>, index: &'a Index<P>, n: usize) -
     lend(found, &index.items, *place)
 }
 
-/// The items in their order, lent.
+/// Returns the items in their order, lent.
 fn in_order<'a, P>(alloc: Global, index: &'a Index<P>) -> Result<Vec<Lent<'a, P>>, Memory>
     ensures { IfOk result (λ lent. map (λ l. l.kept.now.item) lent.items ≡ flat_map (λ i. named_item (slice_get index.now.items.items i)) index.now.order.items) }
 {
@@ -148,7 +150,7 @@ fn in_order<'a, P>(alloc: Global, index: &'a Index<P>) -> Result<Vec<Lent<'a, P>
     Ok(found)
 }
 
-/// The text of the set.
+/// Returns the encoding of the set.
 pub(crate) fn export<P>(alloc: Global, index: &Index<P>) -> Result<Vec<u8>, Memory>
     requires { IsOrdered index.now }
     ensures { IfOk result (λ text. text.items ≡ export_of (set_of index.now.items.items)) }
@@ -156,4 +158,18 @@ pub(crate) fn export<P>(alloc: Global, index: &Index<P>) -> Result<Vec<u8>, Memo
     let lent = in_order(alloc, index)?;
     let text = write_all(alloc, MAGIC, &lent)?;
     Ok(text)
+}
+
+/// Writes the encoding of the set to the writer, in pieces.
+pub(crate) fn export_to<P, W: io::Write>(
+    alloc: Global,
+    index: &Index<P>,
+    writer: &mut W,
+) -> Result<(), WriteFault>
+    requires { IsOrdered index.now }
+    ensures { OnOk result (Appends (W.contents writer.old) (W.contents writer.new) (export_of (set_of index.now.items.items))) }
+{
+    let lent = in_order(alloc, index)?;
+    write_pieces(alloc, MAGIC, &lent, writer)?;
+    Ok(())
 }

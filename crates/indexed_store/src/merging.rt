@@ -22,7 +22,7 @@ use outcome::Memory;
 use replay_verifier::Program;
 use std::alloc::Global;
 
-/// Copies of the items that are not kept, their entries shared with those that are.
+/// Returns copies of the items that are not kept. Their entries are shared with those that are.
 fn copies_of_missing<P>(
     alloc: Global,
     pool: &mut EntryPool,
@@ -41,7 +41,7 @@ fn copies_of_missing<P>(
     Ok(copies)
 }
 
-/// Finds what was not found yet of the item, and keeps it, its entries shared.
+/// Finds what was not found yet of the item, and keeps it. Its entries are shared.
 fn kept_of<P: Program>(
     alloc: Global,
     directory: &Directory,
@@ -58,7 +58,7 @@ fn kept_of<P: Program>(
     }
 }
 
-/// Keeps each of the items that the store has not, its entries shared. Those that it has are dropped, and take no memory.
+/// Keeps each of the items that the store does not have, with its entries shared. The other items are dropped, and take no memory.
 fn keep_missing<P: Program>(
     alloc: Global,
     directory: &Directory,
@@ -91,7 +91,7 @@ fn release_each<P>(tables: &mut [Table], items: &[KeptItem<P>])
     }
 }
 
-/// Promises the tables all of the items. With `Memory` what was promised of some of them is taken back.
+/// Promises the tables all of the items. If it returns `Memory`, what was promised of some of them is taken back.
 fn promise_all<P>(tables: &mut [Table], more: &[KeptItem<P>]) -> Result<(), Memory>
     requires { AscendByNode tables.old }
     ensures same { EachBecomes IsRoomier tables.old tables.new }
@@ -107,7 +107,7 @@ fn promise_all<P>(tables: &mut [Table], more: &[KeptItem<P>]) -> Result<(), Memo
     Ok(())
 }
 
-/// Makes all room that the items need. With `Memory` the items, their order and what the tables have are as they were.
+/// Makes all room that the items need. If it returns `Memory`, the items, their order and what the tables have are as they were.
 fn prepare_all<P>(index: &mut Index<P>, more: &[KeptItem<P>]) -> Result<(), Memory>
     requires { AscendByNode index.old.tables.items }
     ensures same { IsReadier index.old index.new }
@@ -125,7 +125,7 @@ fn prepare_all<P>(index: &mut Index<P>, more: &[KeptItem<P>]) -> Result<(), Memo
     promise_all(&mut index.tables, more)
 }
 
-/// Puts an item in its place, where it is not there yet. There is room for it.
+/// Puts an item in its place, if it is not there yet. There is room for it.
 fn add_new<P: Program>(directory: &Directory, index: &mut Index<P>, item: KeptItem<P>)
     requires store { IsIndex directory.now P.means index.old }
     requires whole { IsWhole directory.now P.means item }
@@ -142,7 +142,7 @@ fn add_new<P: Program>(directory: &Directory, index: &mut Index<P>, item: KeptIt
     add(directory, index, gap, item);
 }
 
-/// Puts each of the items in its place, the first one first, where it is not there yet. There is room for all of them.
+/// Puts each of the items in its place, if it is not there yet, beginning with the first. There is room for all of them.
 fn add_each<P: Program>(directory: &Directory, index: &mut Index<P>, more: Vec<KeptItem<P>>)
     requires store { IsIndex directory.now P.means index.old }
     requires whole { (c : TheChecked) → Contains more.items c → IsWhole directory.now P.means c }
@@ -157,7 +157,7 @@ fn add_each<P: Program>(directory: &Directory, index: &mut Index<P>, more: Vec<K
     }
 }
 
-/// Adds the items that are not kept yet, and answers how many: all of them, or, with `Memory`, none.
+/// Adds the items that are not kept yet, and returns how many. It adds all of them, or, with `Memory`, none.
 fn add_all<P: Program>(
     directory: &Directory,
     index: &mut Index<P>,
@@ -177,7 +177,7 @@ fn add_all<P: Program>(
     Ok((index.order.len() - before) as u64)
 }
 
-/// Adds copies of the items of another store that are not kept yet, and answers how many: all of them, or, with `Memory`, none.
+/// Adds copies of the items of another store that are not kept yet, and returns how many. It adds all of them, or, with `Memory`, none.
 pub(crate) fn merge<P: Program>(
     alloc: Global,
     directory: &Directory,
@@ -198,7 +198,7 @@ pub(crate) fn merge<P: Program>(
     Ok(new)
 }
 
-/// Adds checked items, and answers how many are new: all of them, or, with `Memory`, none.
+/// Adds checked items, and returns how many are new. It adds all of them, or, with `Memory`, none.
 pub(crate) fn take_all<P: Program>(
     alloc: Global,
     directory: &Directory,

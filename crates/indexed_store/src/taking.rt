@@ -22,10 +22,10 @@ use outcome::Memory;
 use replay_verifier::Program;
 use std::alloc::Global;
 
-/// The most items, since a place is a number of 32 bits.
+/// How many items there can be at most, since a place is a number of 32 bits.
 pub(crate) const MOST_ITEMS: usize = 4_294_967_296;
 
-/// Finds what was not found yet of the item, and keeps it, its entries shared.
+/// Finds what was not found yet of the item, and keeps it. Its entries are shared.
 pub(crate) fn keep<P: Program>(
     alloc: Global,
     directory: &Directory,
@@ -47,7 +47,7 @@ pub(crate) fn keep<P: Program>(
     }
 }
 
-/// Makes all room that one item more needs. With `Memory` the items, their order and what the tables have are as they were.
+/// Makes all room that one item more needs. If it returns `Memory`, the items, their order and what the tables have are as they were.
 fn prepare<P>(index: &mut Index<P>, item: &KeptItem<P>) -> Result<(), Memory>
     requires { AscendByNode index.old.tables.items }
     ensures same { IsReadier index.old index.new }
@@ -62,7 +62,7 @@ fn prepare<P>(index: &mut Index<P>, item: &KeptItem<P>) -> Result<(), Memory>
     promise_item(&mut index.tables, item)
 }
 
-/// Puts an item that is not there yet in its place, for which there is room.
+/// Puts an item that is not there yet in its place. There is room for it.
 pub(crate) fn add<P: Program>(
     directory: &Directory,
     index: &mut Index<P>,
@@ -84,7 +84,7 @@ pub(crate) fn add<P: Program>(
     node_tables::index(&index.items, &index.order, &mut index.tables);
 }
 
-/// Takes the item, where it is not kept yet, and answers whether it is new.
+/// Takes the item, if it is not kept yet, and returns whether it is new.
 pub(crate) fn take<P: Program>(
     alloc: Global,
     directory: &Directory,

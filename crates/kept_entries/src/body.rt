@@ -8,7 +8,7 @@ use log_chain::{ByteString, Hash};
 use outcome::Memory;
 use std::alloc::Global;
 
-/// A kind and a content of any length, and the hash of the statement that the entry quotes genuinely, if it does.
+/// A kind, a content of any length, and the hash of the statement that the entry quotes, if it has a genuine quote.
 #[derive(Drop)]
 pub(crate) struct LongBody {
     kind: u8,
@@ -19,9 +19,9 @@ pub(crate) struct LongBody {
 /// How the kind, the content and the quote of an entry are kept.
 #[derive(Drop)]
 pub(crate) enum Body {
-    /// A short content, which quotes nothing, in place.
+    /// A short content in place. It quotes nothing.
     Short(u8, ShortText),
-    /// Any other.
+    /// Any other content.
     Long(Box<LongBody>),
 }
 
@@ -40,7 +40,7 @@ fn boxed(alloc: Global, kind: u8, content: &[u8], quoted: Option<Hash>) -> Resul
 }
 
 impl Body {
-    /// A copy of these. Where the content is short and quotes nothing, it takes no memory.
+    /// Returns a copy of these. It takes no memory if the content is short and quotes nothing.
     pub(crate) fn of(
         alloc: Global,
         kind: u8,
@@ -57,7 +57,7 @@ impl Body {
         boxed(alloc, kind, content, quoted)
     }
 
-    /// The kind.
+    /// Returns the kind.
     pub(crate) fn kind(&self) -> u8
         ensures { result ≡ kind_in self.now }
     {
@@ -67,7 +67,7 @@ impl Body {
         }
     }
 
-    /// The content.
+    /// Returns the content.
     pub(crate) fn content(&self) -> &[u8]
         ensures { result.now ≡ content_in self.now }
     {
@@ -77,7 +77,7 @@ impl Body {
         }
     }
 
-    /// The hash of what is quoted.
+    /// Returns the hash of what is quoted.
     pub(crate) fn quoted(&self) -> Option<Hash>
         ensures { result ≡ quoted_in self.now }
     {

@@ -1,4 +1,4 @@
-//! The pool that gives handles of entries, of equal ones handles of one.
+//! The pool that gives handles of entries. For equal entries it gives handles of one entry.
 
 ghost use Rattle.std.specs.Prelude.{◌≡◌, IfOk, IfSome};
 ghost use Rattle.std.specs.Arc.{arc_value};
@@ -12,15 +12,15 @@ use std::alloc::Global;
 use std::collections::BTreeMap;
 use std::sync::Arc;
 
-/// The entries that are kept, in a tree by the fronts of their hashes. An entry is given only where all its parts are those that are
-/// wanted, whatever the keys say.
+/// The entries that are kept, in a tree by the first eight bytes of their hashes. The pool hands out an entry only if all its parts are
+/// those that are wanted, whatever the keys say.
 #[derive(Drop)]
 pub struct EntryPool {
     kept: BTreeMap<u64, Arc<SharedEntry, Global>>,
 }
 
-/// The key under which the wanted entry is kept, or would be: the front of its hash, or the first number behind it under which no other
-/// entry is kept. A second entry with a front takes 2^32 hashes to find, and a third one 2^43.
+/// Returns the key under which the wanted entry is kept, or would be. This is the front of its hash, or the first number after it under
+/// which no other entry is kept. It takes 2^32 hashes to find a second entry with the same front, and 2^43 to find a third one.
 fn key_of(kept: &BTreeMap<u64, Arc<SharedEntry, Global>>, wanted: &Wanted<'_>) -> u64 {
     let front = front_of(wanted.hash);
     for turn in 0..u64::MAX {
@@ -33,7 +33,7 @@ fn key_of(kept: &BTreeMap<u64, Arc<SharedEntry, Global>>, wanted: &Wanted<'_>) -
     front
 }
 
-/// Another handle of the wanted entry, where it is kept.
+/// Returns another handle of the wanted entry, if it is kept.
 fn kept_handle(
     kept: &BTreeMap<u64, Arc<SharedEntry, Global>>,
     key: u64,
@@ -50,7 +50,7 @@ fn kept_handle(
     }
 }
 
-/// A handle of a copy of the entry.
+/// Returns a handle of a copy of the entry.
 fn copied(alloc: Global, wanted: &Wanted<'_>) -> Result<Arc<SharedEntry, Global>, Memory>
     ensures { IfOk result (λ a. arc_value a ≡ wanted_entry wanted.now) }
 {
@@ -60,14 +60,15 @@ fn copied(alloc: Global, wanted: &Wanted<'_>) -> Result<Arc<SharedEntry, Global>
 }
 
 impl EntryPool {
-    /// A pool with nothing.
+    /// Returns an empty pool.
     pub fn new(alloc: Global) -> EntryPool {
         EntryPool {
             kept: BTreeMap::new(alloc),
         }
     }
 
-    /// A handle of the wanted entry: that of an equal one that is kept, or a new one, which is kept from now on.
+    /// Returns a handle of the wanted entry. If an equal entry is kept, the handle is of that one; else it is of a new one, which is then
+    /// kept.
     fn handle_of(
         &mut self,
         alloc: Global,
@@ -85,7 +86,11 @@ impl EntryPool {
         Ok(handle)
     }
 
-    /// A handle of the entry, which is kept once: that of an equal one that is kept, or a new one, which is kept from now on.
+    /// Returns a handle of an entry equal to these parts. If the pool keeps an equal one, the handle is of that one. Else the pool copies
+    /// the entry, and keeps the copy.
+    ///
+    /// `prev` is the hash before the entry, `hash` its own hash, and `quoted` the hash of the statement that it quotes. The pool does not
+    /// check them. The error `Memory` comes if a growth is refused.
     pub fn share(
         &mut self,
         alloc: Global,
@@ -107,7 +112,7 @@ impl EntryPool {
         self.handle_of(alloc, &wanted)
     }
 
-    /// The same of an entry that another pool keeps.
+    /// Returns a handle as [`EntryPool::share`] does, for an entry that another pool keeps.
     pub fn share_again(
         &mut self,
         alloc: Global,

@@ -17,13 +17,13 @@ pub(crate) struct Wanted<'a> {
     pub(crate) quoted: Option<Hash>,
 }
 
-/// The first eight bytes of a hash.
+/// Returns the first eight bytes of a hash.
 pub(crate) fn front_of(hash: Hash) -> u64 {
     let h = hash.0;
     u64::from_be_bytes([h[0], h[1], h[2], h[3], h[4], h[5], h[6], h[7]])
 }
 
-/// Whether the kept entry is the wanted one.
+/// Returns whether the kept entry is the wanted one.
 pub(crate) fn is_same(kept: &SharedEntry, wanted: &Wanted<'_>) -> bool
     ensures { IsTrue result → kept.now ≡ wanted_entry wanted.now }
 {

@@ -1,7 +1,7 @@
-//! Entries that several segments share, kept once.
+//! Entries that several segments share. Each is kept once.
 //!
-//! An [`EntryPool`] hands out handles of entries: of entries that are equal it gives handles of one, found by its whole bytes. A
-//! [`SharedEntry`] is as small as what it has: a short content stands in it, and what no entry quotes takes no room.
+//! An [`EntryPool`] hands out handles of entries. For equal entries it hands out handles of one entry, which it finds by comparing all
+//! bytes. A [`SharedEntry`] takes no more room than it needs: a short content that quotes nothing stands in the entry itself.
 #![tactic(auto)]
 
 pub use entry_pool::EntryPool;

@@ -10,10 +10,11 @@ use outcome::Memory;
 use std::alloc::Global;
 use std::marker::Model;
 
-/// An entry with the hash before it, its own hash, and the hash of the statement that it quotes, if it quotes one genuinely. A contract
-/// sees these four.
+/// An entry with three hashes: the hash before it, its own hash, and the hash of the statement that it quotes, if it has a genuine quote. A
+/// contract sees these four.
 ///
-/// It is 88 bytes wide. A content of at most 13 bytes that quotes nothing, as a TIMER's, stands in it; any other has blocks of its own.
+/// It is 88 bytes wide. A content of at most 13 bytes that quotes nothing, such as a TIMER's, stands in it. Any other content has blocks of
+/// its own.
 #[derive(Drop)]
 pub struct SharedEntry {
     prev: Hash,
@@ -34,7 +35,7 @@ impl Model for SharedEntry {
 }
 
 impl SharedEntry {
-    /// A copy of the wanted entry.
+    /// Returns a copy of the wanted entry.
     pub(crate) fn of(alloc: Global, wanted: &Wanted<'_>) -> Result<SharedEntry, Memory>
         ensures { IfOk result (λ s. s ≡ wanted_entry wanted.now) }
     {
@@ -47,49 +48,49 @@ impl SharedEntry {
         })
     }
 
-    /// The hash before it.
+    /// Returns the hash before the entry.
     pub fn prev(&self) -> Hash
         ensures { result ≡ self.now.prev }
     {
         self.prev
     }
 
-    /// Its number.
+    /// Returns the entry's number.
     pub fn seq(&self) -> u64
         ensures { result ≡ self.now.entry.seq }
     {
         self.seq
     }
 
-    /// Its kind.
+    /// Returns the entry's kind.
     pub fn kind(&self) -> u8
         ensures { result ≡ self.now.entry.kind }
     {
         self.body.kind()
     }
 
-    /// Its content.
+    /// Returns the entry's content.
     pub fn content(&self) -> &[u8]
         ensures { result.now ≡ self.now.entry.content }
     {
         self.body.content()
     }
 
-    /// Its own hash.
+    /// Returns the entry's own hash.
     pub fn hash(&self) -> Hash
         ensures { result ≡ self.now.hash }
     {
         self.hash
     }
 
-    /// The hash of the statement that it quotes genuinely, if it does.
+    /// Returns the hash of the statement that the entry quotes, or `None` if it has no genuine quote.
     pub fn quoted(&self) -> Option<Hash>
         ensures { result ≡ self.now.quoted }
     {
         self.body.quoted()
     }
 
-    /// A copy of the entry alone.
+    /// Returns a copy of the entry alone, without the hashes.
     pub fn to_entry(&self, alloc: Global) -> Result<Entry, Memory>
         ensures { IfOk result (λ e. e ≡ self.now.entry) }
     {

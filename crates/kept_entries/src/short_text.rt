@@ -4,7 +4,7 @@ ghost use Rattle.std.specs.Prelude.{◌≡◌, ◌≤◌, length, take};
 
 use std::marker::Model;
 
-/// How many bytes a short text has at most: as many as leave a `Body` as wide as two words.
+/// How many bytes a short text has at most. A `Body` is then as wide as two words.
 pub(crate) const LONGEST_SHORT_TEXT: usize = 13;
 
 /// A short text, with no block of its own. A contract sees its bytes.
@@ -25,7 +25,7 @@ impl Model for ShortText {
     ghost invariant = { λ t. t.len ≤ LONGEST_SHORT_TEXT };
 }
 
-/// The bytes at the front of zeros.
+/// Returns the bytes, followed by zeros.
 fn padded(bytes: &[u8]) -> [u8; LONGEST_SHORT_TEXT]
     requires { length bytes.now ≤ LONGEST_SHORT_TEXT }
     ensures { take (length bytes.now) result ≡ bytes.now }
@@ -36,7 +36,7 @@ fn padded(bytes: &[u8]) -> [u8; LONGEST_SHORT_TEXT]
 }
 
 impl ShortText {
-    /// A copy of the bytes.
+    /// Returns a copy of the bytes.
     pub(crate) fn from_slice(bytes: &[u8]) -> ShortText
         requires { length bytes.now ≤ LONGEST_SHORT_TEXT }
         ensures { result ≡ bytes.now }
@@ -47,7 +47,7 @@ impl ShortText {
         }
     }
 
-    /// The bytes.
+    /// Returns the bytes.
     pub(crate) fn as_slice(&self) -> &[u8]
         ensures { result.now ≡ self.now }
     {

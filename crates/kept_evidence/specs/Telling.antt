@@ -1,4 +1,4 @@
--- What a list of items and a list of statements tell of a node, as tests.
+-- What a list of items and a list of statements say of a node, as tests.
 use Rattle.std.specs.Prelude.{◌≡◌, ℕ, ◌==◌, ◌&&◌, ◌||◌, not, is_some, List, [], ◌∷◌, ◌++◌, Bool, true, false, Option, Some, None}
 use Rattle.std.specs.List.{Contains, cons_option, list_any}
 use Rattle.log_chain.specs.declared.entry.Entry.{Entry}
@@ -22,7 +22,7 @@ use Rattle.evidence_set.specs.Challenges.{answers_audit, is_against, is_of_numbe
 use Rattle.kept_evidence.specs.declared.exposure.Exposure.{Exposure}
 use Rattle.kept_evidence.specs.declared.exposure.Exposure.TheVariants as exposure
 
--- The statement contradicts the item, which is a segment.
+-- The item is a segment that the statement contradicts.
 abbrev pub denies : Authenticator → Fields → Bool
 denies a (form.Auth b) = false
 denies a (form.Segment s) = contradicts a.seq a.hash s
@@ -30,7 +30,7 @@ denies a (form.Audit c) = false
 denies a (form.Send m) = false
 denies a (form.Ack b) = false
 
--- One of the statements contradicts the item.
+-- The item is a segment that one of the statements contradicts.
 abbrev pub is_denied : List Authenticator → Fields → Bool
 is_denied held (form.Auth b) = false
 is_denied held (form.Segment s) = list_any (λ a. contradicts a.seq a.hash s) held
@@ -44,24 +44,25 @@ deviates None = false
 deviates (Some verdict.Conforms) = false
 deviates (Some (verdict.Deviates at reason)) = true
 
--- The entry, which quotes genuinely where its hash was found, is a receipt of a message of this sender and number.
+-- The entry is a receipt of a message of this sender and number, and its quote is genuine: the hash of the quoted statement was
+-- found.
 abbrev pub is_told_receipt : Message → Entry → Option (List ℕ) → Bool
 is_told_receipt m e hash = is_some hash && is_of_number m (receipt_of e.content)
 
--- One of the entries is, of which these hashes were found.
+-- One of the entries is such a receipt. The hashes are those that were found of the entries' quotes.
 abbrev pub told_receipt : Message → List Entry → List (Option (List ℕ)) → Bool
 told_receipt m [] hashes = false
 told_receipt m (e ∷ es) [] = false
 told_receipt m (e ∷ es) (h ∷ hs) = is_told_receipt m e h || told_receipt m es hs
 
--- The hashes of the statements that a segment's entries quote genuinely, where they were found.
+-- For each entry of a segment, the hash of the statement that it quotes genuinely. The list is empty if these were not found.
 abbrev pub found_quotes : Option Findings → List (Option (List ℕ))
 found_quotes None = []
 found_quotes (Some (found.Segment f)) = f.quotes
 found_quotes (Some (found.Send h)) = []
 found_quotes (Some (found.Ack h i)) = []
 
--- An item answers a send challenge, by its fields and by what was found of it.
+-- The item answers the send challenge of message m, by its fields and by what was found of it.
 abbrev pub told_send : Message → Fields → Option Findings → Bool
 told_send m (form.Auth a) f = false
 told_send m (form.Segment s) f = (s.node == m.to) && told_receipt m s.entries (found_quotes f)
@@ -69,7 +70,7 @@ told_send m (form.Audit c) f = false
 told_send m (form.Send n) f = false
 told_send m (form.Ack a) f = is_same_sending a.message m
 
--- The same of any challenge.
+-- The item answers the challenge, of either form.
 abbrev pub told_answers : Fields → Checked → Bool
 told_answers (form.Auth a) c = false
 told_answers (form.Segment s) c = false
@@ -95,16 +96,16 @@ IsSegmentOf j (form.Audit c) = ⊥
 IsSegmentOf j (form.Send m) = ⊥
 IsSegmentOf j (form.Ack a) = ⊥
 
--- A segment of node j is kept.
+-- The list has the item, and it is a segment of node j.
 pub record IsKeptOf (j : ℕ) (kept : List Checked) (c : Checked) : Type 0 where
   pub contains : Contains kept c
   pub segment : IsSegmentOf j c.item.fields
 
--- No statement of node j that is held contradicts a segment of it that is kept.
+-- No statement of node j that is held contradicts a segment of j that is kept.
 abbrev pub IsUndenied : ℕ → List Authenticator → List Checked → Type 0
 IsUndenied j held kept = (c : Checked) → IsKeptOf j kept c → (a : Authenticator) → Contains held a → a.node ≡ j → denies a c.item.fields ≡ false
 
--- No verdict on a segment of node j that is kept is that it deviates.
+-- No segment of node j that is kept has the verdict that it deviates.
 abbrev pub DeviatesNowhere : ℕ → List Checked → Type 0
 DeviatesNowhere j kept = (c : Checked) → IsKeptOf j kept c → deviates c.verdict ≡ false
 
@@ -114,21 +115,21 @@ pub record IsUnexposed (j : ℕ) (held : List Authenticator) (kept : List Checke
   pub undenied : IsUndenied j held kept
   pub conforming : DeviatesNowhere j kept
 
--- Two statements of node j are held that are in conflict.
+-- The two statements are held, they are of node j, and they are in conflict.
 pub record AreTwo (j : ℕ) (held : List Authenticator) (a b : Authenticator) : Type 0 where
   pub one : Contains held a
   pub other : Contains held b
   pub of : a.node ≡ j
   pub conflict : Conflict a b
 
--- A statement of node j is held that contradicts a segment of it that is kept.
+-- The statement is held and is of node j. It contradicts the segment, which is kept and of j.
 pub record IsDenial (j : ℕ) (held : List Authenticator) (kept : List Checked) (a : Authenticator) (c : Checked) : Type 0 where
   pub statement : Contains held a
   pub of : a.node ≡ j
   pub segment : IsKeptOf j kept c
   pub contradicts : denies a c.item.fields ≡ true
 
--- A segment of node j is kept whose verdict is that it deviates.
+-- The segment is kept and is of node j, and its verdict is that it deviates.
 pub record IsDeviation (j : ℕ) (kept : List Checked) (c : Checked) : Type 0 where
   pub segment : IsKeptOf j kept c
   pub verdict : deviates c.verdict ≡ true
@@ -141,30 +142,33 @@ Shows j held kept (exposure.Deviates c) = IsDeviation j kept c.now
 
 -- ---- the statements of an item
 
--- The last of the hashes, or the one before them where there is none.
+-- The last of the hashes, or `prev` if there is none.
 abbrev pub last_or : List ℕ → List (List ℕ) → List ℕ
 last_or prev [] = prev
 last_or prev (h ∷ []) = h
 last_or prev (h ∷ i ∷ hs) = last_or prev (i ∷ hs)
 
--- The statement that the entry quotes, where its hash was found.
+-- The statement that a quote makes with this hash.
 abbrev pub quote_with : List ℕ → Option Quote → Option Authenticator
 quote_with hash None = None
 quote_with hash (Some q) = Some (says q.from q.seq hash q.sig)
 
+-- The statement that the entry quotes, if its hash was found.
 abbrev pub told_quote : Entry → Option (List ℕ) → Option Authenticator
 told_quote e None = None
 told_quote e (Some hash) = quote_with hash (receipt_of e.content)
 
+-- The statements that the entries quote, of which these hashes were found.
 abbrev pub told_quotes : List Entry → List (Option (List ℕ)) → List Authenticator
 told_quotes [] hashes = []
 told_quotes (e ∷ es) [] = []
 told_quotes (e ∷ es) (h ∷ hs) = cons_option (told_quote e h) (told_quotes es hs)
 
+-- The statements that a segment holds: its own, and those that its entries quote.
 abbrev pub told_segment : Segment → SegmentFindings → List Authenticator
 told_segment s f = says s.node (last_seq s.entries) (last_or s.prev f.hashes) s.sig ∷ told_quotes s.entries f.quotes
 
--- The statements of an item, made of its fields and of what was found of it.
+-- The statements that an item holds, made from its fields and from what was found of it.
 abbrev pub told_statements : Fields → Option Findings → List Authenticator
 told_statements (form.Auth a) f = a ∷ []
 told_statements (form.Segment s) (Some (found.Segment f)) = told_segment s f

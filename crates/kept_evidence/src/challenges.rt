@@ -1,4 +1,4 @@
-//! Challenges, and what answers them.
+//! Challenges and their answers.
 
 ghost use Rattle.std.specs.Prelude.{◌≡◌, false};
 ghost use Rattle.log_chain.specs.Chain.{hashes as hashes_of};
@@ -13,7 +13,7 @@ use log_chain::{base_hash, kind};
 use proofs::RangedSegment;
 use replay_verifier::Receipt;
 
-/// Whether the item is a challenge against the node.
+/// Returns whether the item is a challenge against the node.
 pub fn is_against(node: NodeId, item: &Item) -> bool
     ensures { result ≡ is_against node item.now.fields }
 {
@@ -24,7 +24,8 @@ pub fn is_against(node: NodeId, item: &Item) -> bool
     }
 }
 
-/// Whether the segment, whose entries have these hashes, has what the challenge names. It takes one pass over the numbers.
+/// Returns whether the segment has the entries that the challenge names. `hashes` are the hashes of its entries. If the numbers
+/// rise, it takes one pass over them.
 fn covers(challenge: &AuditChallenge, segment: &Segment, hashes: &[Hash]) -> bool
     requires { hashes.now ≡ hashes_of segment.now.prev segment.now.entries }
     ensures { result ≡ covers challenge.now.first challenge.now.last segment.now }
@@ -39,7 +40,7 @@ fn covers(challenge: &AuditChallenge, segment: &Segment, hashes: &[Hash]) -> boo
     }
 }
 
-/// Whether the item answers the audit challenge.
+/// Returns whether the item answers the audit challenge.
 pub fn answers_audit<P>(challenge: &AuditChallenge, checked: &Checked<P>) -> bool
     requires { HasHashes checked.now }
     ensures { result ≡ answers_audit challenge.now checked.now.item.fields }
@@ -53,7 +54,8 @@ pub fn answers_audit<P>(challenge: &AuditChallenge, checked: &Checked<P>) -> boo
     segment.node == challenge.node && covers(challenge, segment, hashes)
 }
 
-/// Whether the entry, of which this hash was found, is the receipt of a message with the sender and the number of this one.
+/// Returns whether the entry is a receipt of a message with the sender and the number of this one. `hash` is the hash that was
+/// found of the entry's quote, if it is genuine.
 fn is_receipt_of(message: &Message, entry: &Entry, hash: Option<Hash>) -> bool
     ensures { result ≡ is_told_receipt message.now entry.now hash }
 {
@@ -66,7 +68,7 @@ fn is_receipt_of(message: &Message, entry: &Entry, hash: Option<Hash>) -> bool
     receipt.from == message.from && receipt.seq == message.seq
 }
 
-/// Whether one of the entries, of which these hashes were found, is.
+/// Returns whether one of the entries is such a receipt. `hashes` are those that were found of the entries' quotes.
 fn have_receipt_of(message: &Message, entries: &[Entry], hashes: &[Option<Hash>]) -> bool
     ensures { result ≡ told_receipt message.now entries.now hashes.now }
 {
@@ -83,14 +85,14 @@ fn have_receipt_of(message: &Message, entries: &[Entry], hashes: &[Option<Hash>]
     false
 }
 
-/// Whether the message has the sender, the receiver and the number of the other.
+/// Returns whether the message has the sender, the receiver and the number of the other.
 fn is_same_sending(message: &Message, other: &Message) -> bool
     ensures { result ≡ is_same_sending message.now other.now }
 {
     message.from == other.from && message.to == other.to && message.seq == other.seq
 }
 
-/// Whether the item answers the challenge to acknowledge the message.
+/// Returns whether the item answers the send challenge of the message.
 pub fn answers_send<P>(message: &Message, checked: &Checked<P>) -> bool
     ensures { result ≡ told_send message.now checked.now.item.fields checked.now.findings }
 {

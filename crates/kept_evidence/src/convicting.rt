@@ -1,4 +1,4 @@
-//! Proofs of a fault, made of copies of statements and segments.
+//! Proofs against a node, made of copies of statements and segments.
 
 ghost use Rattle.std.specs.Prelude.{◌≡◌, ◌∷◌, ◌≤◌, [], IfOk, IsTrue, length};
 ghost use Rattle.authenticators.specs.declared.signature.TheConstants.{LONGEST_SIGNATURE_TEXT};
@@ -15,7 +15,7 @@ use outcome::Memory;
 use proofs::Proof;
 use std::alloc::Global;
 
-/// The item that is a statement whose signature is within its limit.
+/// Returns the item of a statement whose signature is within its limit.
 fn item_of(auth: Authenticator) -> Item
     requires { length auth.sig ≤ LONGEST_SIGNATURE_TEXT }
     ensures { result.fields ≡ form.Auth auth }
@@ -27,7 +27,7 @@ fn item_of(auth: Authenticator) -> Item
     Item::auth(auth).unwrap()
 }
 
-/// The item that is a copy of a signed statement: no signature that a key verifies is above the limit.
+/// Returns the item of a copy of a signed statement. No signature that a key verifies is above the limit.
 fn signed_item(
     alloc: Global,
     directory: &Directory,
@@ -41,7 +41,7 @@ fn signed_item(
     Ok(item_of(copy))
 }
 
-/// A proof of copies of two signed statements.
+/// Makes a proof from copies of two signed statements.
 pub fn proof_of_two(
     alloc: Global,
     directory: &Directory,
@@ -57,7 +57,7 @@ pub fn proof_of_two(
     Ok(Proof::two_auths(one, other).unwrap())
 }
 
-/// A proof of copies of a signed statement and a segment.
+/// Makes a proof from copies of a signed statement and of a segment.
 pub fn proof_of_denial(
     alloc: Global,
     directory: &Directory,
@@ -73,7 +73,7 @@ pub fn proof_of_denial(
     Ok(Proof::auth_segment(statement, segment).unwrap())
 }
 
-/// A proof of a copy of a segment.
+/// Makes a proof from a copy of a segment.
 pub fn proof_of_segment(alloc: Global, segment: &Item) -> Result<Proof, Memory>
     requires { IsTrue (is_segment segment.now.fields) }
     ensures { IfOk result (λ p. items_of p.parts ≡ segment.now.fields ∷ []) }

@@ -1,4 +1,4 @@
-//! What exposes a node, among statements and segments of it.
+//! What exposes a node, among its statements and segments.
 
 ghost use Rattle.std.specs.Prelude.{◌≡◌, MatchOption, option_copied, true, false};
 ghost use Rattle.std.specs.List.{list_any, Contains};
@@ -13,7 +13,7 @@ use evidence_item::{Checked, Form};
 use proofs::RangedSegment;
 use replay_verifier::Verdict;
 
-/// The first of the statements that contradicts the segment.
+/// Returns the first of the statements that contradicts the segment.
 fn denier<'a>(held: &'a [Authenticator], segment: &RangedSegment<'_>) -> Option<&'a Authenticator>
     ensures { MatchOption result (list_any (λ a. contradicts a.seq a.hash segment.now) held.now ≡ false) (λ a. Contains held.now a.now × (contradicts a.now.seq a.now.hash segment.now ≡ true)) }
 {
@@ -25,7 +25,7 @@ fn denier<'a>(held: &'a [Authenticator], segment: &RangedSegment<'_>) -> Option<
     None
 }
 
-/// The first of the statements that contradicts the item, where it is a segment.
+/// Returns the first of the statements that contradicts the item, if the item is a segment.
 fn denier_of<'a, P>(held: &'a [Authenticator], checked: &Checked<P>) -> Option<&'a Authenticator>
     requires { HasHashes checked.now }
     ensures { MatchOption result (is_denied held.now checked.now.item.fields ≡ false) (λ a. Contains held.now a.now × (denies a.now checked.now.item.fields ≡ true)) }
@@ -48,7 +48,8 @@ pub struct Denial<'a, P> {
     pub segment: &'a Checked<P>,
 }
 
-/// The first of the segments that one of the statements contradicts.
+/// Returns the first of the segments that one of the statements contradicts, with the first such statement. Returns `None` if
+/// there is no such segment.
 pub fn first_denial<'a, P>(
     held: &'a [Authenticator],
     segments: &'a [Checked<P>],
@@ -64,7 +65,7 @@ pub fn first_denial<'a, P>(
     None
 }
 
-/// Whether the verdict is that the entries deviate.
+/// Returns whether the verdict is that the entries deviate.
 fn deviates(verdict: Option<&Verdict>) -> bool
     ensures { result ≡ deviates (option_copied verdict.entry) }
 {
@@ -75,7 +76,7 @@ fn deviates(verdict: Option<&Verdict>) -> bool
     }
 }
 
-/// The first of the items whose verdict is that the entries deviate.
+/// Returns the first of the items whose verdict is that the entries deviate, or `None` if there is none.
 pub fn deviating<P>(segments: &[Checked<P>]) -> Option<&Checked<P>>
     ensures { MatchOption result (list_any (λ (c : TheChecked). deviates c.verdict) segments.now ≡ false) (λ c. Contains segments.now c.now × (deviates c.now.verdict ≡ true)) }
 {
@@ -87,10 +88,10 @@ pub fn deviating<P>(segments: &[Checked<P>]) -> Option<&Checked<P>>
     None
 }
 
-/// What exposes a node, lent from where it is kept.
+/// What exposes a node, borrowed from the store that keeps it.
 #[derive_where(Clone, Copy)]
 pub enum Exposure<'a, P> {
-    /// Two statements of one number and two hashes.
+    /// Two statements with the same number and two hashes.
     TwoHashes(&'a Authenticator, &'a Authenticator),
     /// A statement, and the segment that it contradicts.
     Denied(Denial<'a, P>),

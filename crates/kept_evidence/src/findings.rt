@@ -15,7 +15,7 @@ use outcome::Memory;
 use replay_verifier::Program;
 use std::alloc::Global;
 
-/// The hashes of a segment's entries, where they were found.
+/// Returns the hashes of a segment's entries, or `None` if they were not found.
 pub(crate) fn found_hashes<P>(checked: &Checked<P>) -> Option<&[Hash]>
     ensures { option_copied result ≡ found_hashes checked.now.findings }
 {
@@ -26,7 +26,8 @@ pub(crate) fn found_hashes<P>(checked: &Checked<P>) -> Option<&[Hash]>
     }
 }
 
-/// The hashes of the statements that a segment's entries quote genuinely; none where they were not found.
+/// Returns, for each entry of a segment, the hash of the statement that it quotes genuinely. The list is empty if these were
+/// not found.
 pub(crate) fn found_quotes<P>(checked: &Checked<P>) -> &[Option<Hash>]
     ensures { result.now ≡ found_quotes checked.now.findings }
 {
@@ -51,7 +52,7 @@ pub(crate) fn find<P: Program>(
     checked.find(alloc, directory)
 }
 
-/// Finds of each item what was not found yet.
+/// Finds, for each item, what was not found yet.
 fn find_all<P: Program>(
     alloc: Global,
     directory: &Directory,
@@ -67,7 +68,8 @@ fn find_all<P: Program>(
     Ok(())
 }
 
-/// Finds of each item of a list that ascends what was not found yet, so that a store can keep them.
+/// Finds, for each item of an ascending list, what checking did not find yet, so that a store can keep the items. If memory runs
+/// out, it reports `Memory`, and may have found it for some of the items only.
 pub fn find_each<P: Program>(
     alloc: Global,
     directory: &Directory,

@@ -1,15 +1,14 @@
-//! Checked items as stores of evidence keep them, and what is made of them (PeerReview, SOSP 2007: evidence and failure
-//! indications): what every store needs, in whatever tables it finds its items. Nothing here verifies a signature or hashes a
-//! content again that checking found.
+//! Checked items as stores of evidence keep them, and what a store makes of them (PeerReview, SOSP 2007: evidence and failure
+//! indications). This is what every store needs, in whatever tables it finds its items. If checking found a fact of an item,
+//! nothing here verifies a signature or hashes a content for it again.
 //!
-//! - [`write_statements`] writes the statements that stand in an item.
-//! - An [`Exposure`] is what exposes a node; [`first_denial`] and [`deviating`] look for one.
-//! - [`is_against`] tells challenges, [`answers_audit`] and [`answers_send`] what answers them.
+//! - [`write_statements`] writes the statements that an item holds.
+//! - An [`Exposure`] is what exposes a node. [`first_denial`] and [`deviating`] search for one.
+//! - [`is_against`] recognises challenges against a node. [`answers_audit`] and [`answers_send`] recognise their answers.
 //! - [`proof_of_two`], [`proof_of_denial`] and [`proof_of_segment`] make a proof of what exposes a node.
-//! - [`find_each`] finds of items what checking did not find yet.
+//! - [`find_each`] finds, for each item of a list, what checking did not find yet.
 //!
-//! `specs/Kept.antt` has the words for items in a list, `specs/Telling.antt` what a list tells of a node,
-//! as tests.
+//! `specs/Kept.antt` defines items in a list. `specs/Telling.antt` defines, as tests, what a list says of a node.
 #![tactic(auto)]
 
 pub use challenges::{answers_audit, answers_send, is_against};

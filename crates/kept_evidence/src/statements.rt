@@ -1,4 +1,4 @@
-//! The statements that stand in a checked item, made of its fields and of what checking found.
+//! The statements that a checked item holds, made from its fields and from what checking found.
 
 ghost use Rattle.std.specs.Prelude.{◌≡◌, ◌++◌, [], IfOk, OnOk};
 ghost use Rattle.evidence_item.specs.Statements.{says};
@@ -28,7 +28,7 @@ fn statement(
     })
 }
 
-/// The statement that the entry quotes, where it has this hash.
+/// Returns the statement that the entry quotes, if its hash was found.
 fn quote(alloc: Global, entry: &Entry, hash: Option<Hash>) -> Result<Option<Authenticator>, Memory>
     ensures { IfOk result (λ a. a ≡ told_quote entry.now hash) }
 {
@@ -47,7 +47,7 @@ fn quote(alloc: Global, entry: &Entry, hash: Option<Hash>) -> Result<Option<Auth
     }))
 }
 
-/// Writes the statements that the entries quote, which have these hashes.
+/// Writes the statements that the entries quote. `hashes` are those that were found of the quotes.
 fn write_quotes(
     alloc: Global,
     statements: &mut Vec<Authenticator>,
@@ -69,7 +69,7 @@ fn write_quotes(
     Ok(())
 }
 
-/// The last of the hashes, or the one before them where there is none.
+/// Returns the last of the hashes, or `prev` if there is none.
 fn last_or(prev: Hash, hashes: &[Hash]) -> Hash
     ensures { result ≡ last_or prev hashes.now }
 {
@@ -98,7 +98,8 @@ fn write_segment(
     )
 }
 
-/// Writes the statements of a checked item of which everything was found.
+/// Adds the statements that the item holds to the end of `statements`. It needs what checking finds of the item: without it, a
+/// segment, a send challenge or an acknowledgement adds none. If memory runs out, some of them may have been added.
 pub fn write_statements<P>(
     alloc: Global,
     statements: &mut Vec<Authenticator>,

@@ -10,7 +10,7 @@ use evidence_item::Message;
 use kept_entries::SharedEntry;
 use replay_verifier::Receipt;
 
-/// Whether the entry is the receipt of a message with the sender and the number of this one.
+/// Returns whether the entry is the receipt of a message with the sender and the number of this one.
 fn is_receipt_of(message: &Message, shared: &SharedEntry) -> bool
     ensures { result ≡ is_told_receipt message.now shared.now.entry shared.now.quoted }
 {
@@ -23,7 +23,7 @@ fn is_receipt_of(message: &Message, shared: &SharedEntry) -> bool
     receipt.from == message.from && receipt.seq == message.seq
 }
 
-/// Whether one of the entries is.
+/// Returns whether one of the entries is such a receipt.
 pub(crate) fn have_receipt_of(message: &Message, handles: &[Handle]) -> bool
     ensures { result ≡ told_receipt message.now (entries_of handles.now) (quotes_of handles.now) }
 {

@@ -76,7 +76,7 @@ fn copy_segment<P>(alloc: Global, segment: &KeptSegment) -> Result<Checked<P>, M
 }
 
 impl<P> KeptItem<P> {
-    /// A copy of the checked item.
+    /// Returns a copy of the checked item. The error `Memory` comes if a growth is refused.
     pub fn to_checked(&self, alloc: Global) -> Result<Checked<P>, Memory>
         ensures { IfOk result (λ c. c ≡ self.now) }
     {

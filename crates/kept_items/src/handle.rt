@@ -34,7 +34,7 @@ impl Handle {
     }
 }
 
-/// Handles of the entries behind the hash `prev`, which have these hashes and quote these: each is kept once.
+/// Returns handles of the entries that follow the hash `prev`, with these hashes and these quotes. Each entry is kept once.
 pub(crate) fn share_each(
     alloc: Global,
     pool: &mut EntryPool,
@@ -65,7 +65,7 @@ pub(crate) fn share_each(
     Ok(handles)
 }
 
-/// Handles of the same entries, as the pool keeps them.
+/// Returns handles of the same entries, as the pool keeps them.
 pub(crate) fn share_again(
     alloc: Global,
     pool: &mut EntryPool,

@@ -27,7 +27,7 @@ fn feed_u64(hasher: &mut Sha256, value: u64)
     hasher.update(value.to_be_bytes());
 }
 
-/// A statement, as its spelling has it.
+/// Feeds a statement, in its encoding.
 fn feed_auth(hasher: &mut Sha256, auth: &Authenticator)
     requires { FitsAuth auth.now }
     ensures { Feeds hasher.old hasher.new (auth_spelling auth.now) }
@@ -38,7 +38,7 @@ fn feed_auth(hasher: &mut Sha256, auth: &Authenticator)
     feed_bytes(hasher, auth.sig.as_slice());
 }
 
-/// An entry, as a segment's spelling has it.
+/// Feeds an entry, in the encoding that a segment has of it.
 fn feed_shared(hasher: &mut Sha256, shared: &SharedEntry)
     requires { FitsShared shared.now }
     ensures { Feeds hasher.old hasher.new (shared_spelling shared.now) }
@@ -57,7 +57,7 @@ fn feed_each(hasher: &mut Sha256, handles: &[Handle])
     }
 }
 
-/// The entries behind their count.
+/// Feeds the count of the entries, and then the entries.
 fn feed_entries(hasher: &mut Sha256, handles: &[Handle])
     requires { IsListUpTo MOST_ENTRIES FitsEntry (entries_of handles.now) }
     ensures { Feeds hasher.old hasher.new (counted_text entry_spelling (entries_of handles.now)) }
@@ -76,7 +76,7 @@ fn feed_segment(hasher: &mut Sha256, parts: &Parts<'_>)
     feed_bytes(hasher, parts.sig.as_slice());
 }
 
-/// The SHA-256 value of its spelling.
+/// Returns the SHA-256 value of the statement's encoding.
 pub(crate) fn digest_of_statement(statement: &KeptStatement) -> Hash
     ensures { result ≡ digest_of statement.now.item }
 {
@@ -86,7 +86,7 @@ pub(crate) fn digest_of_statement(statement: &KeptStatement) -> Hash
     Hash(hasher.finalize())
 }
 
-/// The SHA-256 value of its spelling.
+/// Returns the SHA-256 value of the segment's encoding.
 pub(crate) fn digest_of_segment(segment: &KeptSegment) -> Hash
     ensures { result ≡ digest_of segment.now.item }
 {

@@ -31,10 +31,10 @@ use replay_verifier::Verdict;
 use std::alloc::Global;
 use std::marker::Model;
 
-/// How an item is kept. Statements, of which there are most, stand in place; what is wider has a box.
+/// How an item is kept. Statements, of which there are most, stand in place. What is wider has a box.
 #[derive(Drop)]
 pub(crate) enum Body<P> {
-    /// A statement that has no verdict and of which nothing was found, by its fields.
+    /// A statement that has no verdict and no findings, by its fields.
     Statement(KeptStatement),
     /// Any other item that is no segment, as it is.
     Single(Box<Checked<P>>),
@@ -44,7 +44,7 @@ pub(crate) enum Body<P> {
 
 /// A checked item as it is kept. A contract sees the checked item.
 ///
-/// It is 80 bytes wide. A statement has the bytes of its signature beside it, any other item what it is made of.
+/// It is 80 bytes wide. Beside it a statement has the bytes of its signature. Any other item has a box with what it is made of.
 #[derive(Drop)]
 pub struct KeptItem<P> {
     pub(crate) body: Body<P>,
@@ -67,7 +67,7 @@ impl<P> Model for KeptItem<P> {
     ghost invariant = { λ k. IsApart k.body };
 }
 
-/// A copy of what is kept, whose entries the pool shares.
+/// Returns a copy of what is kept. The pool shares its entries.
 fn shared_body<P>(alloc: Global, pool: &mut EntryPool, body: &Body<P>) -> Result<Body<P>, Memory>
     requires { IsApart body.now }
     ensures same { IfOk result (λ b. checked_in b ≡ checked_in body.now) }
@@ -92,7 +92,7 @@ fn shared_body<P>(alloc: Global, pool: &mut EntryPool, body: &Body<P>) -> Result
 }
 
 impl<P> KeptItem<P> {
-    /// What is no segment. Where there is no memory for a box, the item is given back.
+    /// Keeps an item that is no segment. If there is no memory for a box, it gives the item back.
     pub(crate) fn single(alloc: Global, checked: Checked<P>) -> Result<KeptItem<P>, KeepRefused<P>>
         requires { is_segment checked.item.fields ≡ false }
         ensures kept { IfOk result (λ k. k ≡ checked) }
@@ -112,7 +112,7 @@ impl<P> KeptItem<P> {
         }
     }
 
-    /// A segment.
+    /// Keeps a segment.
     pub(crate) fn segment(segment: Box<KeptSegment>) -> KeptItem<P>
         requires { is_segment segment.value.item.fields ≡ true }
         ensures { result ≡ segment.value }
@@ -122,7 +122,7 @@ impl<P> KeptItem<P> {
         }
     }
 
-    /// What is no segment, as it was.
+    /// Returns an item that is no segment, as it was.
     pub(crate) fn into_single(self) -> Checked<P>
         requires { is_segment self.item.fields ≡ false }
         ensures { result ≡ self }
@@ -134,7 +134,7 @@ impl<P> KeptItem<P> {
         }
     }
 
-    /// The form of the item, where it is no segment, with its fields lent.
+    /// Returns the form of the item, with its fields lent. Returns `None` if the item is a segment.
     pub fn form(&self) -> Option<Form<'_>>
         ensures none { IfNone result (is_segment self.now.item.fields ≡ true) }
         ensures some { IfSome result (λ f. (shown_form f ≡ self.now.item.fields) × (is_segment self.now.item.fields ≡ false)) }
@@ -146,7 +146,7 @@ impl<P> KeptItem<P> {
         }
     }
 
-    /// The item, where it is a challenge.
+    /// Returns the item if it is a challenge, and `None` if it is not.
     pub fn as_challenge(&self) -> Option<&Item>
         ensures none { IfNone result (is_challenge self.now.item.fields ≡ false) }
         ensures some { IfSome result (λ i. (i.now ≡ self.now.item) × (is_challenge self.now.item.fields ≡ true)) }
@@ -158,7 +158,7 @@ impl<P> KeptItem<P> {
         }
     }
 
-    /// The SHA-256 value of the item's spelling. Each field is hashed where it lies; it takes no memory.
+    /// Returns the SHA-256 value of the item's encoding. Each field is hashed where it lies, and no memory is taken.
     pub fn digest(&self) -> Hash
         ensures { result ≡ digest_of self.now.item }
     {
@@ -169,7 +169,7 @@ impl<P> KeptItem<P> {
         }
     }
 
-    /// What replay told, where the item is a segment.
+    /// Returns the verdict of replay, if the item has one. Checking gives one to each segment, and to no other item.
     pub fn verdict(&self) -> Option<&Verdict>
         ensures { option_copied result ≡ self.now.verdict }
     {
@@ -180,7 +180,8 @@ impl<P> KeptItem<P> {
         }
     }
 
-    /// How many positions the item has.
+    /// Returns how many positions the item has: 2 for an audit challenge and for an acknowledgement, 1 for a statement and for a send
+    /// challenge, and one more than its entries for a segment.
     pub fn positions(&self) -> u32
         ensures { result ≡ positions self.now.item.fields }
     {
@@ -191,7 +192,14 @@ impl<P> KeptItem<P> {
         }
     }
 
-    /// The statement at a position, if one stands there, with its signature lent from where it lies.
+    /// Returns the statement at a position, if one stands there. Its signature is lent from where it lies.
+    ///
+    /// - In a segment the signed end stands at 0, and what entry `k` quotes, counted from 0, at `k + 1`.
+    /// - In an audit challenge the last statement that it names stands at 0, and the first one, if it names one, at 1.
+    /// - In an acknowledgement the sender's statement stands at 0, and the receiver's at 1.
+    /// - Of a statement and of a send challenge the only statement stands at 0.
+    ///
+    /// Without its findings a send challenge or an acknowledgement has no statement.
     pub fn statement(&self, position: u32) -> Option<Said<'_>>
         ensures { option_map shown result ≡ stated self.now position }
     {
@@ -202,8 +210,8 @@ impl<P> KeptItem<P> {
         }
     }
 
-    /// The node that the item tells of beside its statements: that of a segment, and that which a challenge is against or which
-    /// answers it by an acknowledgement.
+    /// Returns the node that the item is about beside its statements. This is the node of a segment, the node that a challenge is against,
+    /// or the node that sent an acknowledgement. Returns `None` for a statement.
     pub fn subject(&self) -> Option<NodeId>
         ensures { result ≡ subject self.now.item.fields }
     {
@@ -214,7 +222,7 @@ impl<P> KeptItem<P> {
         }
     }
 
-    /// Of a segment where it begins and ends.
+    /// Returns where a segment begins and ends. Returns `None` if the item is no segment.
     pub fn reach(&self) -> Option<Reach>
         ensures { result ≡ reach self.now.item.fields }
     {
@@ -225,7 +233,8 @@ impl<P> KeptItem<P> {
         }
     }
 
-    /// The entry at a position of a segment, as the chain of its log has it. Nothing is hashed.
+    /// Returns the entry at a position of a segment, counted from 0, as the chain of its log has it. Returns `None` behind the last entry,
+    /// and if the item is no segment. Nothing is hashed.
     pub fn link(&self, position: u32) -> Option<Link>
         ensures { result ≡ link_in self.now.item.fields position }
     {
@@ -236,7 +245,8 @@ impl<P> KeptItem<P> {
         }
     }
 
-    /// Whether the statement contradicts the item, which is a segment. It takes no pass over the segment.
+    /// Returns whether the item is a segment that the statement contradicts. It looks at the statement's number and hash alone, and not at
+    /// its node. It takes no pass over the segment.
     pub fn is_denied(&self, said: &Said<'_>) -> bool
         ensures { result ≡ denies (shown said.now) self.now.item.fields }
     {
@@ -247,7 +257,7 @@ impl<P> KeptItem<P> {
         }
     }
 
-    /// Whether the item answers the audit challenge.
+    /// Returns whether the item answers the audit challenge.
     fn answers_audit(&self, challenge: &AuditChallenge) -> bool
         ensures { result ≡ answers_audit challenge.now self.now.item.fields }
     {
@@ -258,7 +268,7 @@ impl<P> KeptItem<P> {
         }
     }
 
-    /// Whether the item answers the challenge to acknowledge the message.
+    /// Returns whether the item answers the challenge to acknowledge the message.
     fn answers_send(&self, message: &Message) -> bool
         ensures { result ≡ told_send message.now self.now.item.fields self.now.findings }
     {
@@ -269,7 +279,8 @@ impl<P> KeptItem<P> {
         }
     }
 
-    /// Whether the item answers the challenge.
+    /// Returns whether the item answers `challenge`. Returns `false` if `challenge` is no challenge. It verifies no signature and hashes
+    /// nothing.
     pub fn answers(&self, challenge: &KeptItem<P>) -> bool
         ensures { result ≡ told_answers challenge.now.item.fields self.now }
     {
@@ -283,7 +294,7 @@ impl<P> KeptItem<P> {
         }
     }
 
-    /// Whether the item is a challenge against the node.
+    /// Returns whether the item is a challenge against the node.
     pub fn is_against(&self, node: NodeId) -> bool
         ensures { result ≡ is_against node self.now.item.fields }
     {
@@ -294,7 +305,7 @@ impl<P> KeptItem<P> {
         }
     }
 
-    /// A copy for another store, whose pool shares its entries.
+    /// Returns a copy for another store, whose pool shares its entries. The error `Memory` comes if a growth is refused.
     pub fn share(&self, alloc: Global, pool: &mut EntryPool) -> Result<KeptItem<P>, Memory>
         ensures { IfOk result (λ k. k ≡ self.now) }
     {

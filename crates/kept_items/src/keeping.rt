@@ -1,4 +1,4 @@
-//! Keeping a checked item.
+//! How a checked item comes to be kept.
 
 ghost use Rattle.std.specs.Prelude.{◌≡◌, IfErr, IfNone, IfOk, IfSome, false, true};
 ghost use Rattle.evidence_item.specs.Checking.{is_segment};
@@ -14,7 +14,7 @@ use outcome::Memory;
 use std::alloc::Global;
 use std::marker::Model;
 
-/// Memory ran out; the item is given back as it was.
+/// The error that memory ran out. It gives the item back as it was.
 #[derive(Drop)]
 pub struct KeepRefused<P>(pub Checked<P>);
 
@@ -41,21 +41,21 @@ impl<P> Model for Keeping<P> {
 }
 
 impl<P> Keeping<P> {
-    /// The item as it will be kept.
+    /// Returns the item as it will be kept.
     pub fn item(&self) -> &KeptItem<P>
         ensures { result.now ≡ self.now }
     {
         &self.item
     }
 
-    /// The item as it is kept from now on.
+    /// Returns the item as it is kept from now on.
     pub fn commit(self) -> KeptItem<P>
         ensures { result ≡ self }
     {
         self.item
     }
 
-    /// The item as it was before. It takes no memory.
+    /// Returns the item as it was before. It takes no memory.
     pub fn give_back(self) -> Checked<P>
         ensures { result ≡ self }
     {
@@ -67,7 +67,7 @@ impl<P> Keeping<P> {
     }
 }
 
-/// The segment with its entries shared; none where the item is no segment.
+/// Returns the segment with its entries shared, or `None` if the item is no segment.
 fn shared_segment<P>(
     alloc: Global,
     pool: &mut EntryPool,
@@ -106,7 +106,7 @@ fn shared_segment<P>(
     Ok(Some(kept))
 }
 
-/// What is no segment, in a box where it has one.
+/// Keeps an item that is no segment, in a box if it has one.
 fn keep_single<P>(alloc: Global, checked: Checked<P>) -> Result<Keeping<P>, KeepRefused<P>>
     requires { is_segment checked.item.fields ≡ false }
     ensures kept { IfOk result (λ k. k ≡ checked) }
@@ -117,8 +117,8 @@ fn keep_single<P>(alloc: Global, checked: Checked<P>) -> Result<Keeping<P>, Keep
 }
 
 impl<P> KeptItem<P> {
-    /// Makes what is kept of the item: of a segment handles of its entries, each kept once, of anything else the item itself. Where
-    /// memory runs out the item is given back.
+    /// Makes what is kept of the item. Of a segment these are handles of its entries, each kept once, and of any other item the item
+    /// itself. The error [`KeepRefused`] comes if a growth is refused, and gives the item back. The pool may then keep some of the entries.
     pub fn keep(
         alloc: Global,
         pool: &mut EntryPool,

@@ -1,14 +1,15 @@
-//! What follows of the definitions. Each function does nothing, and is called to tell the prover what its contract says.
+//! What follows from the definitions. Each function does nothing. A call of it makes its contract known to the prover.
 
 ghost use Rattle.kept_items.specs.Keeping.{CheckedItemsCanBeKept, DenialsAreWithinReach, FoundItemsCanBeKept};
 ghost use Rattle.kept_items.specs.Links.{AnswersAreInherited};
 
-/// An item of which everything was found can be kept.
+/// An item can be kept if its findings are those that checking finds under some directory.
 pub fn found_items_can_be_kept()
     ensures { FoundItemsCanBeKept }
 {}
 
-/// So can an item whose findings are its own, where there are findings of what has any.
+/// An item can be kept if its findings, if it has any, are its own under some directory, and if none are missing. Findings belong to a
+/// segment, a send challenge and an acknowledgement.
 pub fn checked_items_can_be_kept()
     ensures { CheckedItemsCanBeKept }
 {}
@@ -18,8 +19,8 @@ pub fn denials_are_within_reach()
     ensures { DenialsAreWithinReach }
 {}
 
-/// A segment that has the entry that tells it, and before it as much as the challenge asks for, answers an audit challenge as this one
-/// does.
+/// Suppose that a segment answers an audit challenge, and another segment of the same node agrees with it. Then the other one answers the
+/// challenge too, if it has the later of the entries that the challenge names, with as much before it as the challenge asks for.
 pub fn answers_are_inherited()
     ensures { AnswersAreInherited }
 {}

@@ -1,13 +1,13 @@
-//! Items as a store keeps them that has many of one log: of segments that overlap each entry is kept once.
+//! Items as a store keeps them that has many items of one log. If segments overlap, each entry is kept once.
 //!
-//! - A [`KeptItem`] is a checked item, which [`KeptItem::keep`] makes by way of a [`Keeping`]. A contract sees the checked item,
-//!   however it is kept.
-//! - [`Said`] lends a statement from where it lies; [`KeptItem::statement`] tells which stands at a position.
-//! - [`Reach`] tells which statements can contradict a segment, and [`Link`] what the chain of its log has of an entry.
+//! - A [`KeptItem`] is a checked item. [`KeptItem::keep`] makes it by way of a [`Keeping`]. A contract sees the checked item, however it is
+//!   kept.
+//! - [`Said`] lends a statement from where it lies. [`KeptItem::statement`] returns the statement at a position.
+//! - [`Reach`] says which statements can contradict a segment. [`Link`] has what the chain of a segment's log has of an entry.
 //!
-//! `specs/Positions.antt` has the statements by their positions, `specs/Keeping.antt` what can be kept and of whom an item tells,
-//! `specs/Links.antt` the entries of segments.
-//! [`laws`] has what follows; `specs/within` has the words of private code.
+//! `specs/Positions.antt` defines the statements by their positions. `specs/Keeping.antt` defines what can be kept, and which node an item
+//! is about. `specs/Links.antt` defines the entries of segments. [`laws`] has what follows from these. `specs/within` has the definitions
+//! of private code.
 #![tactic(auto)]
 
 pub use item::KeptItem;

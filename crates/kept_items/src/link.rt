@@ -12,15 +12,15 @@ use log_chain::Hash;
 /// An entry of a segment, as the chain of its log has it.
 #[derive(Clone, Copy, Debug)]
 pub struct Link {
-    /// The hash before it.
+    /// The hash before the entry.
     pub prev: Hash,
-    /// Its number.
+    /// The entry's number.
     pub seq: u64,
-    /// Its own hash.
+    /// The entry's own hash.
     pub hash: Hash,
 }
 
-/// The hash before the entry at a place.
+/// Returns the hash before the entry at a place.
 fn hash_before(prev: Hash, handles: &[Handle], place: usize) -> Hash
     requires { place ≤ length handles.now }
     ensures { result ≡ before prev handles.now place }
@@ -31,7 +31,7 @@ fn hash_before(prev: Hash, handles: &[Handle], place: usize) -> Hash
     handles[place - 1].get().hash()
 }
 
-/// The entry at a place, behind the hash `prev`.
+/// Returns the entry at a place. The entries follow the hash `prev`.
 pub(crate) fn link_at(prev: Hash, handles: &[Handle], place: usize) -> Option<Link>
     requires { hashes_of handles.now ≡ hashes prev (entries_of handles.now) }
     ensures { result ≡ slice_get (links prev (entries_of handles.now)) place }

@@ -14,7 +14,8 @@ use evidence_item::AuditChallenge;
 use log_chain::laws::rises_by_pairs;
 use log_chain::{Hash, base_hash};
 
-/// Whether one of the entries behind the hash `prev` has the number and the hash, where the numbers rise: it is looked up by binary search.
+/// Returns whether one of the entries that follow the hash `prev` has the number and the hash. The numbers rise, so a binary search finds
+/// it.
 pub(crate) fn finds_pair(prev: Hash, handles: &[Handle], seq: u64, hash: Hash) -> bool
     requires rising { Rising (entries_of handles.now) }
     requires hashed { hashes_of handles.now ≡ hashes prev (entries_of handles.now) }
@@ -27,7 +28,8 @@ pub(crate) fn finds_pair(prev: Hash, handles: &[Handle], seq: u64, hash: Hash) -
     }
 }
 
-/// The same of any entries behind the hash `prev`: it is looked up by its number if the numbers rise, and else among the pairs.
+/// Returns the same for any entries that follow the hash `prev`. It looks the number up if the numbers rise, and else the pair among the
+/// pairs.
 fn has_pair(
     prev: Hash,
     handles: &[Handle],
@@ -46,7 +48,7 @@ fn has_pair(
     }
 }
 
-/// Whether the entries behind the hash `prev` have what the challenge names.
+/// Returns whether the entries that follow the hash `prev` have what the challenge names.
 pub(crate) fn cover(
     challenge: &AuditChallenge,
     prev: Hash,

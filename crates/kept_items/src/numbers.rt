@@ -10,7 +10,7 @@ ghost use Rattle.kept_items.specs.within.Shared.{rises_from};
 
 use crate::handle::Handle;
 
-/// The number of the first entry; 0 where there is none.
+/// Returns the number of the first entry, or 0 if there is none.
 pub(crate) fn first_seq(handles: &[Handle]) -> u64
     ensures { result ≡ first_seq (entries_of handles.now) }
 {
@@ -20,7 +20,7 @@ pub(crate) fn first_seq(handles: &[Handle]) -> u64
     }
 }
 
-/// The number of the last entry; 0 where there is none.
+/// Returns the number of the last entry, or 0 if there is none.
 pub(crate) fn last_seq(handles: &[Handle]) -> u64
     ensures { result ≡ last_seq (entries_of handles.now) }
 {
@@ -30,7 +30,7 @@ pub(crate) fn last_seq(handles: &[Handle]) -> u64
     }
 }
 
-/// Whether the numbers rise from this one on.
+/// Returns whether the numbers rise from this one on.
 fn rise_from(first: u64, handles: &[Handle]) -> bool
     ensures { result ≡ rises_from first (entries_of handles.now) }
 {
@@ -44,7 +44,7 @@ fn rise_from(first: u64, handles: &[Handle]) -> bool
     true
 }
 
-/// Whether each number is above the one before it. It takes one pass.
+/// Returns whether each number is above the one before it. It takes one pass.
 pub(crate) fn are_rising(handles: &[Handle]) -> bool
     ensures { result ≡ is_rising (entries_of handles.now) }
 {
@@ -54,7 +54,7 @@ pub(crate) fn are_rising(handles: &[Handle]) -> bool
     }
 }
 
-/// The place of the entry with the number, if there is one, where the numbers rise. It is looked up by binary search.
+/// Returns the place of the entry with the number, if there is one. The numbers rise, so a binary search finds it.
 pub(crate) fn place_of(handles: &[Handle], seq: u64) -> Option<usize>
     requires { Rising (entries_of handles.now) }
     ensures has { is_some result ≡ has_seq seq (entries_of handles.now) }

@@ -1,4 +1,4 @@
-//! Where kept items stand in the order of items. No spelling is made, and no memory is taken.
+//! Where kept items stand in the order of items. No encoding is made, and no memory is taken.
 
 ghost use Rattle.std.specs.Prelude.{◌≡◌, false};
 ghost use Rattle.std.specs.Cmp.Lexicographic.{slice_cmp};
@@ -28,14 +28,14 @@ fn compare_hashes(a: Hash, b: Hash) -> Ordering
     a.0.as_slice().cmp(b.0.as_slice())
 }
 
-/// Bytes behind their length: the shorter come first.
+/// Compares bytes that follow their length: the shorter come first.
 fn compare_contents(a: &[u8], b: &[u8]) -> Ordering
     ensures { result ≡ text_order a.now b.now }
 {
     a.len().cmp(&b.len()).then_with(|| a.cmp(b))
 }
 
-/// By number, kind and content.
+/// Compares by number, kind and content.
 fn compare_to_entry(a: &SharedEntry, b: &Entry) -> Ordering
     ensures { result ≡ entry_order a.now.entry b.now }
 {
@@ -45,7 +45,7 @@ fn compare_to_entry(a: &SharedEntry, b: &Entry) -> Ordering
         .then_with(|| compare_contents(a.content(), b.content.as_slice()))
 }
 
-/// The same of two shared entries.
+/// Compares two shared entries in the same way.
 fn compare_shared(a: &SharedEntry, b: &SharedEntry) -> Ordering
     ensures { result ≡ entry_order a.now.entry b.now.entry }
 {
@@ -97,14 +97,14 @@ fn compare_each_shared(a: &[Handle], b: &[Handle]) -> Ordering
     }
 }
 
-/// Entries behind their count: the fewer come first.
+/// Compares entries that follow their count: the fewer come first.
 fn compare_lists(a: &[Handle], b: &[Entry]) -> Ordering
     ensures { result ≡ counted_order entry_order (entries_of a.now) b.now }
 {
     a.len().cmp(&b.len()).then_with(|| compare_each(a, b))
 }
 
-/// The same of two lists of shared entries.
+/// Compares two lists of shared entries in the same way.
 fn compare_shared_lists(a: &[Handle], b: &[Handle]) -> Ordering
     ensures { result ≡ counted_order entry_order (entries_of a.now) (entries_of b.now) }
 {
@@ -113,14 +113,14 @@ fn compare_shared_lists(a: &[Handle], b: &[Handle]) -> Ordering
         .then_with(|| compare_each_shared(a, b))
 }
 
-/// By entries, and then by signature.
+/// Compares by entries, and then by signature.
 fn compare_ends(a: &Parts<'_>, b: &Segment) -> Ordering
     ensures { result ≡ ordering_then (counted_order entry_order (entries_of a.now.handles.now) b.now.entries) (text_order a.now.sig.now b.now.sig) }
 {
     compare_lists(a.handles, b.entries.as_slice()).then_with(|| compare_texts(a.sig, &b.sig))
 }
 
-/// By the hash before the first entry, and then by the rest.
+/// Compares by the hash before the first entry, and then by the rest.
 fn compare_within(a: &Parts<'_>, b: &Segment) -> Ordering
     ensures { result ≡ ordering_then (block_order a.now.prev b.now.prev) (ordering_then (counted_order entry_order (entries_of a.now.handles.now) b.now.entries) (text_order a.now.sig.now b.now.sig)) }
 {
@@ -131,7 +131,7 @@ fn compare_within(a: &Parts<'_>, b: &Segment) -> Ordering
     }
 }
 
-/// A segment of shared entries and another one.
+/// Compares a segment of shared entries with another one.
 fn compare_parts(a: &Parts<'_>, b: &Segment) -> Ordering
     ensures { result ≡ segment_order (whole a.now) b.now }
 {
@@ -142,14 +142,14 @@ fn compare_parts(a: &Parts<'_>, b: &Segment) -> Ordering
     }
 }
 
-/// Two segments of shared entries by these, and then by signature.
+/// Compares two segments of shared entries by these, and then by signature.
 fn compare_shared_ends(a: &Parts<'_>, b: &Parts<'_>) -> Ordering
     ensures { result ≡ ordering_then (counted_order entry_order (entries_of a.now.handles.now) (entries_of b.now.handles.now)) (text_order a.now.sig.now b.now.sig.now) }
 {
     compare_shared_lists(a.handles, b.handles).then_with(|| compare_texts(a.sig, b.sig))
 }
 
-/// By the hash before the first entry, and then by the rest.
+/// Compares by the hash before the first entry, and then by the rest.
 fn compare_shared_within(a: &Parts<'_>, b: &Parts<'_>) -> Ordering
     ensures { result ≡ ordering_then (block_order a.now.prev b.now.prev) (ordering_then (counted_order entry_order (entries_of a.now.handles.now) (entries_of b.now.handles.now)) (text_order a.now.sig.now b.now.sig.now)) }
 {
@@ -160,7 +160,7 @@ fn compare_shared_within(a: &Parts<'_>, b: &Parts<'_>) -> Ordering
     }
 }
 
-/// Two segments of shared entries.
+/// Compares two segments of shared entries.
 fn compare_shared_parts(a: &Parts<'_>, b: &Parts<'_>) -> Ordering
     ensures { result ≡ segment_order (whole a.now) (whole b.now) }
 {
@@ -171,7 +171,7 @@ fn compare_shared_parts(a: &Parts<'_>, b: &Parts<'_>) -> Ordering
     }
 }
 
-/// A segment of shared entries and any item.
+/// Compares a segment of shared entries with any item.
 fn compare_to_item(segment: &KeptSegment, item: &Item) -> Ordering
     ensures { result ≡ by_bytes segment.now.item item.now }
 {
@@ -186,7 +186,7 @@ fn compare_to_item(segment: &KeptSegment, item: &Item) -> Ordering
     }
 }
 
-/// Two segments of shared entries, as items.
+/// Compares two segments of shared entries, as items.
 fn compare_segments(a: &KeptSegment, b: &KeptSegment) -> Ordering
     ensures { result ≡ by_bytes a.now.item b.now.item }
 {
@@ -194,7 +194,7 @@ fn compare_segments(a: &KeptSegment, b: &KeptSegment) -> Ordering
     compare_shared_parts(&a.parts(), &b.parts())
 }
 
-/// An item that is no segment and a segment of shared entries.
+/// Compares an item that is no segment with a segment of shared entries.
 fn compare_to_segment(item: &Item, segment: &KeptSegment) -> Ordering
     requires { is_segment item.now.fields ≡ false }
     ensures { result ≡ by_bytes item.now segment.now.item }
@@ -210,7 +210,7 @@ fn compare_to_segment(item: &Item, segment: &KeptSegment) -> Ordering
     }
 }
 
-/// By node, number, hash and signature.
+/// Compares by node, number, hash and signature.
 fn compare_fields(a: &Authenticator, b: &Authenticator) -> Ordering
     ensures { result ≡ statement_order a.now b.now }
 {
@@ -222,7 +222,7 @@ fn compare_fields(a: &Authenticator, b: &Authenticator) -> Ordering
         .then_with(|| compare_texts(&a.sig, &b.sig))
 }
 
-/// A statement and any item.
+/// Compares a statement with any item.
 fn compare_statement_to_item(statement: &KeptStatement, item: &Item) -> Ordering
     ensures { result ≡ by_bytes statement.now.item item.now }
 {
@@ -237,7 +237,7 @@ fn compare_statement_to_item(statement: &KeptStatement, item: &Item) -> Ordering
     }
 }
 
-/// Any item and a statement.
+/// Compares any item with a statement.
 fn compare_to_statement(item: &Item, statement: &KeptStatement) -> Ordering
     ensures { result ≡ by_bytes item.now statement.now.item }
 {
@@ -252,14 +252,14 @@ fn compare_to_statement(item: &Item, statement: &KeptStatement) -> Ordering
     }
 }
 
-/// Two statements, as items.
+/// Compares two statements, as items.
 fn compare_statements(a: &KeptStatement, b: &KeptStatement) -> Ordering
     ensures { result ≡ by_bytes a.now.item b.now.item }
 {
     compare_fields(a.auth(), b.auth())
 }
 
-/// A statement and a segment of shared entries.
+/// Compares a statement with a segment of shared entries.
 fn compare_statement_to_segment(statement: &KeptStatement, segment: &KeptSegment) -> Ordering
     ensures { result ≡ by_bytes statement.now.item segment.now.item }
 {
@@ -269,7 +269,7 @@ fn compare_statement_to_segment(statement: &KeptStatement, segment: &KeptSegment
     Ordering::Less
 }
 
-/// A segment of shared entries and a statement.
+/// Compares a segment of shared entries with a statement.
 fn compare_segment_to_statement(segment: &KeptSegment, statement: &KeptStatement) -> Ordering
     ensures { result ≡ by_bytes segment.now.item statement.now.item }
 {
@@ -279,7 +279,7 @@ fn compare_segment_to_statement(segment: &KeptSegment, statement: &KeptStatement
     Ordering::Greater
 }
 
-/// A segment of shared entries and a group.
+/// Compares a segment of shared entries with a group.
 fn compare_to_group(segment: &KeptSegment, group: &Group<'_>) -> Ordering
     ensures { result ≡ group_cmp (shown_group group.now) segment.now.item.fields }
 {
@@ -293,7 +293,8 @@ fn compare_to_group(segment: &KeptSegment, group: &Group<'_>) -> Ordering
 }
 
 impl<P> KeptItem<P> {
-    /// Where the item stands beside another one in the order of items.
+    /// Returns whether the item stands before `item` (`Less`), is equal to it (`Equal`) or stands behind it (`Greater`) in the order of
+    /// items.
     pub fn compare(&self, item: &Item) -> Ordering
         ensures { result ≡ by_bytes self.now.item item.now }
     {
@@ -304,7 +305,7 @@ impl<P> KeptItem<P> {
         }
     }
 
-    /// Where the item stands beside another one that is kept.
+    /// Returns the same as [`KeptItem::compare`], for another item that is kept.
     pub fn compare_kept(&self, other: &KeptItem<P>) -> Ordering
         ensures { result ≡ by_bytes self.now.item other.now.item }
     {
@@ -319,7 +320,7 @@ impl<P> KeptItem<P> {
         }
     }
 
-    /// Whether the item stands before the group (`Less`), in it (`Equal`) or behind it (`Greater`).
+    /// Returns whether the item stands before the group (`Less`), in it (`Equal`) or behind it (`Greater`).
     pub fn compare_group(&self, group: &Group<'_>) -> Ordering
         ensures { result ≡ group_cmp (shown_group group.now) self.now.item.fields }
     {

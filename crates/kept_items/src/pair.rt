@@ -1,4 +1,4 @@
-//! Numbers and hashes of entries, in order: so that a pair is looked up where the numbers do not rise.
+//! Numbers and hashes of entries, in order. A pair is looked up in them if the numbers do not rise.
 
 ghost use Rattle.std.specs.Prelude.{◌≡◌, ◌↔◌, IfOk, false, map};
 ghost use Rattle.std.specs.List.{Contains, list_any};
@@ -21,7 +21,7 @@ pub(crate) struct Pair {
     pub(crate) hash: Hash,
 }
 
-/// The pair of each entry, in the entries' order.
+/// Returns the pair of each entry, in the entries' order.
 fn listed(alloc: Global, handles: &[Handle]) -> Result<Vec<Pair>, Memory>
     ensures { IfOk result (λ pairs. pairs.items ≡ map pair_of handles.now) }
 {
@@ -35,7 +35,7 @@ fn listed(alloc: Global, handles: &[Handle]) -> Result<Vec<Pair>, Memory>
     Ok(pairs)
 }
 
-/// The pairs in their order, each once.
+/// Returns the pairs in ascending order, each once.
 fn ascending(mut pairs: Vec<Pair>) -> Vec<Pair>
     ensures ascending { IsStrictlySortedBy by_pair result.items }
     ensures members { (p : ThePair) → Contains result.items p ↔ Contains pairs.items p }
@@ -45,7 +45,8 @@ fn ascending(mut pairs: Vec<Pair>) -> Vec<Pair>
     pairs
 }
 
-/// The pairs of entries whose numbers do not rise, in order. Of others there are none, since those are looked up by their numbers.
+/// Returns the pairs of entries whose numbers do not rise, in order. It returns none if the numbers rise, since those entries are looked up
+/// by their numbers.
 pub(crate) fn pairs_of(alloc: Global, handles: &[Handle]) -> Result<Vec<Pair>, Memory>
     ensures { IfOk result (λ pairs. is_rising (entries_of handles.now) ≡ false → ArePairs handles.now pairs.items) }
 {
@@ -56,7 +57,7 @@ pub(crate) fn pairs_of(alloc: Global, handles: &[Handle]) -> Result<Vec<Pair>, M
     Ok(ascending(pairs))
 }
 
-/// Whether one of the pairs has the number and the hash. It is looked up by binary search.
+/// Returns whether one of the pairs has the number and the hash. It takes a binary search.
 pub(crate) fn is_among(pairs: &[Pair], seq: u64, hash: Hash) -> bool
     requires { IsStrictlySortedBy by_pair pairs.now }
     ensures { result ≡ list_any (is_pair seq hash) pairs.now }

@@ -17,7 +17,7 @@ use kept_entries::SharedEntry;
 use log_chain::Hash;
 use replay_verifier::Receipt;
 
-/// The last of the hashes, or the one before them where there is none.
+/// Returns the last of the hashes, or `prev` if there are no entries.
 fn last_hash(prev: Hash, handles: &[Handle]) -> Hash
     ensures { result ≡ last_or prev (hashes_of handles.now) }
 {
@@ -27,7 +27,7 @@ fn last_hash(prev: Hash, handles: &[Handle]) -> Hash
     }
 }
 
-/// The end of a segment of these parts.
+/// Returns the end of a segment of these parts.
 pub(crate) fn end_of<'a>(node: NodeId, prev: Hash, handles: &[Handle], sig: &'a [u8]) -> Said<'a>
     ensures { shown result ≡ says node (last_seq (entries_of handles.now)) (last_or prev (hashes_of handles.now)) sig.now }
 {
@@ -39,7 +39,7 @@ pub(crate) fn end_of<'a>(node: NodeId, prev: Hash, handles: &[Handle], sig: &'a 
     }
 }
 
-/// What the entry quotes, where it quotes genuinely.
+/// Returns what the entry quotes, if it has a genuine quote.
 fn quote_of(shared: &SharedEntry) -> Option<Said<'_>>
     ensures { option_map shown result ≡ told_quote shared.now.entry shared.now.quoted }
 {
@@ -57,7 +57,7 @@ fn quote_of(shared: &SharedEntry) -> Option<Said<'_>>
     })
 }
 
-/// What the entry at a place quotes, where it quotes genuinely.
+/// Returns what the entry at a place quotes, if it has a genuine quote.
 pub(crate) fn quote_at(handles: &[Handle], place: usize) -> Option<Said<'_>>
     ensures { option_map shown result ≡ quote_by (slice_get (entries_of handles.now) place) (slice_get (quotes_of handles.now) place) }
 {

@@ -10,16 +10,16 @@ use authenticators::NodeId;
 use log_chain::Hash;
 use std::cmp::Ordering;
 
-/// A statement whose signature is lent from the item that it stands in.
+/// A statement whose signature is lent from the item in which it stands.
 #[derive(Clone, Copy, Debug)]
 pub struct Said<'a> {
-    /// The node whose log it is about.
+    /// The node whose log the statement is about.
     pub node: NodeId,
     /// The entry's number.
     pub seq: u64,
     /// The entry's hash.
     pub hash: Hash,
-    /// The node's signature of the two.
+    /// The node's signature on the number and the hash.
     pub sig: &'a [u8],
 }
 
@@ -35,14 +35,14 @@ fn compare_texts(a: &[u8], b: &[u8]) -> Ordering
     a.cmp(b)
 }
 
-/// By hash, and then by signature.
+/// Compares by hash, and then by signature.
 fn compare_ends(a: &Said<'_>, b: &Said<'_>) -> Ordering
     ensures { result ≡ ordering_then (slice_cmp nat_cmp a.now.hash b.now.hash) (slice_cmp nat_cmp a.now.sig.now b.now.sig.now) }
 {
     compare_hashes(a.hash, b.hash).then_with(|| compare_texts(a.sig, b.sig))
 }
 
-/// By number, and then by hash and signature.
+/// Compares by number, and then by hash and signature.
 fn compare_numbers(a: &Said<'_>, b: &Said<'_>) -> Ordering
     ensures { result ≡ ordering_then (nat_cmp a.now.seq b.now.seq) (ordering_then (slice_cmp nat_cmp a.now.hash b.now.hash) (slice_cmp nat_cmp a.now.sig.now b.now.sig.now)) }
 {
@@ -53,7 +53,7 @@ fn compare_numbers(a: &Said<'_>, b: &Said<'_>) -> Ordering
     }
 }
 
-/// The order of statements: by node, number, hash and signature.
+/// Compares two statements by node, number, hash and signature.
 pub fn compare_said(a: &Said<'_>, b: &Said<'_>) -> Ordering
     ensures { result ≡ by_fields (shown a.now) (shown b.now) }
 {

@@ -73,7 +73,7 @@ impl Model for KeptSegment {
 }
 
 impl KeptSegment {
-    /// A segment of these parts, whose entries have their hashes, with the pairs of entries whose numbers do not rise.
+    /// Returns a segment of these parts. The entries have their hashes. If the numbers do not rise, the pairs are those of the entries.
     pub(crate) fn from_parts(
         node: NodeId,
         prev: Hash,
@@ -101,14 +101,14 @@ impl KeptSegment {
         }
     }
 
-    /// What replay told.
+    /// Returns the verdict of replay.
     pub(crate) fn verdict(&self) -> Option<&Verdict>
         ensures { option_copied result ≡ self.now.verdict }
     {
         self.verdict.as_ref()
     }
 
-    /// Its parts.
+    /// Returns its parts.
     pub(crate) fn parts(&self) -> Parts<'_>
         ensures fields { self.now.item.fields ≡ form.Segment (whole result) }
         ensures fits { FitsSegment (whole result) }
@@ -122,21 +122,21 @@ impl KeptSegment {
         }
     }
 
-    /// The node whose log it is of.
+    /// Returns the node of whose log it is.
     pub(crate) fn node(&self) -> NodeId
         ensures { Some result ≡ subject self.now.item.fields }
     {
         self.node
     }
 
-    /// How many positions it has.
+    /// Returns how many positions it has.
     pub(crate) fn positions(&self) -> u32
         ensures { result ≡ positions self.now.item.fields }
     {
         self.handles.len() as u32 + 1
     }
 
-    /// The statement at a position, if one stands there.
+    /// Returns the statement at a position, if one stands there.
     pub(crate) fn statement(&self, position: u32) -> Option<Said<'_>>
         ensures { option_map shown result ≡ stated self.now position }
     {
@@ -147,7 +147,7 @@ impl KeptSegment {
         quote_at(handles, position as usize - 1)
     }
 
-    /// Where it begins and ends.
+    /// Returns where it begins and ends.
     pub(crate) fn reach(&self) -> Reach
         ensures { Some result ≡ reach self.now.item.fields }
     {
@@ -164,14 +164,14 @@ impl KeptSegment {
         }
     }
 
-    /// The entry at a position.
+    /// Returns the entry at a position.
     pub(crate) fn link(&self, position: u32) -> Option<Link>
         ensures { result ≡ link_in self.now.item.fields position }
     {
         link_at(self.prev, self.handles.as_slice(), position as usize)
     }
 
-    /// Whether the statement contradicts it. It takes no pass over the numbers.
+    /// Returns whether the statement contradicts it. It takes no pass over the numbers.
     #[tactic(auto, unfolding(proofs::specs::Contradictions::contradicts))]
     pub(crate) fn is_denied(&self, said: &Said<'_>) -> bool
         ensures { result ≡ denies (shown said.now) self.now.item.fields }
@@ -187,7 +187,7 @@ impl KeptSegment {
         said.seq <= last_seq(handles) && !finds_pair(self.prev, handles, said.seq, said.hash)
     }
 
-    /// Whether it answers the audit challenge.
+    /// Returns whether it answers the audit challenge.
     pub(crate) fn answers_audit(&self, challenge: &AuditChallenge) -> bool
         ensures { result ≡ answers_audit challenge.now self.now.item.fields }
     {
@@ -201,14 +201,14 @@ impl KeptSegment {
             )
     }
 
-    /// Whether it answers the challenge to acknowledge the message.
+    /// Returns whether it answers the challenge to acknowledge the message.
     pub(crate) fn answers_send(&self, message: &Message) -> bool
         ensures { result ≡ told_send message.now self.now.item.fields self.now.findings }
     {
         self.node == message.to && have_receipt_of(message, self.handles.as_slice())
     }
 
-    /// A copy whose entries the pool shares.
+    /// Returns a copy whose entries the pool shares.
     pub(crate) fn share(&self, alloc: Global, pool: &mut EntryPool) -> Result<KeptSegment, Memory>
         ensures { IfOk result (λ k. k ≡ self.now) }
     {

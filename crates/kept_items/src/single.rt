@@ -24,7 +24,7 @@ fn named<'a>(node: NodeId, statement: &'a Statement) -> Said<'a>
     }
 }
 
-/// The statement that stands first in an audit challenge, if one does.
+/// Returns the statement that stands first in an audit challenge, if one does.
 fn first_named(challenge: &AuditChallenge) -> Option<Said<'_>>
     ensures { option_map shown result ≡ option_map (named challenge.now.node) challenge.now.first }
 {
@@ -70,7 +70,7 @@ fn in_ack(ack: &AckItem, sent_hash: Hash, received: Hash, position: u32) -> Opti
     }
 }
 
-/// The statement at a position of an item that is no segment.
+/// Returns the statement at a position of an item that is no segment.
 pub(crate) fn statement_of<P>(checked: &Checked<P>, position: u32) -> Option<Said<'_>>
     requires { is_segment checked.now.item.fields ≡ false }
     ensures { option_map shown result ≡ stated checked.now position }
@@ -101,7 +101,7 @@ pub(crate) fn statement_of<P>(checked: &Checked<P>, position: u32) -> Option<Sai
     }
 }
 
-/// The item, where it is a challenge.
+/// Returns the item if it is a challenge, and `None` if it is not.
 pub(crate) fn challenge_of(item: &Item) -> Option<&Item>
     ensures none { IfNone result (is_challenge item.now.fields ≡ false) }
     ensures some { IfSome result (λ i. (i.now ≡ item.now) × (is_challenge item.now.fields ≡ true)) }
@@ -112,7 +112,7 @@ pub(crate) fn challenge_of(item: &Item) -> Option<&Item>
     }
 }
 
-/// How many positions an item has that is no segment.
+/// Returns how many positions an item has that is no segment.
 pub(crate) fn positions_of(item: &Item) -> u32
     requires { is_segment item.now.fields ≡ false }
     ensures { result ≡ positions item.now.fields }
@@ -123,7 +123,7 @@ pub(crate) fn positions_of(item: &Item) -> u32
     }
 }
 
-/// The node that a challenge is against or that answers it by an acknowledgement.
+/// Returns the node that a challenge is against, or that sent an acknowledgement.
 pub(crate) fn subject_of(item: &Item) -> Option<NodeId>
     requires { is_segment item.now.fields ≡ false }
     ensures { result ≡ subject item.now.fields }

@@ -16,7 +16,7 @@ use replay_verifier::Verdict;
 use std::alloc::Global;
 use std::marker::Model;
 
-/// A statement that has no verdict and of which nothing was found, as checking leaves each one. A contract sees the checked item.
+/// A statement that has no verdict and no findings, as checking leaves each one. A contract sees the checked item.
 #[derive(Drop)]
 pub(crate) struct KeptStatement {
     auth: Authenticator,
@@ -36,7 +36,7 @@ impl Model for KeptStatement {
     ghost view = { λ k. bare_of k.auth k.fits };
 }
 
-/// Whether the item is a statement.
+/// Returns whether the item is a statement.
 fn is_statement(item: &Item) -> bool
     ensures { result ≡ is_statement item.now.fields }
 {
@@ -46,14 +46,14 @@ fn is_statement(item: &Item) -> bool
     }
 }
 
-/// Whether the item is a statement that has no verdict and of which nothing was found.
+/// Returns whether the item is a statement that has no verdict and no findings.
 pub(crate) fn is_bare<P>(checked: &Checked<P>) -> bool
     ensures { IsTrue result → IsBare checked.now }
 {
     is_statement(checked.item()) && checked.verdict().is_none() && checked.findings().is_none()
 }
 
-/// The item that is a statement of these fields.
+/// Returns the item that is a statement of these fields.
 fn item_of(auth: Authenticator) -> Item
     requires { Fits (form.Auth auth) }
     ensures { result.fields ≡ form.Auth auth }
@@ -62,7 +62,7 @@ fn item_of(auth: Authenticator) -> Item
 }
 
 impl KeptStatement {
-    /// The statement of an item that is one.
+    /// Takes the statement out of an item that is one.
     pub(crate) fn from_checked<P>(checked: Checked<P>) -> KeptStatement
         requires { IsBare checked }
         ensures { result ≡ checked }
@@ -73,7 +73,7 @@ impl KeptStatement {
         }
     }
 
-    /// Its fields.
+    /// Returns its fields.
     pub(crate) fn auth(&self) -> &Authenticator
         ensures fields { self.now.item.fields ≡ form.Auth result.now }
         ensures fits { Fits (form.Auth result.now) }
@@ -81,7 +81,7 @@ impl KeptStatement {
         &self.auth
     }
 
-    /// What replay told, which is nothing.
+    /// Returns `None`: a statement is not replayed.
     pub(crate) fn verdict(&self) -> Option<&Verdict>
         ensures { option_copied result ≡ self.now.verdict }
     {
@@ -89,7 +89,7 @@ impl KeptStatement {
         None
     }
 
-    /// The statement at a position, which stands at the first one.
+    /// Returns the statement at a position. It stands at the first one.
     pub(crate) fn statement(&self, position: u32) -> Option<Said<'_>>
         ensures { option_map shown result ≡ stated self.now position }
     {
@@ -105,14 +105,14 @@ impl KeptStatement {
         })
     }
 
-    /// The checked item. It takes no memory.
+    /// Returns the checked item. It takes no memory.
     pub(crate) fn into_checked<P>(self) -> Checked<P>
         ensures { result ≡ self }
     {
         Checked::from_parts(item_of(self.auth), None)
     }
 
-    /// A copy.
+    /// Returns a copy.
     pub(crate) fn try_clone(&self, alloc: Global) -> Result<KeptStatement, Memory>
         ensures { IfOk result (λ k. k ≡ self.now) }
     {

@@ -1,4 +1,4 @@
-//! Writing kept items, of segments each entry where it lies.
+//! Writing kept items. Each entry of a segment is written from where it lies.
 
 ghost use Rattle.std.specs.Prelude.{◌≡◌, ◌≤◌, ◌++◌, OnOk, length};
 ghost use Rattle.std.specs.List.{All, flat_map};
@@ -22,7 +22,7 @@ use kept_entries::SharedEntry;
 use log_chain::FieldWriter;
 use outcome::Memory;
 
-/// How many bytes the entry has in a segment's spelling.
+/// Returns how many bytes the entry has in a segment's encoding.
 fn entry_len(shared: &SharedEntry) -> usize
     requires { FitsShared shared.now }
     ensures { result ≡ length (shared_spelling shared.now) }
@@ -30,7 +30,7 @@ fn entry_len(shared: &SharedEntry) -> usize
     13 + shared.content().len()
 }
 
-/// How many bytes the entries have in a segment's spelling.
+/// Returns how many bytes the entries have in a segment's encoding.
 fn entries_len(handles: &[Handle]) -> usize
     requires fit { All FitsShared handles.now }
     requires few { length (flat_map shared_spelling handles.now) ≤ LONGEST_ITEM }
@@ -43,7 +43,7 @@ fn entries_len(handles: &[Handle]) -> usize
     len
 }
 
-/// The entry, as a segment's spelling has it.
+/// Writes the entry, in the encoding that a segment has of it.
 fn write_entry(writer: &mut FieldWriter, shared: &SharedEntry) -> Result<(), Memory>
     requires { FitsShared shared.now }
     ensures { OnOk result (writer.new ≡ writer.old ++ shared_spelling shared.now) }
@@ -64,7 +64,7 @@ fn write_each(writer: &mut FieldWriter, handles: &[Handle]) -> Result<(), Memory
     Ok(())
 }
 
-/// The entries behind their count.
+/// Writes the count of the entries, and then the entries.
 fn write_entries(writer: &mut FieldWriter, handles: &[Handle]) -> Result<(), Memory>
     requires { IsListUpTo MOST_ENTRIES FitsEntry (entries_of handles.now) }
     ensures { OnOk result (writer.new ≡ writer.old ++ counted_text entry_spelling (entries_of handles.now)) }
@@ -94,7 +94,7 @@ fn write_segment(writer: &mut FieldWriter, parts: &Parts<'_>) -> Result<(), Memo
     Ok(())
 }
 
-/// The segment's spelling behind its length.
+/// Writes the length of the segment's encoding, and then the encoding.
 fn write_framed_segment(writer: &mut FieldWriter, parts: &Parts<'_>) -> Result<(), Memory>
     requires { FitsSegment (whole parts.now) }
     ensures { OnOk result (writer.new ≡ writer.old ++ bytes_text (spelling (form.Segment (whole parts.now)))) }

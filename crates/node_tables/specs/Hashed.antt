@@ -20,26 +20,29 @@ use Rattle.node_tables.specs.Tables.{IsSegmentAt, shows_at}
 abbrev pub front_of : List ℕ → ℕ
 front_of h = from_be_bytes w64 (slice_index h 0 ∷ slice_index h 1 ∷ slice_index h 2 ∷ slice_index h 3 ∷ slice_index h 4 ∷ slice_index h 5 ∷ slice_index h 6 ∷ slice_index h 7 ∷ [])
 
--- The marks stand by these.
+-- The marks stand by the first eight bytes of their hashes.
 abbrev pub DoNotFall : List Mark → Type 0
 DoNotFall marks = IsNonDecreasingBy (λ (m : Mark). m.front) marks
 
--- The namings stand by the one hash, and those of one by the other hash.
+-- The first naming does not stand behind the second. They stand by the one hash, and those with one hash by the other hash.
 abbrev pub IsUpTo : Naming → Naming → Type 0
 IsUpTo m k = (m.front < k.front) ⊎ ((m.front ≡ k.front) × (m.other ≤ k.other))
 
+-- The namings stand by their two hashes.
 abbrev pub StandByPairs : List Naming → Type 0
 StandByPairs namings = (a b : ℕ) (d : Naming) → a ≤ b → b < length namings → IsUpTo (slice_index_or namings a d) (slice_index_or namings b d)
 
--- The entry at a position of the item at a place.
+-- The entry at a position of an item, if there is one.
 abbrev pub link_by : Option Checked → ℕ → Option Link
 link_by None k = None
 link_by (Some c) k = link_in c.item.fields k
 
+-- The entry at a position of the item at a place in the list.
 abbrev pub link_at : List Checked → ℕ → ℕ → Option Link
 link_at items i k = link_by (slice_get items i) k
 
--- Position k of the segment of node j at place i came: of that at place n the first p positions did, and of any other all.
+-- Position k of the segment of node j at place i came. Of the segment at place n only the first p positions came, and of each other one
+-- all.
 abbrev pub HasCome : List Checked → (j n p i k : ℕ) → Type 0
 HasCome items j n p i k = IsSegmentAt items j i × (i ≡ n → k < p)
 
@@ -54,7 +57,8 @@ pub record IsHolder (items : List Checked) (j n p : ℕ) (m : Mark) : Type 0 whe
 abbrev pub IsHeldBy : List Checked → List Mark → Link → ℕ → Type 0
 IsHeldBy items holders x k = (m : Mark) × Contains holders m × (link_at items m.item m.position ≡ Some x) × (k ≤ m.position)
 
--- Of each entry that came a holder has it behind as many others; and entries that came are told apart by their hashes.
+-- The holders are of entries that came. For each entry that came, some holder has it behind as many others. Different entries that came
+-- have different hashes.
 pub record AreHolders (items : List Checked) (j n p : ℕ) (holders : List Mark) : Type 0 where
   pub order : DoNotFall holders
   pub each : (m : Mark) → Contains holders m → IsHolder items j n p m
@@ -70,8 +74,8 @@ IsAuditAt items i c = (x : Checked) × (slice_get items i ≡ Some x) × (x.item
 abbrev pub HasNaming : List Naming → ℕ → (g h : List ℕ) → Type 0
 HasNaming namings i g h = (m : Naming) × Contains namings m × (m.item ≡ i) × (m.front ≡ front_of g) × (m.other ≡ front_of h)
 
--- Entries stand by their hashes, and each open audit challenge by the hashes that it names; none of them is answered by a segment, which
--- that at place n need not be told of.
+-- Entries stand by their hashes, and each open audit challenge by the hashes that it names. No segment answers one of these challenges,
+-- save perhaps the segment at place n.
 pub record AreHashed (items : List Checked) (j n p : ℕ) (places : List ℕ) (h : Hashes) : Type 0 where
   pub holders : AreHolders items j n p h.holders.items
   pub lasts : StandByPairs h.lasts.items
@@ -79,14 +83,14 @@ pub record AreHashed (items : List Checked) (j n p : ℕ) (places : List ℕ) (h
   pub named : (i : ℕ) (c : AuditChallenge) (f g : List ℕ) → Contains places i → IsAuditAt items i c → NamesBeside c f g → HasNaming h.lasts.items i f g ⊎ HasNaming h.firsts.items i f g
   pub quiet : (i m : ℕ) (c : AuditChallenge) → Contains places i → IsAuditAt items i c → IsSegmentAt items j m → m ≢ n → shows_at items c m ≡ false
 
--- They have the same marks and namings.
+-- Both keep the same marks and namings.
 pub record AreSame (g h : Hashes) : Type 0 where
   pub whole : h.whole ≡ g.whole
   pub holders : h.holders.items ≡ g.holders.items
   pub lasts : h.lasts.items ≡ g.lasts.items
   pub firsts : h.firsts.items ≡ g.firsts.items
 
--- The open challenges stand by their spellings; and where marks and namings are kept, entries and audit challenges stand by hashes.
+-- The open challenges stand by their encodings. If marks and namings are kept, entries and audit challenges stand by hashes.
 pub record AreAsked (items : List Checked) (n : ℕ) (t : Table) : Type 0 where
   pub spelled : AscendBySpelling items t.unanswered.items
   pub hashed : t.hashes.whole ≡ true → AreHashed items t.node n 0 t.unanswered.items t.hashes

@@ -18,7 +18,7 @@ use Rattle.node_tables.specs.declared.exposure.ExposingPlaces.{ExposingPlaces}
 use Rattle.node_tables.specs.declared.sending.Sending.{Sending}
 use Rattle.node_tables.specs.declared.table.Table.{Table}
 
--- Where receipts are kept, segments have some of just these messages of the node.
+-- If receipts are kept, they are just the messages of the node of which segments have some.
 abbrev pub AreReceipts : List Checked → Table → Type 0
 AreReceipts items t = t.receipts.whole ≡ true → (s : Sending) → Contains t.receipts.sendings.items s ↔ (IsReceived items s × (s.from ≡ t.node))
 
@@ -26,9 +26,9 @@ AreReceipts items t = t.receipts.whole ≡ true → (s : Sending) → Contains t
 abbrev pub IsSaid : List Checked → Authenticator → Type 0
 IsSaid items a = (n k : ℕ) × (position_of items n k ≡ Some a)
 
--- The table of a node has just what the items say of it: their statements of it, its messages of which segments have receipts, its
--- segments, and the challenges against it that nothing answers, by their spellings and by hashes; and it keeps what exposes the node,
--- if something does.
+-- The table of a node has just what the items say of it: their statements of it, its messages of which segments have receipts, and its
+-- segments. It has the challenges against it that nothing answers, by their encodings and by hashes. It keeps what exposes the node, if
+-- something does.
 pub record IsTable (items : List Checked) (t : Table) : Type 0 where
   pub told : IsTold items t
   pub says : (a : Authenticator) → Says items t.rows.items a ↔ (IsSaid items a × (a.node ≡ t.node))
@@ -41,7 +41,7 @@ pub record IsTable (items : List Checked) (t : Table) : Type 0 where
 abbrev pub HasNode : List Table → ℕ → Type 0
 HasNode tables j = (t : Table) × Contains tables t × (t.node ≡ j)
 
--- The items are checked, their order is that of their spellings, and each node that is listed has one table.
+-- The items are checked, their order is that of their encodings, and each node that is listed has one table.
 pub record IsIndexed {S : Type 0} (ds : Listing) (program : Meaning S) (items : List Checked) (order : List ℕ) (tables : List Table) : Type 0 where
   pub ordered : IsOrder items order
   pub whole : (c : Checked) → Contains items c → IsWhole ds program c
@@ -49,7 +49,7 @@ pub record IsIndexed {S : Type 0} (ds : Listing) (program : Meaning S) (items : 
   pub listed : (j : ℕ) → is_listed ds j ≡ true → HasNode tables j
   pub each : AllTables (IsTable items) tables
 
--- The tables are those of all items but the last, whose spelling none of the others has, and have room for it.
+-- The tables are those of all items but the last, whose encoding none of the others has. They have room for it.
 pub record AreOfOthers (items : List Checked) (tables : List Table) : Type 0 where
   pub others : List Checked
   pub last : Checked
@@ -58,7 +58,7 @@ pub record AreOfOthers (items : List Checked) (tables : List Table) : Type 0 whe
   pub each : AllTables (IsTable others) tables
   pub room : AllTables (HasRoomFor last) tables
 
--- What the table of a node tells.
+-- The indication of a node is what its table says.
 abbrev pub Tells : Table → Indication → Type 0
 Tells t Exposed = (e : ExposingPlaces) × (t.exposure ≡ Some e)
 Tells t Suspected = (t.exposure ≡ None) × (t.unanswered.items ≢ [])

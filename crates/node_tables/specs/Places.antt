@@ -1,4 +1,4 @@
--- Items by their places, in the order of arrival, and the order of their spellings.
+-- Items by their places, in the order of arrival, and the order of their encodings.
 use Rattle.std.specs.List.Sorted.{IsBinarySearchResult}
 use Rattle.std.specs.List.{Contains}
 use Rattle.std.specs.Prelude.{◌≡◌, ℕ, Bool, true, false, List, Option, Some, None, Err, slice_get, map, ◌==◌, ◌≤◌, length, if◌then◌else◌, [], ◌∷◌}
@@ -13,36 +13,36 @@ use Rattle.kept_evidence.specs.Kept.{IsAscending, Keeps}
 use Rattle.kept_evidence.specs.Telling.{is_unanswered}
 use Rattle.node_tables.specs.declared.table.Table.{Table}
 
--- ---- the order of spellings
+-- ---- the order of encodings
 
 -- The places name just these items, in this order.
 abbrev pub ArePlacesOf : List Checked → List ℕ → List Checked → Type 0
 ArePlacesOf items places kept = map (slice_get items) places ≡ map Some kept
 
--- The places ascend by the spellings of their items.
+-- The places ascend by the encodings of their items.
 pub record AscendBySpelling (items : List Checked) (places : List ℕ) : Type 0 where
   pub named : List Checked
   pub names : ArePlacesOf items places named
   pub ascending : IsAscending named
 
--- The places are those of all items, in the order of the items' spellings.
+-- The places are those of all items, in the order of the items' encodings.
 pub record IsOrder (items : List Checked) (order : List ℕ) : Type 0 where
   pub kept : List Checked
   pub places : ArePlacesOf items order kept
   pub ascending : IsAscending kept
   pub covers : (c : Checked) → Contains items c → Contains kept c
 
--- The item at a place, where there is one.
+-- The item at a place, if there is one.
 abbrev pub named_item : Option Checked → List Piece
 named_item None = []
 named_item (Some c) = c.item ∷ []
 
--- How the item at a place compares with another; where there is none, it is above all.
+-- How the item at a place compares with another. If there is none, the place stands above all items.
 abbrev pub item_order_by : Option Checked → Piece → Ordering
 item_order_by None x = Greater
 item_order_by (Some c) x = by_bytes c.item x
 
--- Where an item that is not there would stand in the order.
+-- The place in the order where an item would stand that is not there.
 pub record IsGapAt (items : List Checked) (order : List ℕ) (x : Piece) (i : ℕ) : Type 0 where
   pub inside : i ≤ length order
   pub searched : IsBinarySearchResult (λ j. item_order_by (slice_get items j) x) order (Err i)
@@ -54,10 +54,11 @@ pub record IsGapAt (items : List Checked) (order : List ℕ) (x : Piece) (i : �
 abbrev pub IsAcknowledged : List Checked → Message → Type 0
 IsAcknowledged items m = (c : Checked) × Contains items c × IsInGroup (Acknowledgements m) c.item.fields
 
--- The item at a place is a challenge against node j; and no item answers it.
+-- The item at a place is a challenge against node j.
 abbrev pub IsAgainstAt : List Checked → ℕ → ℕ → Type 0
 IsAgainstAt items j i = (c : Checked) × (slice_get items i ≡ Some c) × (is_against j c.item.fields ≡ true)
 
+-- The item at a place is a challenge against node j, and no item answers it.
 abbrev pub IsOpenAt : List Checked → ℕ → ℕ → Type 0
 IsOpenAt items j i = (c : Checked) × (slice_get items i ≡ Some c) × (is_unanswered items j c.item.fields ≡ true)
 
@@ -66,17 +67,20 @@ pub record HasBodyRoom (t : Table) : Type 0 where
   pub spans : 1 ≤ t.spans.room
   pub unanswered : 1 ≤ t.unanswered.room
 
--- The node is the subject; how many segments or challenges of the node the subject brings at most.
+-- The node is the subject.
 abbrev pub is_subject : ℕ → Option ℕ → Bool
 is_subject j None = false
 is_subject j (Some k) = k == j
 
+-- How many bodies an item with this subject brings to the table of node j: one or none. A body is a segment, a challenge or an
+-- acknowledgement.
 abbrev pub bodies : Option ℕ → ℕ → ℕ
 bodies o j = if is_subject j o then 1 else 0
 
--- The room for segments, and for challenges.
+-- The room that a table has for segments.
 abbrev pub span_room : Table → ℕ
 span_room t = t.spans.room
 
+-- The room that a table has for challenges.
 abbrev pub open_room : Table → ℕ
 open_room t = t.unanswered.room

@@ -13,12 +13,12 @@ use Rattle.node_tables.specs.declared.receipt_list.ReceiptList.{ReceiptList}
 use Rattle.node_tables.specs.declared.row.Row.{Row}
 use Rattle.node_tables.specs.declared.sending.Sending.{Sending}
 
--- The message that a statement in a log of node j is of.
+-- The message to node j that a statement is of, if the log of node j quotes the statement.
 abbrev pub received : ℕ → Option Authenticator → Option Sending
 received j None = None
 received j (Some a) = Some (record { from = a.node; to = j; seq = a.seq })
 
--- The message of which an entry of a segment is the receipt: at the position behind that of the segment's end and of the entries before.
+-- The message of which an entry of a segment is the receipt. Entry k stands at position k + 1, behind the segment's end at 0.
 abbrev pub receipt_in : Fields → Option Findings → ℕ → Option Sending
 receipt_in (form.Auth a) f k = None
 receipt_in (form.Segment s) f zero = None
@@ -27,10 +27,12 @@ receipt_in (form.Audit c) f k = None
 receipt_in (form.Send m) f k = None
 receipt_in (form.Ack a) f k = None
 
+-- The message of which the item, if there is one, has a receipt at a position.
 abbrev pub receipt_by : Option Checked → ℕ → Option Sending
 receipt_by None k = None
 receipt_by (Some c) k = receipt_in c.item.fields c.findings k
 
+-- The message of which the statement that a row names is the receipt.
 abbrev pub receipt_at : List Checked → Row → Option Sending
 receipt_at items r = receipt_by (slice_get items r.item) r.position
 
@@ -38,14 +40,15 @@ receipt_at items r = receipt_by (slice_get items r.item) r.position
 abbrev pub IsReceived : List Checked → Sending → Type 0
 IsReceived items s = (n k : ℕ) × (receipt_by (slice_get items n) k ≡ Some s)
 
--- Messages by their senders, their receivers and their numbers.
+-- The order of messages: by their senders, their receivers and their numbers.
 abbrev pub by_sending : Sending → Sending → Ordering
 by_sending s t = ordering_then (nat_cmp s.from t.from) (ordering_then (nat_cmp s.to t.to) (nat_cmp s.seq t.seq))
 
+-- The messages ascend.
 abbrev pub AscendBySending : List Sending → Type 0
 AscendBySending sendings = IsStrictlySortedBy by_sending sendings
 
--- They are the same, and kept as before.
+-- Both lists have the same messages, and both keep them or neither does.
 pub record AreSameReceipts (r q : ReceiptList) : Type 0 where
   pub whole : q.whole ≡ r.whole
   pub sendings : q.sendings.items ≡ r.sendings.items

@@ -27,7 +27,7 @@ pub record KeepsPromises (t u : Table) : Type 0 where
   pub promised : u.promised ≡ t.promised
   pub bodies : u.bodies ≡ t.bodies
 
--- So many statements and bodies of its node were promised to the table, beside all that were promised before.
+-- So many statements and bodies of its node were promised to the table, beside all that was promised before.
 pub record AreMany (w b : ℕ) (t u : Table) : Type 0 where
   pub roomier : IsRoomier t u
   pub statements : u.promised ≡ t.promised + w
@@ -42,25 +42,28 @@ pub record AreBack (w b : ℕ) (t u : Table) : Type 0 where
   pub promised : u.promised ≡ t.promised - w
   pub bodies : u.bodies ≡ t.bodies - b
 
--- The same, where it is told of each node how many there are.
+-- So many statements and bodies were promised to the table as the two functions say of its node.
 abbrev pub Promises : (ℕ → ℕ) → (ℕ → ℕ) → Table → Table → Type 0
 Promises w b t u = AreMany (w t.node) (b t.node) t u
 
+-- The promises of as many are taken back.
 abbrev pub TakesBack : (ℕ → ℕ) → (ℕ → ℕ) → Table → Table → Type 0
 TakesBack w b t u = AreBack (w t.node) (b t.node) t u
 
--- What an item needs, and what the items of a list need, in the table of node j.
+-- At how many positions an item has a statement of node j.
 abbrev pub rows_of : Checked → ℕ → ℕ
 rows_of x j = wanted (stated x) (positions x.item.fields) j
 
+-- How many bodies an item brings to the table of node j: one if node j is its subject, and else none.
 abbrev pub bodies_of : Checked → ℕ → ℕ
 bodies_of x j = bodies (subject x.item.fields) j
 
+-- How many the items of a list have together.
 abbrev pub sum_of : (Checked → ℕ → ℕ) → List Checked → ℕ → ℕ
 sum_of f [] j = 0
 sum_of f (x ∷ xs) j = f x j + sum_of f xs j
 
--- The items of the list were promised.
+-- All items of the list were promised.
 abbrev pub AreReady : List Checked → Table → Table → Type 0
 AreReady xs t u = Promises (sum_of rows_of xs) (sum_of bodies_of xs) t u
 
@@ -70,12 +73,13 @@ pub record HasRoomForAll (xs : List Checked) (u : Table) : Type 0 where
   pub spans : sum_of bodies_of xs u.node ≤ span_room u
   pub unanswered : sum_of bodies_of xs u.node ≤ open_room u
 
--- What was promised to the table and did not come yet is just what the items of the list need. Where there are none, it owes nothing.
+-- What was promised to the table and has not come yet is just what the items of the list need. If the list is empty, the table owes
+-- nothing.
 pub record Owes (xs : List Checked) (t : Table) : Type 0 where
   pub statements : t.promised ≡ sum_of rows_of xs t.node
   pub bodies : t.bodies ≡ sum_of bodies_of xs t.node
 
--- What the item takes of the rooms of any table, at most; what was promised of it is taken back.
+-- The item takes at most so much room of any table. What was promised of it is taken back.
 pub record ItemRooms (x : Checked) (t u : Table) : Type 0 where
   pub node : u.node ≡ t.node
   pub rows : room t ≤ room u + rows_of x t.node
@@ -89,14 +93,15 @@ pub record HasRoomFor (x : Checked) (u : Table) : Type 0 where
   pub statements : wanted (stated x) (positions x.item.fields) u.node ≤ room u
   pub body : subject x.item.fields ≡ Some u.node → HasBodyRoom u
 
--- There is room for the whole item.
+-- The whole item was promised, and there is room for it.
 pub record IsReady (x : Checked) (t u : Table) : Type 0 where
   pub many : Promises (rows_of x) (bodies_of x) t u
   pub enough : HasRoomFor x u
 
--- What was promised of the whole item is taken back; of all items of a list.
+-- What was promised of the whole item is taken back.
 abbrev pub IsReleased : Checked → Table → Table → Type 0
 IsReleased x t u = TakesBack (rows_of x) (bodies_of x) t u
 
+-- What was promised of all items of a list is taken back.
 abbrev pub AreAllReleased : List Checked → Table → Table → Type 0
 AreAllReleased xs t u = TakesBack (sum_of rows_of xs) (sum_of bodies_of xs) t u

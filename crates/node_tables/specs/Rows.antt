@@ -5,6 +5,7 @@ use Rattle.evidence_item.specs.Checking.{Checked}
 use Rattle.kept_items.specs.Positions.{stated}
 use Rattle.node_tables.specs.declared.row.Row.{Row}
 
+-- The statement at a position of an item, if there is one.
 abbrev pub stated_by : Option Checked → ℕ → Option Authenticator
 stated_by None k = None
 stated_by (Some c) k = stated c k

@@ -8,17 +8,19 @@ use Rattle.evidence_item.specs.Checking.{Checked}
 use Rattle.node_tables.specs.Rows.{stated_by}
 use Rattle.node_tables.specs.declared.table.Table.{Table}
 
--- What stands at each place came of what stood there.
+-- At each place with a new table stood an old one, and the relation holds between them.
 abbrev pub EachBecomes : (Table → Table → Type 0) → List Table → List Table → Type 0
 EachBecomes R old new = (i : ℕ) (u : Table) → slice_get new i ≡ Some u → (t : Table) × (slice_get old i ≡ Some t) × R t u
 
+-- Each table has the property.
 abbrev pub AllTables : (Table → Type 0) → List Table → Type 0
 AllTables P tables = (i : ℕ) (t : Table) → slice_get tables i ≡ Some t → P t
 
--- The tables ascend by their nodes.
+-- The order of tables: by their nodes.
 abbrev pub by_node : Table → Table → Ordering
 by_node t u = nat_cmp t.node u.node
 
+-- The tables ascend by their nodes.
 abbrev pub AscendByNode : List Table → Type 0
 AscendByNode tables = IsStrictlySortedBy by_node tables
 

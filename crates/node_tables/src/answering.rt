@@ -36,7 +36,7 @@ pub(crate) fn answers_at<P>(items: &[KeptItem<P>], challenge: u32, answer: u32) 
     }
 }
 
-/// The sender, the receiver and the number of the message that the item acknowledges, where it acknowledges one.
+/// Returns the sender, the receiver and the number of the message that the item acknowledges, if it acknowledges one.
 fn acknowledged<P>(kept: &KeptItem<P>) -> Option<Sending>
     ensures { result ≡ acknowledged kept.now.item.fields }
 {
@@ -122,8 +122,8 @@ fn has_acknowledgement<P>(
     }
 }
 
-/// Whether some item answers the challenge against the table's node at the place. For a send challenge it looks up an acknowledgement, and
-/// then a receipt, which suffices where its sender has a table; for an audit challenge it looks up a segment that answers it.
+/// Returns whether some item answers the challenge at a place against the table's node. For a send challenge it looks up an
+/// acknowledgement, and then a receipt, which is enough if the sender has a table. For an audit challenge it looks up a segment.
 fn is_answered<P>(
     items: &[KeptItem<P>],
     order: &TieredVec<u32>,

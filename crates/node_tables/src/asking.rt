@@ -1,7 +1,7 @@
 //! Whether a new audit challenge is answered.
 //!
-//! A new one costs a search among the holders for each hash that it names. As hashes chain, a holder has each entry that any segment has
-//! up to the one that it holds: so it answers where any does.
+//! A new challenge costs a search among the holders for each hash that it names. Since hashes chain, a holder of an entry has each entry up
+//! to it that any segment has. So if any segment answers the challenge, a holder does.
 
 ghost use Rattle.std.specs.Prelude.{◌≡◌, ◌<◌, ℕ, List, Some, false, length, slice_get, slice_index_or, true};
 ghost use Rattle.std.specs.List.{Contains, list_any};

@@ -1,9 +1,9 @@
 //! Which open audit challenges a segment closes.
 //!
-//! It costs a search among the holders for each of its entries. Where no segment held the entry behind as many others, open challenges
-//! that name it are looked at: all of them, or, where fewer of those others are new, for each of the new ones those that name both, by a
-//! search. What no segment had before the entry yet is new; a challenge that names it beside another one was answered by a segment that
-//! had both.
+//! It costs a search among the holders for each of the segment's entries. Suppose that no segment held an entry behind as many others. Then
+//! open challenges that name it are looked at: all of them, or, if that is less, for each new entry before it those that name both, by a
+//! search. An entry before it is new if no segment had it before this entry yet. A challenge that names this entry beside another one was
+//! answered by a segment that had both.
 
 ghost use Rattle.std.specs.Prelude.{◌≡◌, ◌<◌, ◌≤◌, ◌+◌, ℕ, Some, length, not, slice_get, slice_index_or, true};
 ghost use Rattle.std.specs.List.{filter};
@@ -48,8 +48,8 @@ fn take_answered<P>(items: &[KeptItem<P>], places: &mut TieredVec<u32>, answer: 
     }
 }
 
-/// Puts the entry at a position of the segment at a place among the holders, takes away what the segment answers of what names the
-/// entry, and tells whether marks and namings can still be kept.
+/// Puts the entry at a position of the segment at a place among the holders. Of the challenges that name the entry, it takes away those
+/// that the segment answers. It returns whether marks and namings can still be kept.
 fn take_at<P>(
     items: &[KeptItem<P>],
     node: NodeId,
@@ -99,7 +99,7 @@ fn count_entries<P>(items: &[KeptItem<P>], answer: u32) -> u32
     }
 }
 
-/// Does so for all entries, and tells whether marks and namings can still be kept.
+/// Does so for all entries. It returns whether marks and namings can still be kept.
 fn take_each<P>(
     items: &[KeptItem<P>],
     node: NodeId,

@@ -1,4 +1,4 @@
-//! Putting what an item is, beside its statements, into the table of its node.
+//! How an item, beside its statements, comes into the table of its node.
 
 ghost use Rattle.std.specs.Prelude.{◌≡◌, ◌↔◌, ◌⊎◌, ◌+◌, ◌<◌, ◌≤◌, ℕ, List, Contains, Some, false, length, slice_get, true};
 ghost use Rattle.std.specs.List.Sorted.{IsBinarySearchResult, IsSearchInRange};
@@ -57,7 +57,7 @@ fn put_acknowledgement<P>(items: &[KeptItem<P>], table: &mut Table, place: u32)
     close_acknowledged(items, &mut table.unanswered, place);
 }
 
-/// Where the item at a place, which is a new one, would stand among places that ascend by spelling.
+/// Returns where the item at a place, which is a new one, would stand among places that ascend by encoding.
 pub(crate) fn gap_among<P>(
     items: &[KeptItem<P>],
     places: &TieredVec<u32>,
@@ -69,7 +69,7 @@ pub(crate) fn gap_among<P>(
     places.search(&KeptProbe { items, kept })
 }
 
-/// Puts the place of a new item among others, by its spelling. There is room for it.
+/// Puts the place of a new item among others, by its encoding. There is room for it.
 fn put_by_spelling<P>(
     items: &[KeptItem<P>],
     places: &mut TieredVec<u32>,
@@ -90,7 +90,7 @@ fn put_by_spelling<P>(
     places.insert(gap, place);
 }
 
-/// Keeps an open audit challenge by the hashes that it names, and tells whether there was memory for it.
+/// Keeps an open audit challenge by the hashes that it names. Returns `false` if there is no memory for it.
 fn put_namings(hashes: &mut Hashes, place: u32, audit: &AuditChallenge) -> bool
     requires lasts { StandByPairs hashes.old.lasts.items }
     requires firsts { StandByPairs hashes.old.firsts.items }
@@ -124,7 +124,7 @@ fn put_namings(hashes: &mut Hashes, place: u32, audit: &AuditChallenge) -> bool
     put_where_room(&mut hashes.firsts, turned)
 }
 
-/// Keeps an open challenge by the hashes that it names, where it is an audit challenge.
+/// Keeps an open challenge by the hashes that it names, if it is an audit challenge.
 fn put_by_hashes<P>(hashes: &mut Hashes, place: u32, kept: &KeptItem<P>)
     requires lasts { hashes.old.whole ≡ true → StandByPairs hashes.old.lasts.items }
     requires firsts { hashes.old.whole ≡ true → StandByPairs hashes.old.firsts.items }
@@ -216,7 +216,7 @@ fn put_in<P>(
     table.hashes.release(entries_of(kept));
 }
 
-/// Puts what the item at a place is, beside its statements, into the table of its node, where there is room for it.
+/// Puts what the item at a place is, beside its statements, into the table of its node. There is room for it.
 pub(crate) fn put_body<P>(
     items: &[KeptItem<P>],
     order: &TieredVec<u32>,

@@ -6,19 +6,19 @@ ghost use Rattle.node_tables.specs.within.Spanning.{AreBoundedUpTo, IsBound};
 
 use crate::span::Span;
 
-/// So many segments, one beside the other, with the least and the greatest number of statements that can contradict one of them.
+/// Bounds of so many segments that stand side by side.
 #[derive(Clone, Copy, Debug, Drop)]
 pub struct Bounds {
-    /// How many they are.
+    /// How many segments they are.
     pub count: usize,
-    /// The least number.
+    /// The least `low` of the segments.
     pub low: u64,
-    /// The greatest number.
+    /// The greatest `last` of the segments.
     pub last: u64,
 }
 
 impl Bounds {
-    /// Those of one segment.
+    /// Returns the bounds of one segment.
     fn of(span: &Span) -> Bounds
         ensures { result ≡ record { count = 1; low = span.now.low; last = span.now.last } }
     {
@@ -29,7 +29,7 @@ impl Bounds {
         }
     }
 
-    /// Those of these segments and of others.
+    /// Returns the bounds of these segments and of others.
     fn with(&self, other: &Bounds) -> Bounds
         requires { self.now.count + other.now.count < 2 ^ 64 }
         ensures { result ≡ record { count = self.now.count + other.now.count; low = min self.now.low other.now.low; last = max self.now.last other.now.last } }
@@ -42,7 +42,7 @@ impl Bounds {
     }
 }
 
-/// The bounds of the run that stands before so many segments up to a place, if it is as long as they are.
+/// Returns the bounds of the run that ends where the last `count` segments up to a place begin, if the run has `count` segments too.
 fn run_before(bounds: &[Bounds], place: usize, count: usize) -> Option<Bounds>
     requires { place ≤ length bounds.now }
     ensures { IfSome result (λ b. (b.count ≡ count) × (count ≤ place) × ((d : TheBounds) → 1 ≤ count → b ≡ slice_index_or bounds.now (place - count) d)) }
@@ -57,7 +57,8 @@ fn run_before(bounds: &[Bounds], place: usize, count: usize) -> Option<Bounds>
     Some(before)
 }
 
-/// The bounds of the segment at a place with the runs before it, as long as each of these is as long as what stands behind it.
+/// Returns the bounds of the segment at a place and of the runs before it. A run joins as long as it has as many segments as stand behind
+/// it.
 pub(crate) fn joined(spans: &[Span], bounds: &[Bounds], place: usize) -> Bounds
     requires inside { place < length spans.now }
     requires long { place ≤ length bounds.now }

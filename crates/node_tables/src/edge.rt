@@ -5,7 +5,7 @@ ghost use Rattle.node_tables.specs.within.Bringing.{edge_of, side};
 
 use std::cmp::Ordering;
 
-/// On which side of the edge something stands: where the test holds, before it.
+/// Returns on which side of the edge something stands. It stands before the edge if the test holds.
 pub(crate) fn side(is_before: bool) -> Ordering
     ensures { result ≡ side is_before }
 {
@@ -16,7 +16,7 @@ pub(crate) fn side(is_before: bool) -> Ordering
     }
 }
 
-/// The edge that a search found.
+/// Returns the edge that a search found.
 pub(crate) fn edge_at(found: Result<usize, usize>) -> usize
     ensures { result ≡ edge_of found }
 {

@@ -2,10 +2,10 @@
 
 use crate::row::Row;
 
-/// What exposes a node: by where it stands, which stays.
+/// What exposes a node, by the places where it stands. These places stay.
 #[derive(Clone, Copy, Debug)]
 pub enum ExposingPlaces {
-    /// Two statements of one number and two hashes.
+    /// Two statements with one number and two hashes.
     TwoHashes(Row, Row),
     /// A statement, and the place of a segment that it contradicts.
     Denied(Row, u32),

@@ -25,7 +25,7 @@ fn is_other<P>(items: &[KeptItem<P>], row: Row, said: &Said<'_>) -> bool
     }
 }
 
-/// The row at the place, where its statement has the number and another hash.
+/// Returns the row at the place, if its statement has the number and another hash.
 fn other_at<P>(
     items: &[KeptItem<P>],
     rows: &TieredVec<Row>,
@@ -46,7 +46,7 @@ fn other_at<P>(
     }
 }
 
-/// The row before the place, where its statement has the number and another hash.
+/// Returns the row before the place, if its statement has the number and another hash.
 fn other_before<P>(
     items: &[KeptItem<P>],
     rows: &TieredVec<Row>,
@@ -153,8 +153,8 @@ fn denied_by<P>(
     None
 }
 
-/// What exposes the node with a statement more, whose place among the rows is given, where nothing did without it. One that was said
-/// already, with another signature, contradicts no segment, since it did not before: none is looked at.
+/// Returns what exposes the node once a statement comes, if nothing did before. The statement's place among the rows is given. If it was
+/// said already, with another signature, no segment is looked at: it contradicted none before.
 pub(crate) fn brought_by<P>(
     items: &[KeptItem<P>],
     rows: &TieredVec<Row>,

@@ -9,24 +9,25 @@ use outcome::Memory;
 use std::alloc::Global;
 use tiered_vec::TieredVec;
 
-/// Entries and open audit challenges by hashes, so that neither is looked through. Were two texts of one SHA-256 value found, or memory
-/// refused that was promised, all would be looked through, as long as the store is.
+/// A node's entries and open audit challenges by hashes. With these, neither has to be looked through. If two texts with one SHA-256 value
+/// are found, or if memory is refused that was promised, they are no longer kept. Then all is looked through, for the rest of the store's
+/// life.
 #[derive(Drop)]
 pub struct Hashes {
-    /// Whether the marks and namings are kept.
+    /// Whether marks and namings are kept.
     pub whole: bool,
-    /// Of each hash of an entry the segment in which most entries stand before it.
+    /// For each hash of an entry, the segment that has most entries before it.
     pub holders: TieredVec<Mark>,
-    /// The open audit challenges by the hashes up to which they go.
+    /// The open audit challenges, by the hash of their last entry.
     pub lasts: TieredVec<Naming>,
-    /// Those from an entry on, by its hash.
+    /// The open audit challenges that name a first entry, by its hash.
     pub firsts: TieredVec<Naming>,
-    /// How many entries were promised room and did not come yet.
+    /// How many entries were promised room and have not come yet.
     pub awaited: usize,
 }
 
 impl Hashes {
-    /// Of no items. It takes no memory.
+    /// Returns the marks and namings of no items. It takes no memory.
     pub(crate) fn new(alloc: Global) -> Hashes
         ensures whole { result.whole ≡ true }
         ensures holders { result.holders.items ≡ [] }
@@ -52,7 +53,8 @@ impl Hashes {
         Ok(())
     }
 
-    /// Promises so many entries more, and makes room for them and for so many challenges.
+    /// Promises so many entries more. It makes room for them, and for so many challenges more. If it returns `Memory`, as many are promised
+    /// as before.
     pub(crate) fn promise(&mut self, entries: usize, challenges: usize) -> Result<(), Memory>
         ensures { AreSame self.old self.new }
     {

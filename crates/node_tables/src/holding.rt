@@ -15,11 +15,12 @@ use tiered_vec::TieredVec;
 /// What became of an entry that came.
 #[derive(Clone, Copy, Debug, PartialEq, Eq)]
 pub(crate) enum Held {
-    /// Its segment holds it behind more entries than any did. Behind all of these but so many first ones another segment holds it.
+    /// Its segment holds it behind more entries than any did before. Another segment holds it behind all of these, save so many of the
+    /// first.
     Raised(u32),
     /// Another segment holds it behind as many entries.
     Known,
-    /// It cannot be told apart by its hash, or stands twice in its segment, or memory ran out.
+    /// Its hash does not distinguish it, it stands twice in its segment, or memory ran out.
     Lost,
 }
 
@@ -82,7 +83,7 @@ fn place_of<P>(
     None
 }
 
-/// Puts the entry at a mark among the holders, where none has its hash.
+/// Puts the entry at a mark among the holders. None of them has its hash.
 fn put_new<P>(
     items: &[KeptItem<P>],
     node: NodeId,
@@ -105,7 +106,7 @@ fn put_new<P>(
     }
 }
 
-/// The same where the holder at a place has its hash.
+/// Puts the entry at a mark among the holders. The holder at a place has its hash.
 fn put_over<P>(
     items: &[KeptItem<P>],
     node: NodeId,
@@ -137,7 +138,7 @@ fn put_over<P>(
     Held::Raised(mark.position - old.position)
 }
 
-/// Puts the entry at a mark, which comes behind the others of its segment, among the holders.
+/// Puts the entry at a mark among the holders. It comes behind the other entries of its segment.
 pub(crate) fn hold<P>(
     items: &[KeptItem<P>],
     node: NodeId,

@@ -1,4 +1,4 @@
-//! Putting an item into the tables.
+//! How an item comes into the tables.
 
 ghost use Rattle.std.specs.Prelude.{◌≡◌, ◌<◌, ◌≤◌, ◌^◌, ◌++◌, ◌∷◌, [], List, length};
 ghost use Rattle.evidence_item.specs.Checking.{Checked as TheChecked};
@@ -14,7 +14,7 @@ use crate::tables::put_statements;
 use kept_items::KeptItem;
 use tiered_vec::TieredVec;
 
-/// Puts the item at a place into the tables of its nodes, for which there is room.
+/// Puts the item at a place into the tables of its nodes. There is room for it.
 fn put_item<P>(items: &[KeptItem<P>], order: &TieredVec<u32>, tables: &mut [Table], place: u32)
     requires order { IsOrder items.now order.now.items }
     requires ascending { AscendByNode tables.old }
@@ -27,7 +27,10 @@ fn put_item<P>(items: &[KeptItem<P>], order: &TieredVec<u32>, tables: &mut [Tabl
     put_body(items, order, tables, place);
 }
 
-/// Puts the last of the items, whose place is in the order already, into the tables of its nodes, for which there is room.
+/// Puts the last of the items into the tables of its nodes, and takes back what was promised of it. The item's place is in the order
+/// already, and the tables have room for the item.
+///
+/// It does not fail. If memory that was promised is refused, a table keeps no receipts, or nothing by hashes, from then on.
 pub fn index<P>(items: &[KeptItem<P>], order: &TieredVec<u32>, tables: &mut [Table])
     requires order { IsOrder items.now order.now.items }
     requires places { length items.now ≤ 2 ^ 32 }

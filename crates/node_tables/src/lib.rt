@@ -1,18 +1,18 @@
-//! What is kept of each node, by the places of its items: its statements, its segments, the challenges against it that nothing answers,
-//! and what exposes it. A question of a node is a look-up, and an item more touches the tables of the nodes that it speaks of alone.
+//! What is kept of each node, by the places of its items: its statements, its segments, the challenges against it that nothing answers, and
+//! what exposes it. A question about a node takes a look-up. A new item changes only the tables of the nodes that it is about.
 //!
-//! Items stand in a list that only grows at its end, and are named by their places in it.
+//! Items stand in a list that grows only at its end. Their places in this list are their names.
 //!
-//! - A [`Table`] is what is kept of one node; [`place_of`] finds it. [`Row`] names a statement, which [`said_at`] lends, [`Span`] a
-//!   segment, [`Mark`] where an entry's hash stands and [`Naming`] which hashes an open challenge names, among [`Hashes`], and
-//!   [`ExposingPlaces`] what exposes the node.
-//! - [`empty_tables`] makes the tables of no items. [`index`] puts the last of the items into them, for which [`promise_item`] made room:
-//!   promises add up, and each comes back by [`index`] or by [`release_item`].
-//! - [`gap_of`] and [`gap_of_kept`] look up where an item stands in the order of spellings, or would stand.
+//! - A [`Table`] is what is kept of one node. [`place_of`] finds it.
+//! - [`Row`] names a statement, and [`said_at`] lends it. [`Span`] names a segment. [`ExposingPlaces`] names what exposes the node.
+//! - [`Hashes`] has what is found by hashes: a [`Mark`] says where an entry's hash stands, and a [`Naming`] which hashes an open challenge
+//!   names.
+//! - [`empty_tables`] makes the tables of no items. [`index`] puts the last of the items into them, and [`promise_item`] makes room for it
+//!   before. Promises add up. Each ends with [`index`] or with [`release_item`].
+//! - [`gap_of`] and [`gap_of_kept`] look up where an item stands, or would stand, in the order of encodings.
 //!
-//! `specs/Indexed.antt` has what the tables of all nodes are of a list of items, `specs/Tables.antt` what the table of one node is,
-//! `specs/Hashed.antt` what is kept by hashes,
-//! `specs/Places.antt` the order of spellings, and `specs/Rooms.antt` what is promised.
+//! `specs/Indexed.antt` defines what the tables of all nodes have of a list of items. `specs/Tables.antt` defines the table of one node,
+//! `specs/Hashed.antt` what is kept by hashes, `specs/Places.antt` the order of encodings, and `specs/Rooms.antt` what is promised.
 #![tactic(auto)]
 
 pub use exposure::ExposingPlaces;

@@ -1,4 +1,4 @@
-//! Marks: where the hash of an entry stands. They are kept by the first eight bytes of their hashes, so that a search reads nothing else.
+//! Marks: where the hash of an entry stands. They are sorted by the first eight bytes of their hashes, and a search reads nothing else.
 
 ghost use Rattle.std.specs.Prelude.{◌≡◌, ◌↔◌, ◌⊎◌, ◌+◌, ◌<◌, ◌≤◌, ℕ, false, length, slice_index_or, true};
 ghost use Rattle.std.specs.List.{Contains, remove};
@@ -14,18 +14,18 @@ use std::cmp::Ordering;
 use std::ops::Range;
 use tiered_vec::{Probe, TieredVec};
 
-/// Where a hash stands: at a position of the item at a place.
+/// Where the hash of an entry stands: at a position of the item at a place.
 #[derive(Clone, Copy, Debug, Drop)]
 pub struct Mark {
     /// The first eight bytes of the hash.
     pub front: u64,
     /// The place of the item.
     pub item: u32,
-    /// The position in it.
+    /// The position of the entry in the item, counted from 0.
     pub position: u32,
 }
 
-/// The first eight bytes of a hash.
+/// Returns the first eight bytes of a hash.
 pub(crate) fn front_of(hash: Hash) -> u64
     ensures { result ≡ front_of hash }
 {
@@ -45,7 +45,7 @@ fn is_within(mark: &Mark, front: u64) -> bool
     mark.front <= front
 }
 
-/// Looks for the edge of those whose fronts are below this one.
+/// A search for the edge of the marks whose fronts are below this one.
 #[derive(Clone, Copy)]
 struct Under {
     front: u64,
@@ -59,7 +59,7 @@ impl Probe<Mark> for Under {
     }
 }
 
-/// Looks for the edge of those whose fronts are not above this one.
+/// A search for the edge of the marks whose fronts are at most this one.
 #[derive(Clone, Copy)]
 struct Within {
     front: u64,
@@ -73,7 +73,7 @@ impl Probe<Mark> for Within {
     }
 }
 
-/// The place of the first whose front is not below this one.
+/// Returns the place of the first mark whose front is not below this one.
 fn first_from(marks: &TieredVec<Mark>, front: u64) -> usize
     requires { DoNotFall marks.now.items }
     ensures inside { result ≤ length marks.now.items }
@@ -82,7 +82,7 @@ fn first_from(marks: &TieredVec<Mark>, front: u64) -> usize
     edge_at(marks.search(&Under { front }))
 }
 
-/// The place behind those whose fronts are not above this one.
+/// Returns the place behind the marks whose fronts are at most this one.
 fn behind(marks: &TieredVec<Mark>, front: u64) -> usize
     requires { DoNotFall marks.now.items }
     ensures inside { result ≤ length marks.now.items }
@@ -91,7 +91,7 @@ fn behind(marks: &TieredVec<Mark>, front: u64) -> usize
     edge_at(marks.search(&Within { front }))
 }
 
-/// Where those of the front stand, of whom there is seldom more than one hash.
+/// Returns where the marks with this front stand. They seldom have more than one hash.
 pub(crate) fn near(marks: &TieredVec<Mark>, front: u64) -> Range<usize>
     requires { DoNotFall marks.now.items }
     ensures inside { result.end ≤ length marks.now.items }
@@ -102,7 +102,7 @@ pub(crate) fn near(marks: &TieredVec<Mark>, front: u64) -> Range<usize>
     start..end
 }
 
-/// Puts one behind those of its front. There is room for it.
+/// Puts a mark behind those with its front. There is room for it.
 pub(crate) fn put(marks: &mut TieredVec<Mark>, mark: Mark)
     requires order { DoNotFall marks.old.items }
     requires room { 1 ≤ marks.old.room }
@@ -113,7 +113,7 @@ pub(crate) fn put(marks: &mut TieredVec<Mark>, mark: Mark)
     marks.insert(place, mark);
 }
 
-/// Takes away the one at a place.
+/// Takes away the mark at a place.
 pub(crate) fn take_away(marks: &mut TieredVec<Mark>, place: usize)
     requires order { DoNotFall marks.old.items }
     requires inside { place < length marks.old.items }
@@ -126,7 +126,7 @@ pub(crate) fn take_away(marks: &mut TieredVec<Mark>, place: usize)
     marks.remove(place);
 }
 
-/// Puts one behind those of its front, and tells whether there was memory for it.
+/// Puts a mark behind those with its front. It returns `false` if there is no memory for it.
 pub(crate) fn put_where_room(marks: &mut TieredVec<Mark>, mark: Mark) -> bool
     requires { DoNotFall marks.old.items }
     ensures order { DoNotFall marks.new.items }

@@ -1,5 +1,5 @@
-//! Namings: which hashes open audit challenges name. They are kept by the first eight bytes of the hash and of the other hash that the
-//! challenge names, so that a search reads nothing else.
+//! Namings: which hashes open audit challenges name. They are sorted by the first eight bytes of the hash and of the other hash that the
+//! challenge names. A search reads nothing else.
 
 ghost use Rattle.std.specs.Prelude.{◌≡◌, ◌↔◌, ◌⊎◌, ◌+◌, ◌<◌, ◌≤◌, ◌≢◌, ℕ, false, length, slice_index_or, true};
 ghost use Rattle.std.specs.List.{Contains, remove};
@@ -15,18 +15,18 @@ use std::cmp::Ordering;
 use std::ops::Range;
 use tiered_vec::{Probe, TieredVec};
 
-/// A hash that an open audit challenge names, beside the other one.
+/// A hash that an open audit challenge names, with the other hash that it names.
 #[derive(Clone, Copy, Debug, Drop)]
 pub struct Naming {
     /// The first eight bytes of the hash.
     pub front: u64,
-    /// Those of the other hash: where the challenge has no first entry, of the hash before a log's first entry.
+    /// The first eight bytes of the other hash. If the challenge names only one, this is the hash before a log's first entry.
     pub other: u64,
     /// The place of the challenge.
     pub item: u32,
 }
 
-/// What is looked for: the namings of a hash, or those of it beside one other hash alone, by the first eight bytes of each.
+/// What is looked for: the namings of a hash, or only those with one other hash. Each hash is given by its first eight bytes.
 #[derive(Clone, Copy, Debug)]
 pub(crate) struct Fronts {
     pub(crate) front: u64,
@@ -69,7 +69,7 @@ fn stands_up_to(naming: &Naming, fronts: Fronts) -> bool
     naming.front < fronts.front
 }
 
-/// Looks for the edge of those before what is looked for.
+/// A search for the edge of the namings before what is looked for.
 #[derive(Clone, Copy)]
 struct Before {
     fronts: Fronts,
@@ -83,7 +83,7 @@ impl Probe<Naming> for Before {
     }
 }
 
-/// Looks for the edge of those that are not behind it.
+/// A search for the edge of the namings that do not stand behind what is looked for.
 #[derive(Clone, Copy)]
 struct UpTo {
     fronts: Fronts,
@@ -97,7 +97,7 @@ impl Probe<Naming> for UpTo {
     }
 }
 
-/// The place of the first that does not stand before what is looked for.
+/// Returns the place of the first naming that does not stand before what is looked for.
 fn first_of(namings: &TieredVec<Naming>, fronts: Fronts) -> usize
     requires { StandByPairs namings.now.items }
     ensures inside { result ≤ length namings.now.items }
@@ -106,7 +106,7 @@ fn first_of(namings: &TieredVec<Naming>, fronts: Fronts) -> usize
     edge_at(namings.search(&Before { fronts }))
 }
 
-/// The place behind all that do not stand behind it.
+/// Returns the place of the first naming that stands behind what is looked for, or the end.
 fn behind(namings: &TieredVec<Naming>, fronts: Fronts) -> usize
     requires { StandByPairs namings.now.items }
     ensures inside { result ≤ length namings.now.items }
@@ -115,7 +115,7 @@ fn behind(namings: &TieredVec<Naming>, fronts: Fronts) -> usize
     edge_at(namings.search(&UpTo { fronts }))
 }
 
-/// Where those stand that are looked for.
+/// Returns where the namings stand that are looked for.
 pub(crate) fn places_of(namings: &TieredVec<Naming>, fronts: Fronts) -> Range<usize>
     requires { StandByPairs namings.now.items }
     ensures inside { result.end ≤ length namings.now.items }
@@ -126,7 +126,7 @@ pub(crate) fn places_of(namings: &TieredVec<Naming>, fronts: Fronts) -> Range<us
     start..end
 }
 
-/// Puts one behind those of its two hashes. There is room for it.
+/// Puts a naming behind those with its two hashes. There is room for it.
 fn put(namings: &mut TieredVec<Naming>, naming: Naming)
     requires order { StandByPairs namings.old.items }
     requires room { 1 ≤ namings.old.room }
@@ -141,7 +141,7 @@ fn put(namings: &mut TieredVec<Naming>, naming: Naming)
     namings.insert(place, naming);
 }
 
-/// Puts one behind those of its two hashes, and tells whether there was memory for it.
+/// Puts a naming behind those with its two hashes. It returns `false` if there is no memory for it.
 pub(crate) fn put_where_room(namings: &mut TieredVec<Naming>, naming: Naming) -> bool
     requires { StandByPairs namings.old.items }
     ensures order { StandByPairs namings.new.items }
@@ -155,7 +155,7 @@ pub(crate) fn put_where_room(namings: &mut TieredVec<Naming>, naming: Naming) ->
     true
 }
 
-/// Takes away the one at a place.
+/// Takes away the naming at a place.
 pub(crate) fn take_away(namings: &mut TieredVec<Naming>, place: usize)
     requires order { StandByPairs namings.old.items }
     requires inside { place < length namings.old.items }
@@ -167,7 +167,7 @@ pub(crate) fn take_away(namings: &mut TieredVec<Naming>, place: usize)
     namings.remove(place);
 }
 
-/// Looks for a naming among those of its two hashes, where they stand by their challenges.
+/// A search for a naming among those with its two hashes, which stand by their challenges.
 #[derive(Clone, Copy)]
 struct Itself {
     naming: Naming,
@@ -185,7 +185,7 @@ impl Probe<Naming> for Itself {
     }
 }
 
-/// Takes away a naming. It is looked up by binary search.
+/// Takes a naming away. It looks it up by binary search.
 pub(crate) fn unname(namings: &mut TieredVec<Naming>, naming: Naming)
     requires { StandByPairs namings.old.items }
     ensures order { StandByPairs namings.new.items }

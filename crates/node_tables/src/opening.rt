@@ -1,4 +1,4 @@
-//! Tables with nothing.
+//! Tables with nothing in them.
 
 ghost use Rattle.std.specs.Prelude.{◌≡◌, [], ℕ, IfOk, OnOk, length, true};
 ghost use Rattle.std.specs.List.Sorted.{IsBinarySearchResult, IsSearchInRange};
@@ -18,7 +18,7 @@ use outcome::Memory;
 use std::alloc::Global;
 use tiered_vec::TieredVec;
 
-/// A table with nothing.
+/// Returns a table with nothing in it.
 fn empty(alloc: Global, node: NodeId) -> Table
     ensures node { result.node ≡ node }
     ensures table { IsTable [] result }
@@ -44,7 +44,7 @@ fn search(tables: &[Table], node: NodeId) -> Result<usize, usize>
     tables.binary_search_by_key(&node, |table| table.node)
 }
 
-/// Puts an empty table for the node among the others, where it has none.
+/// Puts an empty table for the node among the others, if it has none.
 fn open(alloc: Global, tables: &mut Vec<Table>, node: NodeId) -> Result<(), Memory>
     requires ascending { AscendByNode tables.old.items }
     requires each { AllTables (IsTable []) tables.old.items }
@@ -65,7 +65,7 @@ fn open(alloc: Global, tables: &mut Vec<Table>, node: NodeId) -> Result<(), Memo
     }
 }
 
-/// An empty table for each node that is listed, ascending by node.
+/// Returns an empty table for each node that the directory lists, ascending by node.
 pub fn empty_tables(alloc: Global, directory: &Directory) -> Result<Vec<Table>, Memory>
     ensures ascending { IfOk result (λ tables. AscendByNode tables.items) }
     ensures listed { IfOk result (λ tables. (j : ℕ) → is_listed directory.now j ≡ true → HasNode tables.items j) }

@@ -1,4 +1,4 @@
-//! The order of the items' spellings, as places.
+//! The order of the items' encodings, as places.
 
 ghost use Rattle.std.specs.Prelude.{◌≡◌, IfErr, IfOk, slice_get};
 ghost use Rattle.item_forms.specs.Groups.{shown_group};
@@ -12,7 +12,7 @@ use kept_items::KeptItem;
 use std::cmp::Ordering;
 use tiered_vec::{Probe, TieredVec};
 
-/// How the item at a place compares with another.
+/// Returns how the item at a place compares with another.
 fn compare_at<P>(items: &[KeptItem<P>], place: u32, item: &Item) -> Ordering
     ensures { result ≡ item_order_by (slice_get items.now place) item.now }
 {
@@ -22,7 +22,7 @@ fn compare_at<P>(items: &[KeptItem<P>], place: u32, item: &Item) -> Ordering
     }
 }
 
-/// How the item at a place compares with another that is kept.
+/// Returns how the item at a place compares with another that is kept.
 fn compare_kept_at<P>(items: &[KeptItem<P>], place: u32, other: &KeptItem<P>) -> Ordering
     ensures { result ≡ item_order_by (slice_get items.now place) other.now.item }
 {
@@ -32,7 +32,7 @@ fn compare_kept_at<P>(items: &[KeptItem<P>], place: u32, other: &KeptItem<P>) ->
     }
 }
 
-/// Whether the item at a place stands before, in or behind the group.
+/// Returns whether the item at a place stands before the group, in it or behind it.
 fn compare_group_at<P>(items: &[KeptItem<P>], place: u32, group: &Group<'_>) -> Ordering
     ensures { result ≡ group_order_by (shown_group group.now) (slice_get items.now place) }
 {
@@ -42,7 +42,7 @@ fn compare_group_at<P>(items: &[KeptItem<P>], place: u32, group: &Group<'_>) -> 
     }
 }
 
-/// Looks for an item among places.
+/// A search for an item among places.
 #[derive_where(Clone, Copy)]
 struct ItemProbe<'a, P> {
     items: &'a [KeptItem<P>],
@@ -60,7 +60,7 @@ impl<'a, P> Probe<u32> for ItemProbe<'a, P> {
     }
 }
 
-/// Looks for an item that is kept elsewhere among places.
+/// A search among places for an item that is kept elsewhere.
 #[derive_where(Clone, Copy)]
 pub(crate) struct KeptProbe<'a, P> {
     pub items: &'a [KeptItem<P>],
@@ -78,7 +78,7 @@ impl<'a, P> Probe<u32> for KeptProbe<'a, P> {
     }
 }
 
-/// Looks for an item of a group among places.
+/// A search for an item of a group among places.
 #[derive_where(Clone, Copy)]
 pub(crate) struct GroupProbe<'a, P> {
     pub items: &'a [KeptItem<P>],
@@ -97,7 +97,8 @@ impl<'a, P> Probe<u32> for GroupProbe<'a, P> {
     }
 }
 
-/// Where the item stands in the order, or would stand.
+/// Looks up where the item stands in the order. Returns `Ok` with its place in the order if it is there, and else `Err` with the place
+/// where it would stand. It takes a binary search.
 pub fn gap_of<P>(items: &[KeptItem<P>], order: &TieredVec<u32>, item: &Item) -> Result<usize, usize>
     requires { IsOrder items.now order.now.items }
     ensures there { IfOk result (λ i. Keeps items.now item.now) }
@@ -106,7 +107,7 @@ pub fn gap_of<P>(items: &[KeptItem<P>], order: &TieredVec<u32>, item: &Item) -> 
     order.search(&ItemProbe { items, item })
 }
 
-/// The same of an item that is kept, here or elsewhere.
+/// Looks up the same as [`gap_of`], for an item that is kept, here or elsewhere.
 pub fn gap_of_kept<P>(
     items: &[KeptItem<P>],
     order: &TieredVec<u32>,

@@ -24,7 +24,7 @@ use kept_items::KeptItem;
 use std::cmp::Ordering;
 use tiered_vec::{Probe, TieredVec};
 
-/// How two messages stand by their senders, their receivers and their numbers.
+/// Compares two messages by their senders, their receivers and their numbers.
 fn compare(one: &Sending, other: &Sending) -> Ordering
     ensures { result ≡ by_sending one.now other.now }
 {
@@ -49,7 +49,7 @@ impl<'a> Probe<Sending> for Sought<'a> {
     }
 }
 
-/// Where the message stands among receipts, or would stand.
+/// Returns where the message stands among receipts, or would stand.
 fn gap_among(receipts: &TieredVec<Sending>, sending: &Sending) -> Result<usize, usize>
     ensures bound { IsSearchInRange result (length receipts.now.items) }
     ensures position { IsBinarySearchResult (λ x. by_sending x sending.now) receipts.now.items result }
@@ -57,7 +57,7 @@ fn gap_among(receipts: &TieredVec<Sending>, sending: &Sending) -> Result<usize, 
     receipts.search(&Sought { sending })
 }
 
-/// Whether the message is among receipts. It is looked up by binary search.
+/// Returns whether the message is among receipts. It takes a binary search.
 fn is_among(receipts: &TieredVec<Sending>, sending: &Sending) -> bool
     requires { AscendBySending receipts.now.items }
     ensures { IsTrue result ↔ Contains receipts.now.items sending.now }
@@ -65,8 +65,8 @@ fn is_among(receipts: &TieredVec<Sending>, sending: &Sending) -> bool
     gap_among(receipts, sending).is_ok()
 }
 
-/// Puts a message among receipts, where it is not there yet, and takes back that it was promised. Were there no memory for it, they would
-/// be kept no more.
+/// Puts a message among receipts, if it is not there yet, and takes back what was promised of it. If there is no memory for it, receipts
+/// are no longer kept.
 fn put(receipts: &mut ReceiptList, sending: Sending)
     requires { AscendBySending receipts.old.sendings.items }
     ensures ascending { AscendBySending receipts.new.sendings.items }
@@ -83,7 +83,7 @@ fn put(receipts: &mut ReceiptList, sending: Sending)
     receipts.sendings.insert(place, sending);
 }
 
-/// The message of which the entry at a position of a segment is the receipt.
+/// Returns the message of which the entry at a position of a segment is the receipt.
 fn receipt<P>(kept: &KeptItem<P>, position: u32) -> Option<Sending>
     ensures { result ≡ receipt_in kept.now.item.fields kept.now.findings position }
 {
@@ -96,7 +96,7 @@ fn receipt<P>(kept: &KeptItem<P>, position: u32) -> Option<Sending>
     }
 }
 
-/// How many receipts the statement at a position of an item is: one, where an entry of a segment quotes it.
+/// Returns how many receipts the statement at a position of an item is: 1 if an entry of a segment quotes it, and else 0.
 pub(crate) fn receipts_of<P>(kept: &KeptItem<P>, position: u32) -> usize {
     match receipt(kept, position) {
         None => 0,
@@ -104,7 +104,7 @@ pub(crate) fn receipts_of<P>(kept: &KeptItem<P>, position: u32) -> usize {
     }
 }
 
-/// The message of which the statement that a row names is the receipt.
+/// Returns the message of which the statement that a row names is the receipt.
 fn receipt_at<P>(items: &[KeptItem<P>], row: Row) -> Option<Sending>
     ensures { result ≡ receipt_at items.now row }
 {
@@ -114,7 +114,7 @@ fn receipt_at<P>(items: &[KeptItem<P>], row: Row) -> Option<Sending>
     }
 }
 
-/// Puts what the row's statement is a receipt of into the table of its node, if it is one, and takes back that it was promised.
+/// If the row's statement is a receipt, puts its message into the table of its node, and takes back what was promised of it.
 pub(crate) fn put_receipt<P>(items: &[KeptItem<P>], table: &mut Table, row: Row)
     requires told { IsTold items.now table.old }
     requires own { (a : Statement) → stated_at items.now row ≡ Some a → a.node ≡ table.old.node }
@@ -127,7 +127,7 @@ pub(crate) fn put_receipt<P>(items: &[KeptItem<P>], table: &mut Table, row: Row)
     }
 }
 
-/// What the message of a send challenge is told apart by.
+/// Returns what tells the message of a send challenge from others.
 fn sent<P>(challenge: &KeptItem<P>) -> Option<Sending>
     ensures { result ≡ sent challenge.now.item.fields }
 {
@@ -144,8 +144,8 @@ fn sent<P>(challenge: &KeptItem<P>) -> Option<Sending>
     }
 }
 
-/// Whether segments have a receipt of the message of a send challenge, by the table of its sender; nothing where that has none, or keeps
-/// none, or where the item is no send challenge.
+/// Returns whether segments have a receipt of the message of a send challenge, by the table of its sender. Returns `None` if the sender has
+/// no table, if that table keeps no receipts, or if the item is no send challenge.
 pub(crate) fn is_received<P>(
     items: &[KeptItem<P>],
     tables: &[Table],

@@ -1,4 +1,4 @@
-//! The messages of a node of which segments have receipts.
+//! The messages that a node sent and of which segments have receipts.
 
 ghost use Rattle.std.specs.Prelude.{◌≡◌, [], true};
 ghost use Rattle.node_tables.specs.Receipts.{AreSameReceipts};
@@ -8,20 +8,21 @@ use outcome::Memory;
 use std::alloc::Global;
 use tiered_vec::TieredVec;
 
-/// The messages of a node of which segments have receipts. Room is made for those that were promised, and for no other statement. Were
-/// memory refused that was promised, they would be kept no more, and segments looked through, as long as the store is.
+/// The messages that a node sent and of which segments have receipts. Room is made for receipts that were promised, and for no other
+/// statement. If memory is refused that was promised, receipts are no longer kept. Then segments are looked through, for the rest of the
+/// store's life.
 #[derive(Drop)]
 pub struct ReceiptList {
-    /// Whether they are kept.
+    /// Whether receipts are kept.
     pub whole: bool,
     /// Each message once, ascending by receiver and number.
     pub sendings: TieredVec<Sending>,
-    /// How many were promised room and did not come yet.
+    /// How many receipts were promised room and have not come yet.
     pub awaited: usize,
 }
 
 impl ReceiptList {
-    /// No messages. It takes no memory.
+    /// Returns a list of no messages. It takes no memory.
     pub(crate) fn new(alloc: Global) -> ReceiptList
         ensures whole { result.whole ≡ true }
         ensures sendings { result.sendings.items ≡ [] }
@@ -33,7 +34,7 @@ impl ReceiptList {
         }
     }
 
-    /// Promises so many more, and makes room for all that were promised. With `Memory` as many are promised as before.
+    /// Promises so many more, and makes room for all that were promised. If it returns `Memory`, as many are promised as before.
     pub(crate) fn promise(&mut self, more: usize) -> Result<(), Memory>
         ensures { AreSameReceipts self.old self.new }
     {

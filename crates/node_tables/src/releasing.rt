@@ -49,7 +49,7 @@ pub(crate) fn release_first<P>(tables: &mut [Table], kept: &KeptItem<P>, count: 
     }
 }
 
-/// How many entries the item has, where it is a segment.
+/// Returns how many entries the item has if it is a segment, and else 0.
 pub(crate) fn entries_of<P>(kept: &KeptItem<P>) -> usize {
     if kept.form().is_some() {
         return 0;
@@ -78,7 +78,7 @@ fn release_body<P>(tables: &mut [Table], kept: &KeptItem<P>)
     }
 }
 
-/// Takes back what was promised of the whole item, where it does not come.
+/// Takes back what was promised of the whole item. A caller calls it if the item will not come.
 pub fn release_item<P>(tables: &mut [Table], kept: &KeptItem<P>)
     requires { AscendByNode tables.old }
     ensures { EachBecomes (IsReleased kept.now) tables.old tables.new }

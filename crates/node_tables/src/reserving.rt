@@ -55,7 +55,7 @@ fn promise_at<P>(tables: &mut [Table], kept: &KeptItem<P>, position: u32) -> Res
     }
 }
 
-/// The same, or takes back what was promised of the statements before it.
+/// Promises the same. If that fails, it takes back what was promised of the statements before it.
 fn promise_or_release<P>(
     tables: &mut [Table],
     kept: &KeptItem<P>,
@@ -118,7 +118,7 @@ fn promise_body<P>(tables: &mut [Table], kept: &KeptItem<P>) -> Result<(), Memor
     promise_body_here(&mut tables[i], entries_of(kept))
 }
 
-/// The same, or takes back what was promised of the item's statements.
+/// Promises the same. If that fails, it takes back what was promised of the item's statements.
 fn promise_body_or_release<P>(tables: &mut [Table], kept: &KeptItem<P>) -> Result<(), Memory>
     requires { AscendByNode tables.old }
     ensures same { EachBecomes IsRoomier tables.old tables.new }
@@ -132,8 +132,8 @@ fn promise_body_or_release<P>(tables: &mut [Table], kept: &KeptItem<P>) -> Resul
     Err(memory)
 }
 
-/// Promises the tables the whole item: makes room for it, beside all that was promised before. With `Memory` as much is promised as
-/// before.
+/// Promises the whole item to the tables of its nodes, and makes room for it there, beside all that was promised before. If it returns
+/// `Memory`, as much is promised as before.
 pub fn promise_item<P>(tables: &mut [Table], kept: &KeptItem<P>) -> Result<(), Memory>
     requires { AscendByNode tables.old }
     ensures same { EachBecomes IsRoomier tables.old tables.new }

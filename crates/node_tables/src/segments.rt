@@ -101,7 +101,7 @@ fn edge_up_to<P>(items: &[KeptItem<P>], rows: &TieredVec<Row>, number: u64) -> u
     edge_at(rows.search(&UpTo { items, number }))
 }
 
-/// Where among the rows of a table those stand whose statements have the numbers from `low` up to `last`.
+/// Returns where among the rows of a table those stand whose statements have the numbers from `low` up to `last`.
 fn rows_between<P>(items: &[KeptItem<P>], table: &Table, low: u64, last: u64) -> Range<usize>
     requires { IsTold items.now table.now }
     ensures { AreBetween items.now table.now.rows.items low last result.start result.end }
@@ -121,7 +121,7 @@ fn denies_row<P>(items: &[KeptItem<P>], row: Row, kept: &KeptItem<P>) -> bool
     }
 }
 
-/// The row at the place, where its statement contradicts the item.
+/// Returns the row at the place, if its statement contradicts the item.
 fn denier_at<P>(
     items: &[KeptItem<P>],
     rows: &TieredVec<Row>,
@@ -155,7 +155,7 @@ fn number_at<P>(items: &[KeptItem<P>], rows: &TieredVec<Row>, place: usize) -> O
     }
 }
 
-/// The place behind the rows that have the number of the one at the place, or the end, where that has none.
+/// Returns the place behind the rows that have the number of the one at the place. If none stands there, it returns the end.
 fn behind_number<P>(items: &[KeptItem<P>], table: &Table, place: usize, end: usize) -> usize
     requires told { IsTold items.now table.now }
     requires inside { place < end }
@@ -170,8 +170,8 @@ fn behind_number<P>(items: &[KeptItem<P>], table: &Table, place: usize, end: usi
     }
 }
 
-/// The first of the rows from one place to another whose statement contradicts the item. Of those with one number, which have one hash,
-/// it looks at the first.
+/// Returns the first of the rows from one place to another whose statement contradicts the item. Rows with one number have one hash, so it
+/// looks only at the first of them.
 fn denier<P>(
     items: &[KeptItem<P>],
     table: &Table,
@@ -194,7 +194,7 @@ fn denier<P>(
     None
 }
 
-/// What exposes the node with the segment more, where nothing did without it. It looks at the statements that can contradict it.
+/// Returns what exposes the node once the segment comes, if nothing did before. It looks at the statements that can contradict it.
 fn brought_by_segment<P>(
     items: &[KeptItem<P>],
     table: &Table,
@@ -218,7 +218,7 @@ fn brought_by_segment<P>(
     }
 }
 
-/// What exposes the node with the segment more.
+/// Returns what exposes the node once the segment comes.
 fn exposure_with<P>(
     items: &[KeptItem<P>],
     table: &Table,

@@ -1,4 +1,4 @@
-//! Send challenges of one sender, receiver and number, which stand together among challenges and are answered together.
+//! Send challenges with one sender, receiver and number. They stand together among challenges, and are answered together.
 
 ghost use Rattle.std.specs.Prelude.{◌≡◌, ◌≤◌, length, not, slice_get, true, false};
 ghost use Rattle.std.specs.List.{filter, remove_range};
@@ -15,7 +15,7 @@ use std::cmp::Ordering;
 use std::ops::Range;
 use tiered_vec::{Probe, TieredVec};
 
-/// What messages are told apart by.
+/// What tells one message from another.
 #[derive(Clone, Copy, Debug, Drop)]
 pub struct Sending {
     /// The sender.
@@ -37,7 +37,7 @@ fn compare_message(message: &Message, sending: &Sending) -> Ordering
         .then_with(|| message.seq.cmp(&sending.seq))
 }
 
-/// Whether an item stands before, in or behind the send challenges of the sending.
+/// Returns whether an item stands before the send challenges of the sending, among them, or behind them.
 fn compare_sending<P>(kept: &KeptItem<P>, sending: &Sending) -> Ordering
     ensures { result ≡ sending_cmp sending.now kept.now.item.fields }
 {
@@ -51,7 +51,7 @@ fn compare_sending<P>(kept: &KeptItem<P>, sending: &Sending) -> Ordering
     }
 }
 
-/// The same of the item at a place.
+/// Returns the same for the item at a place.
 fn compare_at<P>(items: &[KeptItem<P>], place: u32, sending: &Sending) -> Ordering
     ensures { result ≡ sending_order_by sending.now (slice_get items.now place) }
 {
@@ -73,7 +73,7 @@ fn is_up_to<P>(items: &[KeptItem<P>], place: u32, sending: &Sending) -> bool
     compare_at(items, place, sending).is_le()
 }
 
-/// Looks for the edge of the places whose items stand before the send challenges of the sending.
+/// A search for the edge of the places whose items stand before the send challenges of the sending.
 #[derive_where(Clone, Copy)]
 struct Before<'a, P> {
     items: &'a [KeptItem<P>],
@@ -88,7 +88,7 @@ impl<'a, P> Probe<u32> for Before<'a, P> {
     }
 }
 
-/// Looks for the edge of the places whose items do not stand behind them.
+/// A search for the edge of the places whose items do not stand behind them.
 #[derive_where(Clone, Copy)]
 struct UpTo<'a, P> {
     items: &'a [KeptItem<P>],
@@ -103,7 +103,7 @@ impl<'a, P> Probe<u32> for UpTo<'a, P> {
     }
 }
 
-/// The edge of the places whose items stand before the send challenges of the sending.
+/// Returns the edge of the places whose items stand before the send challenges of the sending.
 fn edge_before<P>(items: &[KeptItem<P>], places: &TieredVec<u32>, sending: &Sending) -> usize
     requires { AscendBySpelling items.now places.now.items }
     ensures inside { result ≤ length places.now.items }
@@ -112,7 +112,7 @@ fn edge_before<P>(items: &[KeptItem<P>], places: &TieredVec<u32>, sending: &Send
     edge_at(places.search(&Before { items, sending }))
 }
 
-/// The edge of the places whose items do not stand behind them.
+/// Returns the edge of the places whose items do not stand behind them.
 fn edge_up_to<P>(items: &[KeptItem<P>], places: &TieredVec<u32>, sending: &Sending) -> usize
     requires { AscendBySpelling items.now places.now.items }
     ensures inside { result ≤ length places.now.items }
@@ -121,7 +121,7 @@ fn edge_up_to<P>(items: &[KeptItem<P>], places: &TieredVec<u32>, sending: &Sendi
     edge_at(places.search(&UpTo { items, sending }))
 }
 
-/// Where the send challenges of the sending stand among places that ascend by spelling. They are looked up by binary search.
+/// Returns where the send challenges of the sending stand among places that ascend by encoding. It takes binary searches.
 fn places_of<P>(items: &[KeptItem<P>], places: &TieredVec<u32>, sending: &Sending) -> Range<usize>
     requires { AscendBySpelling items.now places.now.items }
     ensures order { result.start ≤ result.end }

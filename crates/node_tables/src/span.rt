@@ -1,12 +1,12 @@
 //! Segments by their numbers.
 
-/// The place of a segment, with the least and the greatest number of statements that can contradict it.
+/// The place of a segment, with bounds of the numbers of the statements that can contradict it.
 #[derive(Clone, Copy, Debug, Drop)]
 pub struct Span {
     /// The place of the segment.
     pub item: u32,
-    /// The least number.
+    /// The segment's low number. A statement that contradicts it has a number of at least `low - 2`.
     pub low: u64,
-    /// The greatest number.
+    /// The segment's last number. A statement that contradicts it has a number of at most `last`.
     pub last: u64,
 }

@@ -12,11 +12,11 @@ use outcome::Memory;
 use std::alloc::Global;
 use std::marker::Model;
 
-/// Segments in runs, one behind the other. Each run is longer than the next, and has its segments by their least numbers: of n there are
-/// log n runs at most, and one segment more joins the last ones that are as long as what stands behind them, as a binary counter
-/// carries. Beside each segment stand the bounds of it and of those before it in its run, as far as a look that goes back can pass over
-/// them. So a put costs O(log^2 n) amortised, and a look O(log^2 n) for each segment that it finds, in whatever order they came. A
-/// contract sees the segments, and for how many more room was made.
+/// Segments in runs, one behind the other. Each run is longer than the next, and has its segments sorted by `low`. So n segments make at
+/// most log n runs. A new segment joins the last runs that are as long as what stands behind them, as a binary counter carries. Beside each
+/// segment stand the bounds of it and of those before it in its run, as far as a search that goes back can pass over them. So a put costs
+/// O(log^2 n) amortised. A search costs O(log^2 n) for each segment that it finds, in whatever order the segments came. A contract sees the
+/// segments, and for how many more there is room.
 #[derive(Drop)]
 pub struct SpanList {
     spans: Vec<Span>,
@@ -37,7 +37,7 @@ impl Model for SpanList {
 }
 
 impl SpanList {
-    /// No segments. It takes no memory.
+    /// Returns a list of no segments. It takes no memory.
     pub(crate) fn new(alloc: Global) -> SpanList
         ensures { result.items ≡ [] }
     {
@@ -47,7 +47,7 @@ impl SpanList {
         }
     }
 
-    /// All of them, in no order.
+    /// Returns all segments, in no order.
     pub(crate) fn as_slice(&self) -> &[Span]
         ensures { result.now ≡ self.now.items }
     {
@@ -65,7 +65,7 @@ impl SpanList {
         Ok(())
     }
 
-    /// Puts one. There is room for it.
+    /// Puts a segment. There is room for it.
     pub(crate) fn put(&mut self, span: Span)
         requires { 1 ≤ self.old.room }
         ensures members { (q : TheSpan) → Contains self.new.items q ↔ (Contains self.old.items q ⊎ (q ≡ span)) }
@@ -74,7 +74,7 @@ impl SpanList {
         put(&mut self.spans, &mut self.bounds, span);
     }
 
-    /// The place of the last one before a place from whose least number to whose greatest both numbers lie.
+    /// Returns the place of the last segment before a place whose `low` is at most `from` and whose `last` is at least `to`.
     pub(crate) fn around(&self, from: u64, to: u64, before: usize) -> Option<usize>
         requires { before ≤ length self.now.items }
         ensures none { IfNone result (NoneIsAround from to self.now.items 0 before) }
@@ -84,7 +84,7 @@ impl SpanList {
     }
 }
 
-/// Whether both numbers lie from the least number of the segment to its greatest.
+/// Returns whether the segment's `low` is at most `from` and its `last` at least `to`.
 fn is_around(span: &Span, from: u64, to: u64) -> bool
     ensures yes { result ≡ true → IsAround from to span.now }
     ensures no { result ≡ false → IsAround from to span.now → ⊥ }
@@ -92,8 +92,8 @@ fn is_around(span: &Span, from: u64, to: u64) -> bool
     span.low <= from && to <= span.last
 }
 
-/// How many segments can be passed over that stand up to some place: all that the bounds are of, if none of these can be around the
-/// numbers, and else the one at the place.
+/// Returns how many segments up to some place can be passed over. These are all that the bounds are of, if none of them can be around the
+/// numbers. Else it is only the one at the place.
 fn passed(bounds: &Bounds, from: u64, to: u64) -> usize
     requires { 1 ≤ bounds.now.count }
     ensures some { 1 ≤ result }
@@ -106,7 +106,7 @@ fn passed(bounds: &Bounds, from: u64, to: u64) -> usize
     bounds.count
 }
 
-/// The place of the last segment before a place from whose least number to whose greatest both numbers lie.
+/// Returns the place of the last segment before a place whose `low` is at most `from` and whose `last` is at least `to`.
 fn last_around(
     spans: &[Span],
     bounds: &[Bounds],
@@ -129,7 +129,7 @@ fn last_around(
     None
 }
 
-/// Sorts the segments from a place on by their least numbers.
+/// Sorts the segments from a place on by `low`.
 fn sort_from(spans: &mut [Span], start: usize)
     requires { start ≤ length spans.old }
     ensures before { take start spans.new ≡ take start spans.old }
@@ -138,7 +138,7 @@ fn sort_from(spans: &mut [Span], start: usize)
     spans[start..].sort_unstable_by_key(|span| span.low);
 }
 
-/// Puts a segment behind the others, lays the last run anew, and writes its bounds. There is room for it.
+/// Puts a segment behind the others, sorts the last run again, and writes its bounds. There is room for it.
 fn put(spans: &mut Vec<Span>, bounds: &mut Vec<Bounds>, span: Span)
     requires bounded { AreBounded spans.old.items bounds.old.items }
     requires room { vec_len spans.old < vec_capacity spans.old }

@@ -13,20 +13,20 @@ use tiered_vec::TieredVec;
 pub struct Table {
     /// The node.
     pub node: NodeId,
-    /// Its statements, ascending by number, hash and signature.
+    /// The node's statements, ascending by number, hash and signature.
     pub rows: TieredVec<Row>,
-    /// The messages of it of which segments have receipts.
+    /// The messages that the node sent and of which segments have receipts.
     pub receipts: ReceiptList,
-    /// Its segments, by their least numbers.
+    /// The node's segments, by their numbers.
     pub spans: SpanList,
-    /// The places of the challenges against it that nothing answers, ascending by their spellings.
+    /// The places of the challenges against the node that nothing answers, ascending by their encodings.
     pub unanswered: TieredVec<u32>,
-    /// The entries of its segments, and the audit challenges among those, by hashes.
+    /// The entries of the node's segments, and its unanswered audit challenges, by hashes.
     pub hashes: Hashes,
-    /// What exposes it, if something does.
+    /// What exposes the node, if something does.
     pub exposure: Option<ExposingPlaces>,
-    /// How many statements were promised room and did not come yet.
+    /// How many statements were promised room and have not come yet.
     pub promised: usize,
-    /// How many segments or challenges were promised room and did not come yet.
+    /// How many segments, challenges or acknowledgements were promised room and have not come yet.
     pub bodies: usize,
 }

@@ -15,7 +15,7 @@ use crate::telling::put_statement;
 use authenticators::NodeId;
 use kept_items::KeptItem;
 
-/// The place of the node's table. It is looked up by binary search.
+/// Returns the place of the node's table, or `None` if the node has none. It takes a binary search.
 pub fn place_of(tables: &[Table], node: NodeId) -> Option<usize>
     requires { AscendByNode tables.now }
     ensures none { IfNone result ((t : TheTable) → Contains tables.now t → t.node ≢ node) }
@@ -25,7 +25,7 @@ pub fn place_of(tables: &[Table], node: NodeId) -> Option<usize>
     tables.binary_search_by_key(&node, |table| table.node).ok()
 }
 
-/// Puts the statement that a row names into the table of its node, for which there is room, and takes back that it was promised.
+/// Puts the statement that a row names into the table of its node, and takes back what was promised of it. There is room for it.
 fn put<P>(items: &[KeptItem<P>], tables: &mut [Table], row: Row)
     requires ascending { AscendByNode tables.old }
     requires told { AllTables (IsTold items.now) tables.old }
@@ -41,8 +41,8 @@ fn put<P>(items: &[KeptItem<P>], tables: &mut [Table], row: Row)
     }
 }
 
-/// Puts the statements of the item at a place, of which there are at most so many, into the tables of their nodes, for which there
-/// is room, and takes back that they were promised.
+/// Puts the statements of the item at a place into the tables of their nodes, and takes back what was promised of them. They are at most
+/// `count`, and there is room for them.
 pub(crate) fn put_statements<P>(items: &[KeptItem<P>], tables: &mut [Table], item: u32, count: u32)
     requires ascending { AscendByNode tables.old }
     requires told { AllTables (IsTold items.now) tables.old }

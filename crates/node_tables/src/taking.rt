@@ -261,8 +261,9 @@ fn count_namings(hashes: &Hashes, front: u64) -> usize
     last_count.saturating_add(firsts.end.saturating_sub(firsts.start))
 }
 
-/// Takes away what names the entry at a mark beside one of so many first entries of its segment, or beside the hash before them, as far
-/// as the segment answers it. It looks at all that names the entry, or for each of the others at what names both: at the fewer.
+/// Of the challenges that name the entry at a mark beside one of so many first entries of its segment, or beside the hash before them, it
+/// takes away those that the segment answers. It looks either at all that name the entry, or, for each of the other entries, at those that
+/// name both: at the fewer.
 pub(crate) fn take_new<P>(
     items: &[KeptItem<P>],
     places: &mut TieredVec<u32>,

@@ -35,7 +35,7 @@ impl<'a, P> Probe<Row> for Sought<'a, P> {
     }
 }
 
-/// Where the statement stands among the rows, or would stand.
+/// Returns where the statement stands among the rows, or would stand.
 fn place_of<P>(
     items: &[KeptItem<P>],
     rows: &TieredVec<Row>,
@@ -47,7 +47,7 @@ fn place_of<P>(
     rows.search(&Sought { items, said })
 }
 
-/// What exposes the node with a statement more, whose place among the rows is given.
+/// Returns what exposes the node once a statement comes. The statement's place among the rows is given.
 fn exposure_with<P>(
     items: &[KeptItem<P>],
     table: &Table,
@@ -66,8 +66,7 @@ fn exposure_with<P>(
     }
 }
 
-/// Puts the statement that a row names into the table of its node, where it is not there yet, and keeps what it brings. There is room
-/// for it.
+/// Puts the statement that a row names into the table of its node, if it is not there yet, and keeps what it brings. There is room for it.
 fn put_row<P>(items: &[KeptItem<P>], table: &mut Table, row: Row)
     requires told { IsTold items.now table.old }
     requires own { (a : Statement) → stated_at items.now row ≡ Some a → a.node ≡ table.old.node }
@@ -87,8 +86,8 @@ fn put_row<P>(items: &[KeptItem<P>], table: &mut Table, row: Row)
     table.rows.insert(place, row);
 }
 
-/// Puts the statement that a row names into the table of its node, where it is not there yet, keeps what it brings and of what it is a
-/// receipt, and takes back that it was promised. There is room for it.
+/// Puts the statement that a row names into the table of its node, if it is not there yet. It keeps what the statement brings, and of what
+/// message it is a receipt. It takes back what was promised of it. There is room for it.
 pub(crate) fn put_statement<P>(items: &[KeptItem<P>], table: &mut Table, row: Row)
     requires told { IsTold items.now table.old }
     requires own { (a : Statement) → stated_at items.now row ≡ Some a → a.node ≡ table.old.node }

@@ -1,4 +1,4 @@
-//! Proofs of a fault, made of what is kept.
+//! Proofs against a node, made from what is kept.
 
 ghost use Rattle.std.specs.Prelude.{◌↔◌, IfOk, IfSome, IsSome};
 ghost use Rattle.proofs.specs.Convicting.{Convicts};
@@ -17,7 +17,7 @@ use replay_verifier::Program;
 use replay_verifier::laws::deviating_lists_do_not_conform;
 use std::alloc::Global;
 
-/// A proof that convicts the node, where the items expose it.
+/// Returns a proof that convicts the node, or `None` if the items do not expose it.
 pub(crate) fn proof<P: Program>(
     alloc: Global,
     directory: &Directory,

@@ -12,7 +12,7 @@ use evidence_item::Checked;
 use item_forms::Group;
 use kept_evidence::{Denial, Exposure, deviating, first_denial};
 
-/// A statement of the node and a segment of it that are not of one log, where there are such.
+/// Returns a statement of the node and a segment of it that are not of one log, if there are such.
 fn denial_of<'a, P>(
     held: &'a AuthenticatorStore,
     kept: &'a [Checked<P>],
@@ -26,7 +26,7 @@ fn denial_of<'a, P>(
     first_denial(held.of_node(node), group_of(kept, &Group::Segments(node)))
 }
 
-/// A segment of the node that deviates, where there is one.
+/// Returns a segment of the node that deviates, if there is one.
 fn deviation_of<P>(kept: &[Checked<P>], node: NodeId) -> Option<&Checked<P>>
     requires { IsAscending kept.now }
     ensures none { IfNone result (DeviatesNowhere node kept.now) }
@@ -35,7 +35,7 @@ fn deviation_of<P>(kept: &[Checked<P>], node: NodeId) -> Option<&Checked<P>>
     deviating(group_of(kept, &Group::Segments(node)))
 }
 
-/// What exposes the node, where something does. It takes no memory.
+/// Returns what exposes the node, or `None` if nothing does. It takes no memory.
 pub(crate) fn exposure_of<'a, P>(
     held: &'a AuthenticatorStore,
     kept: &'a [Checked<P>],

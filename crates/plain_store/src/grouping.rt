@@ -6,7 +6,7 @@ ghost use Rattle.kept_evidence.specs.Kept.{IsAscending, IsGroupOf};
 use evidence_item::Checked;
 use item_forms::Group;
 
-/// The items of the group, which stand beside each other, in their order. It takes no memory.
+/// Returns the items of the group, which are consecutive, in their order. It takes no memory.
 pub(crate) fn group_of<'a, P>(kept: &'a [Checked<P>], group: &Group<'_>) -> &'a [Checked<P>]
     requires { IsAscending kept.now }
     ensures members { IsGroupOf (shown_group group.now) kept.now result.now }

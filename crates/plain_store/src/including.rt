@@ -9,7 +9,7 @@ ghost use Rattle.kept_evidence.specs.Kept.{IsAscending, is_kept};
 use crate::placing::keeps;
 use evidence_item::Checked;
 
-/// Whether each of the other items is kept, each looked up once.
+/// Returns whether each of the other items is kept. It looks each up once.
 fn keeps_each<P>(kept: &[Checked<P>], others: &[Checked<P>]) -> bool
     requires { IsAscending kept.now }
     ensures { result ≡ list_all (λ (c : TheChecked). is_kept kept.now c.item) others.now }
@@ -22,7 +22,7 @@ fn keeps_each<P>(kept: &[Checked<P>], others: &[Checked<P>]) -> bool
     true
 }
 
-/// Whether the set of the other items is within that of these. It takes no memory.
+/// Returns whether the set of the other items is within that of these. It takes no memory.
 pub(crate) fn includes<P>(kept: &[Checked<P>], others: &[Checked<P>]) -> bool
     requires { IsAscending kept.now }
     ensures { IsTrue result ↔ IsWithin (set_of others.now) (set_of kept.now) }

@@ -13,7 +13,7 @@ use evidence_set::Indication;
 use replay_verifier::Program;
 use replay_verifier::laws::deviating_lists_do_not_conform;
 
-/// Whether the items expose the node.
+/// Returns whether the items expose the node.
 fn is_exposed<P: Program>(
     directory: &Directory,
     kept: &[Checked<P>],
@@ -27,15 +27,19 @@ fn is_exposed<P: Program>(
     exposure_of(held, kept, node).is_some()
 }
 
-/// Whether a challenge against the node is open.
-fn is_suspected<P: Program>(directory: &Directory, kept: &[Checked<P>], node: NodeId) -> bool
+/// Returns whether a challenge against the node is open.
+pub(crate) fn is_suspected<P: Program>(
+    directory: &Directory,
+    kept: &[Checked<P>],
+    node: NodeId,
+) -> bool
     requires { AreKept directory.now P.means kept.now }
     ensures { IsTrue result ↔ SomeItem (set_of kept.now) (IsUnanswered directory.now (set_of kept.now) node) }
 {
     suspicion::is_suspected(kept, node)
 }
 
-/// What the items say of the node. It verifies no signature, hashes no content, and takes no memory.
+/// Returns what the items say of the node. It verifies no signature, hashes no content, and takes no memory.
 pub(crate) fn indication<P: Program>(
     directory: &Directory,
     kept: &[Checked<P>],

@@ -1,4 +1,4 @@
-//! Two lists of checked items made one.
+//! Joining two lists of checked items.
 
 ghost use Rattle.std.specs.Prelude.{◌≡◌, ◌+◌, ◌≤◌, ◌↔◌, ◌⊎◌, Contains, IfOk, length, not, vec_capacity, vec_len};
 ghost use Rattle.std.specs.List.{filter};
@@ -12,7 +12,7 @@ use evidence_item::Checked;
 use outcome::Memory;
 use std::alloc::Global;
 
-/// Takes away the items that are kept already.
+/// Removes the items that are kept already.
 pub(crate) fn drop_kept<P>(kept: &[Checked<P>], more: &mut Vec<Checked<P>>)
     requires { IsAscending kept.now }
     ensures { more.new.items ≡ filter (λ (c : TheChecked). not (is_kept kept.now c.item)) more.old.items }
@@ -24,7 +24,7 @@ pub(crate) fn drop_kept<P>(kept: &[Checked<P>], more: &mut Vec<Checked<P>>)
     );
 }
 
-/// Copies of the items that are not kept.
+/// Returns copies of the items that are not kept.
 pub(crate) fn copies_of_missing<P>(
     alloc: Global,
     kept: &[Checked<P>],
@@ -42,8 +42,8 @@ pub(crate) fn copies_of_missing<P>(
     Ok(copies)
 }
 
-/// Sorts the items. Two lists that ascend, one behind the other, it joins in linear time, by way of a buffer as long as both; where there
-/// is no memory for the buffer, it sorts them in place.
+/// Sorts the items. If they are two ascending lists, one behind the other, it joins these in linear time, with a buffer as long
+/// as both. If there is no memory for the buffer, it sorts them in place.
 fn sort<P>(items: &mut Vec<Checked<P>>)
     ensures permutation { IsPermutation items.old.items items.new.items }
     ensures len { vec_len items.new ≡ vec_len items.old }
@@ -54,7 +54,7 @@ fn sort<P>(items: &mut Vec<Checked<P>>)
     }
 }
 
-/// Puts more items, none of which is kept, into their places. There is room for all of them.
+/// Puts more items into their places. None of them is kept, and there is room for all of them.
 pub(crate) fn join<P>(kept: &mut Vec<Checked<P>>, mut more: Vec<Checked<P>>)
     requires room { vec_len kept.old + vec_len more ≤ vec_capacity kept.old }
     requires kept { IsAscending kept.old.items }

@@ -1,8 +1,8 @@
-//! The plain store of evidence. [`PlainStore`] keeps the items in one list in their order, and beside them the statements that they
-//! hold, so that a question about a node verifies no signature and hashes no content.
+//! The plain store of evidence. [`PlainStore`] keeps its items in one list in their order, and beside them the statements that
+//! they hold. So a question about a node verifies no signature and hashes no content.
 //!
-//! Its contract is that of the trait `Evidence`. What it asks of single items is in `kept_evidence`, with the words for lists of
-//! them.
+//! Its contract is that of the trait `Evidence`. `kept_evidence` has what the store asks of single items, and the definitions
+//! for lists of them.
 #![tactic(auto)]
 
 pub use plain_store::PlainStore;
@@ -13,6 +13,7 @@ mod grouping;
 mod including;
 mod indicating;
 mod joining;
+mod knowing;
 mod listing;
 mod merging;
 mod opening;

@@ -17,7 +17,7 @@ use outcome::Memory;
 use replay_verifier::Program;
 use std::alloc::Global;
 
-/// The statements of all of the items, one item after the other.
+/// Returns the statements of all of the items, one item after the other.
 fn statements_of_each<P>(alloc: Global, items: &[Checked<P>]) -> Result<Vec<Authenticator>, Memory>
     ensures { IfOk result (λ all. all.items ≡ flat_map (λ (c : TheChecked). told_statements c.item.fields c.findings) items.now) }
 {
@@ -28,7 +28,7 @@ fn statements_of_each<P>(alloc: Global, items: &[Checked<P>]) -> Result<Vec<Auth
     Ok(statements)
 }
 
-/// Adds items, none of which is kept: all of them, or, with `Memory`, none.
+/// Adds all of the items, none of which is kept. If memory runs out, it reports `Memory` and adds none.
 pub(crate) fn add_all<P: Program>(
     alloc: Global,
     directory: &Directory,
@@ -51,7 +51,8 @@ pub(crate) fn add_all<P: Program>(
     Ok(())
 }
 
-/// Adds copies of the items that are not kept yet, and answers how many: all of them, or, with `Memory`, none.
+/// Adds copies of all items that are not kept yet, and returns how many they are. If memory runs out, it reports `Memory` and
+/// adds none.
 pub(crate) fn merge<P: Program>(
     alloc: Global,
     directory: &Directory,
@@ -72,7 +73,8 @@ pub(crate) fn merge<P: Program>(
     Ok(new)
 }
 
-/// Adds items that ascend, and answers how many are new: all of them, or, with `Memory`, none.
+/// Adds all of the items, which ascend, and returns how many of them are new. If memory runs out, it reports `Memory` and adds
+/// none.
 pub(crate) fn take_all<P: Program>(
     alloc: Global,
     directory: &Directory,

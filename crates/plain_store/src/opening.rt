@@ -19,7 +19,7 @@ use outcome::Memory;
 use replay_verifier::Program;
 use std::alloc::Global;
 
-/// Those of the items that are challenges against the node and that no item that is kept answers, in their order.
+/// Returns those of the items that are challenges against the node and that no kept item answers, in their order.
 fn unanswered_of<'a, P>(
     alloc: Global,
     kept: &[Checked<P>],
@@ -40,8 +40,8 @@ fn unanswered_of<'a, P>(
     Ok(found)
 }
 
-/// The challenges against the node that no item answers, in the order of the items' spellings: audit challenges stand before send
-/// challenges.
+/// Returns the challenges against the node that no item answers, in the order of their encodings: audit challenges come before
+/// send challenges.
 pub(crate) fn open_challenges<'a, P: Program>(
     alloc: Global,
     directory: &Directory,

@@ -7,7 +7,8 @@ ghost use Rattle.kept_evidence.specs.Kept.{IsAscending, IsPlaceOf, Keeps, is_kep
 
 use evidence_item::{Checked, Item};
 
-/// Where the item stands in the list, or would stand. It takes no memory.
+/// Finds the place of the item in the list: `Ok` if the item is in it, `Err` with the place where it would be if not. It takes
+/// no memory.
 pub(crate) fn place_of<P>(kept: &[Checked<P>], item: &Item) -> Result<usize, usize>
     requires { IsAscending kept.now }
     ensures there { IfOk result (λ i. Keeps kept.now item.now) }
@@ -16,7 +17,7 @@ pub(crate) fn place_of<P>(kept: &[Checked<P>], item: &Item) -> Result<usize, usi
     kept.binary_search_by(|c| c.item().cmp(item))
 }
 
-/// Whether the item stands in the list.
+/// Returns whether the item is in the list.
 pub(crate) fn keeps<P>(kept: &[Checked<P>], item: &Item) -> bool
     requires { IsAscending kept.now }
     ensures { result ≡ is_kept kept.now item.now }
@@ -24,7 +25,7 @@ pub(crate) fn keeps<P>(kept: &[Checked<P>], item: &Item) -> bool
     place_of(kept, item).is_ok()
 }
 
-/// Whether the set has the item.
+/// Returns whether the set has the item.
 pub(crate) fn holds<P>(kept: &[Checked<P>], item: &Item) -> bool
     requires { IsAscending kept.now }
     ensures { result ≡ contains (set_of kept.now) item.now }
@@ -32,7 +33,7 @@ pub(crate) fn holds<P>(kept: &[Checked<P>], item: &Item) -> bool
     keeps(kept, item)
 }
 
-/// Puts a checked item in its place, for which there is room.
+/// Puts a checked item into its place. There is room for it.
 pub(crate) fn put<P>(kept: &mut Vec<Checked<P>>, place: usize, checked: Checked<P>)
     requires ascending { IsAscending kept.old.items }
     requires place { IsPlaceOf checked.item kept.old.items place }

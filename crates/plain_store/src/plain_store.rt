@@ -11,25 +11,29 @@ ghost use Rattle.evidence.specs.Contents.{with_items};
 use crate::convicting::proof;
 use crate::including::includes;
 use crate::indicating::indication;
-use crate::listing::{count, digest_at, export, item_at};
+use crate::knowing::knows;
+use crate::listing::{count, digest_at, export, export_to, item_at};
 use crate::merging::{merge, take_all};
 use crate::opening::open_challenges;
 use crate::placing::holds;
 use crate::taking::take;
 use authenticators::{AuthenticatorStore, Directory, NodeId};
-use evidence::{AskFault, Evidence, NewStoreRefused, TakeRefused, UnknownNode};
+use evidence::{AskFault, Evidence, NewStoreRefused, TakeRefused, UnknownNode, WriteFault};
 use evidence_item::{Checked, Hash, Item};
 use evidence_set::Indication;
 use outcome::Memory;
 use proofs::Proof;
 use replay_verifier::Program;
 use std::alloc::Global;
+use std::io;
 use std::marker::Model;
 
-/// A store that keeps its items in one list, ascending by their spellings, each with its verdict and with what checking found of
-/// it, and beside them the set of the statements that they hold. A contract sees the directory and the set of the items.
+/// A store that keeps its items in one list, ascending by their encodings. It keeps each item with its verdict and with what
+/// checking found of it. Beside the list it keeps the set of the statements that the items hold. A contract sees the directory
+/// and the set of the items.
 ///
-/// A question looks at what is kept of the node alone: at its statements, its segments and the challenges against it.
+/// A question looks only at the node's statements and segments, at the audit challenges against it, at all send challenges, and at
+/// the acknowledgements of their messages.
 #[derive(Drop)]
 pub struct PlainStore<P: Program> {
     alloc: Global,
@@ -56,7 +60,7 @@ impl<P: Program> Model for PlainStore<P> {
 impl<P: Program> Evidence<P> for PlainStore<P> {
     ghost contents = { λ s. s };
 
-    /// It takes no memory.
+    /// Creates a store without items. It takes no memory, and is never refused.
     fn new(alloc: Global, directory: Directory) -> Result<PlainStore<P>, NewStoreRefused> {
         Ok(PlainStore {
             alloc,
@@ -86,6 +90,8 @@ impl<P: Program> Evidence<P> for PlainStore<P> {
         holds(&self.items, item)
     }
 
+    /// Adds an item, as [`Evidence::take`] says. It finds the item's place by binary search, and moves all items that come
+    /// after it.
     fn take(&mut self, checked: Checked<P>) -> Result<bool, TakeRefused<P>>
         requires { IsChecked self.old.directory P.means checked }
         ensures told { IfOk result (λ new. new ≡ not (contains self.old.items checked.item)) }
@@ -120,6 +126,10 @@ impl<P: Program> Evidence<P> for PlainStore<P> {
         Ok(indication(&self.directory, &self.items, &self.statements, node))
     }
 
+    fn knows(&self, node: NodeId) -> bool {
+        knows(&self.directory, &self.items, &self.statements, node)
+    }
+
     fn includes(&self, other: &PlainStore<P>) -> bool {
         includes(&self.items, &other.items)
     }
@@ -150,10 +160,16 @@ impl<P: Program> Evidence<P> for PlainStore<P> {
         export(self.alloc, &self.items)
     }
 
+    fn export_to<W: io::Write>(&self, writer: &mut W) -> Result<(), WriteFault> {
+        export_to(self.alloc, &self.items, writer)
+    }
+
     fn allocator(&self) -> Global {
         self.alloc
     }
 
+    /// Adds all of the items or none, as [`Evidence::take_all`] says. It looks each item up by binary search, and then sorts
+    /// the list with the new ones once.
     fn take_all(&mut self, items: Vec<Checked<P>>) -> Result<u64, Memory>
         requires checked { All (IsChecked self.old.directory P.means) items.items }
         requires ascending { IsStrictlySortedBy by_bytes (pieces items.items) }

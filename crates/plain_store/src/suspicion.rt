@@ -13,7 +13,7 @@ use evidence_item::{AuditChallenge, Checked, Form, Item, Message};
 use item_forms::Group;
 use kept_evidence::{answers_audit, answers_send, is_against};
 
-/// Whether one of the items answers the audit challenge.
+/// Returns whether one of the items answers the audit challenge.
 fn one_answers_audit<P>(items: &[Checked<P>], challenge: &AuditChallenge) -> bool
     requires { (c : TheChecked) → Contains items.now c → HasHashes c }
     ensures { result ≡ list_any (λ (c : TheChecked). answers_audit challenge.now c.item.fields) items.now }
@@ -26,7 +26,7 @@ fn one_answers_audit<P>(items: &[Checked<P>], challenge: &AuditChallenge) -> boo
     false
 }
 
-/// Whether an item that is kept answers the audit challenge. It looks at the segments of the challenged node.
+/// Returns whether a kept item answers the audit challenge. It looks at the segments of the challenged node.
 fn audit_is_answered<P>(kept: &[Checked<P>], challenge: &AuditChallenge) -> bool
     requires ascending { IsAscending kept.now }
     requires hashes { (c : TheChecked) → Contains kept.now c → HasHashes c }
@@ -35,7 +35,7 @@ fn audit_is_answered<P>(kept: &[Checked<P>], challenge: &AuditChallenge) -> bool
     one_answers_audit(group_of(kept, &Group::Segments(challenge.node)), challenge)
 }
 
-/// Whether one of the items answers the challenge to acknowledge the message.
+/// Returns whether one of the items answers the send challenge of the message.
 fn one_answers_send<P>(items: &[Checked<P>], message: &Message) -> bool
     ensures { result ≡ list_any (λ (c : TheChecked). told_send message.now c.item.fields c.findings) items.now }
 {
@@ -47,8 +47,8 @@ fn one_answers_send<P>(items: &[Checked<P>], message: &Message) -> bool
     false
 }
 
-/// Whether an item that is kept answers the challenge to acknowledge the message. It looks for acknowledgements of its sender, receiver and number, and
-/// where there is none at the segments of its receiver.
+/// Returns whether a kept item answers the send challenge of the message. It looks for acknowledgements with the message's
+/// sender, receiver and number. If there is none, it looks at the segments of the message's receiver.
 fn send_is_answered<P>(kept: &[Checked<P>], message: &Message) -> bool
     requires ascending { IsAscending kept.now }
     ensures { result ≡ list_any (λ (c : TheChecked). told_send message.now c.item.fields c.findings) kept.now }
@@ -59,7 +59,7 @@ fn send_is_answered<P>(kept: &[Checked<P>], message: &Message) -> bool
     one_answers_send(group_of(kept, &Group::Segments(message.to)), message)
 }
 
-/// Whether an item that is kept answers the challenge.
+/// Returns whether a kept item answers the challenge.
 fn is_answered<P>(kept: &[Checked<P>], item: &Item) -> bool
     requires ascending { IsAscending kept.now }
     requires hashes { (c : TheChecked) → Contains kept.now c → HasHashes c }
@@ -72,7 +72,7 @@ fn is_answered<P>(kept: &[Checked<P>], item: &Item) -> bool
     }
 }
 
-/// Whether the item is a challenge against the node that no item that is kept answers. It takes no memory.
+/// Returns whether the item is a challenge against the node that no kept item answers. It takes no memory.
 pub(crate) fn is_unanswered<P>(kept: &[Checked<P>], node: NodeId, item: &Item) -> bool
     requires ascending { IsAscending kept.now }
     requires hashes { (c : TheChecked) → Contains kept.now c → HasHashes c }
@@ -81,7 +81,7 @@ pub(crate) fn is_unanswered<P>(kept: &[Checked<P>], node: NodeId, item: &Item) -
     is_against(node, item) && !is_answered(kept, item)
 }
 
-/// Whether one of the items is a challenge against the node that no item that is kept answers.
+/// Returns whether one of the items is a challenge against the node that no kept item answers.
 fn one_is_unanswered<P>(kept: &[Checked<P>], node: NodeId, items: &[Checked<P>]) -> bool
     requires ascending { IsAscending kept.now }
     requires hashes { (c : TheChecked) → Contains kept.now c → HasHashes c }
@@ -95,7 +95,7 @@ fn one_is_unanswered<P>(kept: &[Checked<P>], node: NodeId, items: &[Checked<P>])
     false
 }
 
-/// Whether a challenge against the node is kept that no item that is kept answers. It takes no memory.
+/// Returns whether a challenge against the node is kept that no kept item answers. It takes no memory.
 pub(crate) fn is_suspected<P>(kept: &[Checked<P>], node: NodeId) -> bool
     requires ascending { IsAscending kept.now }
     requires hashes { (c : TheChecked) → Contains kept.now c → HasHashes c }

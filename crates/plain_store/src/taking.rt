@@ -17,7 +17,7 @@ use replay_verifier::Program;
 use std::alloc::Global;
 
 /// Finds what was not found yet of the item, makes room for it among those that are kept, and puts its statements into the set.
-/// With `Memory` the items and the set are as they were.
+/// If memory runs out, it reports `Memory`, and the items and the set are as they were.
 fn prepare<P: Program>(
     alloc: Global,
     directory: &Directory,
@@ -41,7 +41,7 @@ fn prepare<P: Program>(
     held.insert_all(statements)
 }
 
-/// Takes the item, where it is not kept yet, and answers whether it is new.
+/// Takes the item if it is not kept yet, and returns whether it is new.
 pub(crate) fn take<P: Program>(
     alloc: Global,
     directory: &Directory,

@@ -2,7 +2,6 @@ mod Deals
 mod Listed
 mod QuotedLists
 mod Quotes
-mod Rows
 mod StatementFits
 mod Stepping
 mod Whole

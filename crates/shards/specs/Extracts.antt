@@ -1,5 +1,5 @@
--- Extracts: what segments quote of the nodes of other shards stands beside them, each statement as an item of its own, so that a segment
--- goes to the shard of its own node alone.
+-- Extracts: each statement that segments quote of the nodes of other shards stands beside them as an item. So a segment goes only to the
+-- shard of its own node.
 use Rattle.std.specs.Prelude.{◌≡◌, ◌↔◌, ◌⊎◌, ◌==◌, ◌<◌, ℕ, zero, suc, Bool, false}
 use Rattle.std.specs.List.{list_any}
 use Rattle.authenticators.specs.declared.authenticator.Authenticator.{Authenticator}
@@ -19,22 +19,23 @@ use Rattle.localities.specs.Parts.{part_of}
 
 -- ---- shards
 
--- The item's fields name a node of shard k: those of a segment its own node alone, whomever it quotes.
+-- The item's fields name a node of shard k. Those of a segment name only its own node, whomever it quotes.
 abbrev pub is_own_shard : (ℕ → ℕ) → ℕ → Piece → Bool
 is_own_shard deal k x = list_any (λ j. deal j == k) (nodes_of x.fields)
 
+-- The items of shard k of a set.
 abbrev pub own_shard : (ℕ → ℕ) → ℕ → Items → Items
 own_shard deal k X = part_of (is_own_shard deal k) X
 
--- So many of them, joined.
+-- The first so many of these shards, joined.
 abbrev pub own_shards_joined : (ℕ → ℕ) → ℕ → Items → Items
 own_shards_joined deal zero X = none
 own_shards_joined deal (suc n) X = Join (own_shards_joined deal n X) (own_shard deal n X)
 
 -- ---- what is quoted
 
--- The item is a statement that stands in an item of the set, a segment that quotes it genuinely, whose fields name no node of the shard of
--- the statement's node.
+-- The item is a statement that stands in an item of the set, and that item's fields name no node of the statement's shard. So the item is a
+-- segment that has the statement as a genuine quote.
 pub record IsQuoted (ds : Listing) (deal : ℕ → ℕ) (E : Items) (x : Fields) : Type 0 where
   pub item : Piece
   pub has : Has E item
@@ -49,8 +50,8 @@ AddsQuotes ds deal E X = (x : Piece) → Has X x ↔ (Has E x ⊎ IsQuoted ds de
 
 -- ---- laws, which `laws` proves
 
--- Of a set X that has what is quoted in E beside the items of E, each shard is an extract of E for each of its nodes. There is one such set;
--- that of a join is the join of those of the sets; that of a valid set is valid; and where each node's shard has a number below n, the n
+-- Let a set X have the items of E and what is quoted in E. Then each shard of X is an extract of E for each of its nodes. There is only one
+-- such set. For a join it is the join of such sets, and for a valid set it is valid. If each node's shard has a number below n, the n
 -- shards joined are X.
 pub record QuotesAsExpected : Type 0 where
   pub extract : (ds : Listing) (deal : ℕ → ℕ) (E X : Items) (j : ℕ) → AddsQuotes ds deal E X → IsExtract ds j E (own_shard deal (deal j) X)
@@ -59,7 +60,7 @@ pub record QuotesAsExpected : Type 0 where
   pub valid : (ds : Listing) (deal : ℕ → ℕ) (E X : Items) → AddsQuotes ds deal E X → AreValid ds E → AreValid ds X
   pub whole : (deal : ℕ → ℕ) (n : ℕ) (X : Items) → ((j : ℕ) → deal j < n) → own_shards_joined deal n X ≡ X
 
--- So it gives the node the indication that E gives, and exposes it where E does.
+-- Such a shard gives each of its nodes the indication that E gives it, and exposes it just if E does.
 pub record QuotesIndicate (S : Type 0) : Type 0 where
   pub indication : (ds : Listing) (program : Meaning S) (deal : ℕ → ℕ) (E X : Items) (j : ℕ) → AddsQuotes ds deal E X → (i : Indication) → IsIndication ds program (own_shard deal (deal j) X) j i ↔ IsIndication ds program E j i
   pub exposed : (ds : Listing) (program : Meaning S) (deal : ℕ → ℕ) (E X : Items) (j : ℕ) → AddsQuotes ds deal E X → IsExposed ds program (own_shard deal (deal j) X) j ↔ IsExposed ds program E j

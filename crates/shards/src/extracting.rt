@@ -1,4 +1,4 @@
-//! What segments quote, as items of its own.
+//! What segments quote, as items of their own.
 
 ghost use Rattle.std.specs.Prelude.{◌≡◌, ◌++◌, ◌∷◌, ◌≤◌, [], IfOk, OnOk, length};
 ghost use Rattle.std.specs.List.{flat_map};
@@ -28,7 +28,7 @@ use outcome::Memory;
 use replay_verifier::Receipt;
 use std::alloc::Global;
 
-/// The item that is a statement whose signature is within its limit.
+/// Returns the item that is a statement. Its signature is within its limit.
 fn item_of(auth: Authenticator) -> Item
     requires { length auth.sig ≤ LONGEST_SIGNATURE_TEXT }
     ensures { result.fields ≡ form.Auth auth }
@@ -40,7 +40,7 @@ fn item_of(auth: Authenticator) -> Item
     Item::auth(auth).unwrap()
 }
 
-/// The statement that node `me` quotes genuinely, as an item: no signature that a key verifies is above the limit.
+/// Returns the statement that node `me` quotes, as an item. The quote is genuine. No signature that a key verifies is above the limit.
 fn statement(
     alloc: Global,
     directory: &Directory,
@@ -60,7 +60,7 @@ fn statement(
     }))
 }
 
-/// Adds what the entry of node `me` quotes genuinely, where that is of a node of another shard.
+/// Adds what the entry of node `me` quotes, if the quote is genuine and of a node of another shard.
 fn add_quote(
     alloc: Global,
     directory: &Directory,
@@ -85,7 +85,7 @@ fn add_quote(
     Ok(())
 }
 
-/// Adds those of all of the entries.
+/// Adds those quotes of all of the entries.
 fn add_quotes(
     alloc: Global,
     directory: &Directory,
@@ -102,7 +102,7 @@ fn add_quotes(
     Ok(())
 }
 
-/// Adds those of an item.
+/// Adds those quotes of an item.
 fn add_item(
     alloc: Global,
     directory: &Directory,
@@ -125,7 +125,7 @@ fn add_item(
     Ok(())
 }
 
-/// Those of all of the items.
+/// Returns those quotes of all of the items.
 fn quotes_of(
     alloc: Global,
     directory: &Directory,
@@ -141,9 +141,11 @@ fn quotes_of(
     Ok(quotes)
 }
 
-/// The items, and beside them what their segments quote genuinely of nodes of other shards, each statement as an item: dealt as
-/// [`Dealing::Extracts`](crate::Dealing) each shard is then an extract for its nodes. In their order, each once. Of the items' signatures
-/// those of such quotes are verified, and no others.
+/// Returns the items, and beside them each statement of a node of another shard that their segments quote, if the quote is genuine. Each
+/// such statement is an item. The items stand in their order, each once.
+///
+/// If they are dealt by [`Dealing::Extracts`](crate::Dealing), each shard is an extract for its nodes. It verifies the signatures of
+/// quotes of nodes of other shards, and no others. The error `Memory` comes if a growth is refused.
 pub fn extracted(
     alloc: Global,
     directory: &Directory,

@@ -1,4 +1,4 @@
-//! Items of several texts as one set.
+//! Items of several encodings as one set.
 
 ghost use Rattle.std.specs.Prelude.{◌≡◌, ◌⊎◌, ◌++◌, IfErr, List, OnErr, OnOk};
 ghost use Rattle.std.specs.List.Sorted.{IsStrictlySortedBy};
@@ -17,8 +17,9 @@ use evidence_set::laws::sets_are_lists;
 use item_forms::Item;
 use std::alloc::Global;
 
-/// Adds the items of the text of a store behind others, **none of them checked**: whoever asks a shard checks its items. Where it is
-/// refused, the others stay as they were.
+/// Reads the items of a store's encoding, and adds them behind the others. **It checks none of them**: whoever asks a shard checks its
+/// items. The encoding begins with `PRSTORE2` or `PRSTORE1`. It refuses what `decode_all` of `containers` refuses, with the same fault, and
+/// gives `Memory` if a growth is refused. If it refuses, the others stay as they were.
 pub fn add_items(alloc: Global, items: &mut Vec<Item>, text: &[u8]) -> Result<(), ImportFault>
     ensures added { OnOk result ((own : List Piece) × Decodes text.now own × (items.new.items ≡ items.old.items ++ own)) }
     ensures refused { IfErr result (λ f. Refuses f (import_of (magic_of text.now) decoded_of text.now) ⊎ (f.cause ≡ cause.Memory)) }
@@ -35,7 +36,7 @@ pub fn add_items(alloc: Global, items: &mut Vec<Item>, text: &[u8]) -> Result<()
     }
 }
 
-/// The items in their order, each once, in whatever order and however often they came. It takes no memory.
+/// Returns the items in their order, each once, in whatever order and however often they came. It takes no memory.
 pub fn gathered(mut items: Vec<Item>) -> Vec<Item>
     ensures ascending { IsStrictlySortedBy by_bytes result.items }
     ensures same { insert_all none result.items ≡ insert_all none items.items }

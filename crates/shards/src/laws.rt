@@ -1,4 +1,4 @@
-//! Laws over the definitions. Each is a function that does nothing: its contract is the law.
+//! Laws over the definitions. Each is a function that does nothing. Its contract is the law.
 
 ghost use Rattle.shards.specs.Extracts.{QuotesAsExpected, QuotesIndicate};
 
@@ -10,8 +10,8 @@ use evidence_set::laws::{
 use localities::laws::{extracts_indicate, parts_are_as_expected};
 use replay_verifier::laws::receipts_have_one_text;
 
-/// Where what segments quote of nodes of other shards stands beside them, the shards by the nodes that fields name are extracts for their
-/// nodes; and so are shards of joins.
+/// Suppose that what segments quote of nodes of other shards stands beside them. Then the shards by the nodes that fields name are extracts
+/// for their nodes. So are the shards of joins.
 pub fn quotes_are_as_expected()
     ensures { QuotesAsExpected }
 {

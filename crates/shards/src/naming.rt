@@ -14,7 +14,7 @@ use outcome::Memory;
 use replay_verifier::Receipt;
 use std::alloc::Global;
 
-/// Adds the shard of the sender that the entry names, where it is a RECV that names one.
+/// Adds the shard of the sender that the entry names, if it is a RECV that names one.
 fn add_sender(shards: Shards, numbers: &mut Vec<u32>, entry: &Entry) -> Result<(), Memory>
     ensures { OnOk result (numbers.new.items ≡ numbers.old.items ++ map (in_turn shards) (filter_map sender_in (entry.now ∷ []))) }
 {
@@ -28,7 +28,7 @@ fn add_sender(shards: Shards, numbers: &mut Vec<u32>, entry: &Entry) -> Result<(
     Ok(())
 }
 
-/// Adds those of all of the entries.
+/// Adds the shards of the senders that all of the entries name.
 fn add_senders(shards: Shards, numbers: &mut Vec<u32>, entries: &[Entry]) -> Result<(), Memory>
     ensures { OnOk result (numbers.new.items ≡ numbers.old.items ++ map (in_turn shards) (filter_map sender_in entries.now)) }
 {
@@ -58,8 +58,8 @@ fn add_fields(shards: Shards, numbers: &mut Vec<u32>, item: &Item) -> Result<(),
     Ok(())
 }
 
-/// The shards of the nodes that the item names: in its fields, or in a RECV entry as the sender, whoever signed it. A shard stands there
-/// once for each time that one of its nodes is named.
+/// Returns the shards of the nodes that the item names: in its fields, or as the sender in a RECV entry, whoever signed it. A shard stands
+/// there once for each time that one of its nodes is named.
 pub(crate) fn shards_of(alloc: Global, shards: Shards, item: &Item) -> Result<Vec<u32>, Memory>
     ensures { IfOk result (λ numbers. numbers.items ≡ map (in_turn shards) (named_in item.now.fields)) }
 {
@@ -71,7 +71,7 @@ pub(crate) fn shards_of(alloc: Global, shards: Shards, item: &Item) -> Result<Ve
     Ok(numbers)
 }
 
-/// The shards of the nodes that the item's fields name.
+/// Returns the shards of the nodes that the item's fields name.
 pub(crate) fn own_shards_of(alloc: Global, shards: Shards, item: &Item) -> Result<Vec<u32>, Memory>
     ensures { IfOk result (λ numbers. numbers.items ≡ map (in_turn shards) (nodes_of item.now.fields)) }
 {

@@ -10,14 +10,13 @@ ghost use Rattle.shards.specs.Parts.{part, parts_joined};
 ghost use Rattle.shards.specs.within.Deals.{deal_of, goes_to, numbers_of};
 
 use crate::dealing::Dealing;
-use crate::keying::ranges_of;
 use crate::laws::quotes_are_as_expected;
 use crate::naming::{own_shards_of, shards_of};
 use containers::{HasItem, write_all};
 use evidence::MAGIC;
 use evidence_set::laws::sets_are_lists;
 use item_forms::{Item, write_framed};
-use localities::laws::{ranges_are_parts, shards_are_parts};
+use localities::laws::shards_are_parts;
 use log_chain::FieldWriter;
 use outcome::Memory;
 use std::alloc::Global;
@@ -48,19 +47,18 @@ impl<'a> HasItem for Lent<'a> {
     }
 }
 
-/// The parts that an item goes to.
+/// Returns the parts that an item goes to.
 fn numbers_of(alloc: Global, dealing: &Dealing, item: &Item) -> Result<Vec<u32>, Memory>
     ensures { IfOk result (λ v. v.items ≡ numbers_of dealing.now item.now.fields) }
 {
     let numbers = match dealing {
         Dealing::ByNode(shards) => shards_of(alloc, *shards, item)?,
-        Dealing::ByRange(ranges) => ranges_of(alloc, ranges, item)?,
         Dealing::Extracts(shards) => own_shards_of(alloc, *shards, item)?,
     };
     Ok(numbers)
 }
 
-/// The items, each with its parts.
+/// Returns the items, each with its parts.
 fn deal_each<'a>(
     alloc: Global,
     dealing: &Dealing,
@@ -76,7 +74,7 @@ fn deal_each<'a>(
     Ok(dealt)
 }
 
-/// Whether part `k` is one of those.
+/// Returns whether part `k` is one of those.
 fn has_number(numbers: &[u32], k: u32) -> bool
     ensures { result ≡ list_any (λ n. n == k) numbers.now }
 {
@@ -88,7 +86,7 @@ fn has_number(numbers: &[u32], k: u32) -> bool
     false
 }
 
-/// Lends the item behind the others, where it goes to part `k`.
+/// Lends the item behind the others, if it goes to part `k`.
 fn lend<'a>(lent: &mut Vec<Lent<'a>>, k: u32, one: &Dealt<'a>) -> Result<(), Memory>
     ensures { OnOk result (map (λ l. l.item.now) lent.new.items ≡ map (λ l. l.item.now) lent.old.items ++ map (λ d. d.0) (filter (goes_to k) ((one.now.item.now, one.now.parts.items) ∷ []))) }
 {
@@ -98,7 +96,7 @@ fn lend<'a>(lent: &mut Vec<Lent<'a>>, k: u32, one: &Dealt<'a>) -> Result<(), Mem
     Ok(())
 }
 
-/// The items that go to part `k`, in their order.
+/// Returns the items that go to part `k`, in their order.
 fn lend_each<'a>(alloc: Global, k: u32, dealt: &[Dealt<'a>]) -> Result<Vec<Lent<'a>>, Memory>
     ensures { IfOk result (λ lent. map (λ l. l.item.now) lent.items ≡ map (λ d. d.0) (filter (goes_to k) (map (λ d. (d.item.now, d.parts.items)) dealt.now))) }
 {
@@ -112,13 +110,13 @@ fn lend_each<'a>(alloc: Global, k: u32, dealt: &[Dealt<'a>]) -> Result<Vec<Lent<
 /// One part of a set of items.
 #[derive(Drop)]
 pub struct Part {
-    /// The text of a store with its items.
+    /// The encoding of a store with the part's items.
     pub text: Vec<u8>,
-    /// How many they are.
+    /// How many items the part has.
     pub items: u64,
 }
 
-/// A set of items that is dealt to parts. Which parts an item goes to is asked once.
+/// A set of items that is dealt to parts. It is settled once to which parts an item goes.
 #[derive(Drop)]
 pub struct Parting<'a> {
     dealing: Dealing,
@@ -143,7 +141,8 @@ impl<'a> Model for Parting<'a> {
 }
 
 impl<'a> Parting<'a> {
-    /// Deals each of the items, which ascend, each once, as [`gathered`](crate::gathered) gives them. None of them is copied.
+    /// Deals each of the items to its parts. They must ascend, each once, as [`gathered`](crate::gathered) returns them. It copies none of
+    /// them.
     pub fn new(alloc: Global, dealing: Dealing, items: &'a [Item]) -> Result<Parting<'a>, Memory>
         requires ascending { IsStrictlySortedBy by_bytes items.now }
         ensures parted { IfOk result (λ p. p ≡ record { dealing = dealing; items = items.now }) }
@@ -151,21 +150,20 @@ impl<'a> Parting<'a> {
         ensures whole { parts_joined dealing (insert_all none items.now) ≡ insert_all none items.now }
     {
         shards_are_parts();
-        ranges_are_parts();
         quotes_are_as_expected();
         let _ = dealing.parts();
         let dealt = deal_each(alloc, &dealing, items)?;
         Ok(Parting { dealing, dealt })
     }
 
-    /// How the items are dealt.
+    /// Returns how the items are dealt.
     pub fn dealing(&self) -> Dealing
         ensures { result ≡ self.now.dealing }
     {
         self.dealing
     }
 
-    /// Part `k`.
+    /// Writes part `k`, counted from 0, as the encoding of a store. A part from [`Dealing::parts`](crate::Dealing::parts) on has no items.
     pub fn part(&self, alloc: Global, k: u32) -> Result<Part, Memory>
         ensures text { IfOk result (λ p. p.text.items ≡ export_of (part self.now k)) }
         ensures counted { IfOk result (λ p. p.items ≡ count (part self.now k)) }

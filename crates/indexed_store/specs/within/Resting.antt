@@ -10,10 +10,11 @@ use Rattle.node_tables.specs.Rooms.{AreReady, HasRoomFor, HasRoomForAll, IsRoomi
 use Rattle.node_tables.specs.Steps.{AllTables, EachBecomes}
 use Rattle.indexed_store.specs.declared.index.Index.{Index}
 
--- Its order is that of its items' spellings; and its tables are those of its items.
+-- The order is that of the items' encodings.
 abbrev pub IsOrdered : {P : Type 0} → Index P → Type 0
 IsOrdered index = IsOrder index.items.items index.order.items
 
+-- The order is that of the items' encodings, and the tables are those of the items.
 abbrev pub IsIndex : {S P : Type 0} → Listing → Meaning S → Index P → Type 0
 IsIndex ds program index = IsIndexed ds program index.items.items index.order.items index.tables.items
 
@@ -59,7 +60,7 @@ pub record IsReadier {P : Type 0} (old new : Index P) : Type 0 where
   pub tables : EachBecomes IsRoomier old.tables.items new.tables.items
   pub long : length new.tables.items ≡ length old.tables.items
 
--- At most this item came, and took of its room what was made for it.
+-- At most this item came, and took of the room what was made for it.
 pub record JoinsAtMost {P : Type 0} (x : Checked) (old new : Index P) : Type 0 where
   pub tables : EachBecomes (ItemRooms x) old.tables.items new.tables.items
   pub len : vec_len new.items ≤ vec_len old.items + 1

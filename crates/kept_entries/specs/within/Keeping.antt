@@ -19,7 +19,7 @@ abbrev pub quoted_in : Body → Option (List ℕ)
 quoted_in (body.Short kind content) = None
 quoted_in (body.Long long) = long.value.quoted
 
--- The entry of this number that says it.
+-- The entry with this number that says it.
 abbrev pub entry_in : ℕ → Body → Entry
 entry_in seq s = record { seq = seq; kind = kind_in s; content = content_in s }
 

@@ -16,7 +16,7 @@ IsApart (body.Statement c) = is_statement c.item.fields ≡ true
 IsApart (body.Single c) = is_segment c.value.item.fields ≡ false
 IsApart (body.Segment c) = is_segment c.value.item.fields ≡ true
 
--- Beside an item that will be kept stands what it is given back of: nothing where it is no segment.
+-- Beside an item that will be kept stands the item to give back. Nothing stands there if the item is no segment.
 abbrev pub IsGivenBy : Checked → Option Checked → Type 0
 IsGivenBy k None = is_segment k.item.fields ≡ false
 IsGivenBy k (Some c) = c ≡ k

@@ -34,7 +34,7 @@ before prev (x ∷ xs) (suc k) = before x.hash xs k
 abbrev pub checked_of : (node : ℕ) (prev : List ℕ) (shared : List SharedEntry) (sig : List ℕ) → Fits (fields_of node prev shared sig) → Option Verdict → Checked
 checked_of node prev shared sig fits verdict = record { item = record { fields = fields_of node prev shared sig; fits = fits }; verdict = verdict; findings = findings_in shared }
 
--- The hashes are those of the entries, whether the numbers rise is known, and where they do not, the pairs of number and hash stand in
+-- The hashes are those of the entries, and it is known whether the numbers rise. If they do not, the pairs of number and hash stand in
 -- order.
 pub record IsHashed (prev : List ℕ) (shared : List SharedEntry) (rises : Bool) (pairs : List Pair) : Type 0 where
   pub hashed : hashes_of shared ≡ hashes prev (entries_of shared)

@@ -20,7 +20,7 @@ abbrev pub rises_from : ℕ → List Entry → Bool
 rises_from first [] = true
 rises_from first (e ∷ es) = nat_lt first e.seq && rises_from e.seq es
 
--- The entry is within its limits; its part of a segment's spelling.
+-- The entry is within its limits. Below it stands its part of a segment's encoding.
 abbrev pub FitsShared : SharedEntry → Type 0
 FitsShared x = FitsEntry x.entry
 

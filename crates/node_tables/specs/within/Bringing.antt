@@ -91,11 +91,11 @@ pub record RowStep (items : List Checked) (row : Row) (t u : Table) : Type 0 whe
   pub hashes : u.hashes ≡ t.hashes
   pub room : t.rows.room ≤ u.rows.room + 1
 
--- Where receipts are kept, they were kept before, and just those messages came to them.
+-- If receipts are kept, they were kept before, and just those messages came to them.
 abbrev pub HaveCome : ReceiptList → ReceiptList → (Sending → Type 0) → Type 0
 HaveCome r q P = q.whole ≡ true → (r.whole ≡ true) × ((s : Sending) → Contains q.sendings.items s ↔ (Contains r.sendings.items s ⊎ P s))
 
--- A receipt comes, where the statement is quoted.
+-- A receipt comes, if the statement is quoted.
 pub record ReceiptStep (items : List Checked) (row : Row) (t u : Table) : Type 0 where
   pub node : u.node ≡ t.node
   pub rows : u.rows ≡ t.rows

@@ -16,7 +16,8 @@ use Rattle.node_tables.specs.declared.table.Table.{Table}
 use Rattle.node_tables.specs.within.Bringing.{OneTakenBack, SegmentStep, StatementStep, StatementsStep, TakenBack}
 use Rattle.node_tables.specs.within.Placing.{AreAgainst, AreOtherReceipts, AreOthers, BodyRooms, BodyRoomsOf, BodyStep, IsNewAmong, ItemStep, subject_by}
 
--- What is kept of a node is told of the items, and its challenges stand in their orders; of the segment at place n they need not be told.
+-- The table of a node is right for the items, and its challenges stand in their orders. They need not yet take account of the segment at
+-- place n.
 pub record IsKept (items : List Checked) (n : ℕ) (t : Table) : Type 0 where
   pub told : IsTold items t
   pub asked : AreAsked items n t
@@ -51,12 +52,12 @@ pub record IsOfOthers (items : List Checked) (n : ℕ) (t : Table) : Type 0 wher
   pub against : AreAgainst items t
   pub new : IsNewAmong items n t.unanswered.items
 
--- Such a table has room for it, where it is of its subject.
+-- Such a table has room for the item, if it is the table of its subject.
 pub record IsBodyDue (items : List Checked) (n : ℕ) (t : Table) : Type 0 where
   pub others : IsOfOthers items n t
   pub room : subject_by (slice_get items n) ≡ Some t.node → HasBodyRoom t
 
--- The table is that of the subject of x, the item at that place; b tells whether something answers x, where x challenges the node.
+-- The table is that of the subject of x, the item at that place. If x challenges the node, b says whether something answers x.
 pub record IsToPut (items : List Checked) (n : ℕ) (x : Checked) (b : Bool) (t : Table) : Type 0 where
   pub due : IsBodyDue items n t
   pub here : slice_get items n ≡ Some x

@@ -46,7 +46,7 @@ beside front other = record { front = front; other = Some other }
 
 -- ---- what is taken away
 
--- Two items have one spelling.
+-- Two items have one encoding.
 abbrev pub is_like : Option Checked → Option Checked → Bool
 is_like o None = false
 is_like o (Some c) = is_eq (item_order_by o c.item)
@@ -95,7 +95,7 @@ abbrev pub AreLookedAt : List Checked → (n front r : ℕ) → Hashes → Type 
 AreLookedAt items n front r h = (g : List ℕ) → IsAmongFirst items n r g → AreBothAnswered items n (beside front (front_of g)) h
 
 -- The segment at place n answers no challenge that names the entry at its position k beside one of the first r, or beside the hash before
--- them; and behind the others a segment at another place has it.
+-- them. Behind the other entries a segment at another place has it.
 pub record IsLookedAt (items : List Checked) (j n : ℕ) (places : List ℕ) (k : ℕ) (x : Link) : Type 0 where
   pub first : ℕ
   pub known : IsKnownBut items j n k x first

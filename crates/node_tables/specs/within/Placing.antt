@@ -19,7 +19,7 @@ use Rattle.node_tables.specs.declared.sending.Sending.{Sending}
 use Rattle.node_tables.specs.declared.span.Span.{Span}
 use Rattle.node_tables.specs.declared.table.Table.{Table}
 
--- Whether the item at a place stands before, in or behind the group; where there is none, behind it.
+-- Whether the item at a place stands before the group, in it or behind it. If there is none, the place stands behind it.
 abbrev pub group_order_by : ItemGroup → Option Checked → Ordering
 group_order_by g None = Greater
 group_order_by g (Some c) = group_cmp g c.item.fields
@@ -46,7 +46,7 @@ sent (form.Ack a) = None
 abbrev pub IsReceiptTold : List Checked → Fields → Bool → Type 0
 IsReceiptTold items x b = (s : Sending) × (sent x ≡ Some s) × (IsTrue b ↔ IsReceived items s)
 
--- Where receipts are kept, the segments that stand at other places than n have some of just these messages of the node.
+-- If receipts are kept, they are just the messages of the node of which segments at other places than n have some.
 abbrev pub IsReceivedElsewhere : List Checked → ℕ → Sending → Type 0
 IsReceivedElsewhere items n s = (m k : ℕ) × (m ≢ n) × (receipt_by (slice_get items m) k ≡ Some s)
 
@@ -65,7 +65,7 @@ HasAcknowledgement items (form.Ack a) = ⊥
 abbrev pub AreAgainst : List Checked → Table → Type 0
 AreAgainst items t = (i : ℕ) → Contains t.unanswered.items i → IsAgainstAt items t.node i
 
--- The item at place n has another spelling than those at the places.
+-- The item at place n has another encoding than those at the places.
 abbrev pub IsNewAmong : List Checked → ℕ → List ℕ → Type 0
 IsNewAmong items n places = (i : ℕ) (c d : Checked) → Contains places i → slice_get items i ≡ Some c → slice_get items n ≡ Some d → c.item ≢ d.item
 

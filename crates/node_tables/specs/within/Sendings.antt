@@ -22,7 +22,7 @@ abbrev pub sending_cmp : Sending → Fields → Ordering
 sending_cmp s (form.Send m) = message_cmp s m
 sending_cmp s x = nat_cmp (tag_of x) 4
 
--- The same of the item at a place; where there is none, behind them.
+-- The same of the item at a place. If there is none, the place stands behind them.
 abbrev pub sending_order_by : Sending → Option Checked → Ordering
 sending_order_by s None = Greater
 sending_order_by s (Some c) = sending_cmp s c.item.fields

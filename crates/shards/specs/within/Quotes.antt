@@ -12,7 +12,7 @@ use Rattle.evidence_set.specs.Held.{statement_quoted_by}
 abbrev pub is_elsewhere : (ℕ → ℕ) → ℕ → Authenticator → Bool
 is_elsewhere deal me a = not (deal me == deal a.node)
 
--- What entries of node `me` quote genuinely of nodes of other shards, each statement as the fields of an item.
+-- What entries of node `me` quote of nodes of other shards, if the quote is genuine, each statement as the fields of an item.
 abbrev pub quoted_by : Listing → (ℕ → ℕ) → ℕ → List Entry → List Fields
 quoted_by ds deal me es = map (λ (a : Authenticator). form.Auth a) (filter (is_elsewhere deal me) (filter_map (statement_quoted_by ds me) es))
 

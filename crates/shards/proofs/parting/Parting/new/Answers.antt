@@ -1,11 +1,11 @@
-use Rattle.std.proofs.Common.{◌∙◌, ◌≤◌, ℕ, map, sym, ap, subst}
+use Rattle.std.proofs.Common.{◌∙◌, map, sym, ap}
 use Rattle.std.proofs.lemmas.Simd.{map-map}
 use Rattle.shards.specs.within.Deals.{Deal}
 use Rattle.shards.proofs.Deals.{are_dealt, items_of, parted}
 use Rattle.shards.proofs.parting.Parting.new.Goals as goal
 
 pub invariant_of-result : goal.invariant_of-result
-invariant_of-result c = are_dealt c.args.dealing _ c.args.items.now (subst (λ (n : ℕ). 1 ≤ n) c.parts.ensures.same c.parts.ensures.some) c.in_ok-dealt.ensures c.requires.ascending
+invariant_of-result c = are_dealt c.args.dealing _ c.args.items.now c.in_ok-dealt.ensures c.requires.ascending
 
 pub returns-clause-parted : goal.returns-clause-parted
 returns-clause-parted c =
