@@ -17,21 +17,22 @@ are_new E (x ∷ xs) = not (contains E x) ∷ are_new (insert E x) xs
 abbrev pub unheld : Items → List Piece → List Piece
 unheld E xs = filter (λ (x : Piece). not (contains E x)) xs
 
--- What is written of texts behind those of a journal: they themselves, and the basis in front of the first ones.
+-- What is written when texts are added to a journal: the texts, with the basis in front if the journal is not begun. Nothing is written if
+-- there are no texts.
 abbrev pub behind_basis : Bool → List (List ℕ) → List (List ℕ) → List (List ℕ)
 behind_basis is_begun basis [] = []
 behind_basis true basis (text ∷ texts) = text ∷ texts
 behind_basis false basis (text ∷ texts) = basis ++ text ∷ texts
 
--- What is written of a group.
+-- What is written when the store is given a group.
 abbrev pub texts_for : {D : Type 0} → Kept D → List Piece → List (List ℕ)
 texts_for s group = behind_basis s.is_begun s.basis (spellings (unheld s.contents.items group))
 
--- The items, and those of a group.
+-- The store's items together with those of a group.
 abbrev pub with_group : {D : Type 0} → Kept D → List Piece → Items
 with_group s group = insert_all s.contents.items group
 
--- Why the store is closed for good by a refusal.
+-- Why a refusal closes the store for good, if it does.
 abbrev pub closed_by : TakeFault → Option DeviceFault
 closed_by fault.GroupTooLong = None
 closed_by fault.JournalFull = None
@@ -50,7 +51,7 @@ pub record Call : Type 0 where
 
 -- What a call does to a store that is not closed.
 pub record Took {D : Type 0} (moment : D → ℕ) (may_leave : D → List ℕ → Type 0) (left_since : D → ℕ → List ℕ → Type 0) (old : Kept D) (call : Call) (new : Kept D) : Type 0 where
-  -- where it is acknowledged, the store has the group, and from then on each crash leaves it
+  -- if it is acknowledged, the store has the group, and from then on each crash leaves it
   pub acknowledged : IsTrue call.is_acknowledged → (new.contents.items ≡ with_group old call.group) × IsKept may_leave new
   -- in any case the store loses no item, and has none that nobody gave
   pub least : IsWithin old.contents.items new.contents.items

@@ -1,4 +1,4 @@
--- What a store is that is kept, and which files keep just its items.
+-- What a kept store is, and which files keep just its items.
 use Rattle.std.specs.Prelude.{◌≡◌, ℕ, Bool, false, List, [], ◌∷◌, ◌++◌, map, codes, true, Option, refl}
 use Rattle.authenticators.specs.Directory.{Listing}
 use Rattle.authenticators.specs.DirectoryText.{directory_text}
@@ -10,7 +10,8 @@ use Rattle.std.specs.Coded.{Coded, codes as coding, code_by, coded×, coded_bool
 use Rattle.journal.specs.Journal.{recovered, can_be_left}
 use Rattle.journal.specs.declared.fault.DeviceFault.{DeviceFault}
 
--- How a journal of items begins: with the program's name, behind the eight bytes by which the journal is known, and with the directory.
+-- The two texts with which a journal of items begins. The first is the program's name, behind the eight bytes by which the journal is
+-- known. The second is the directory.
 abbrev pub basis_of : List ℕ → Listing → List (List ℕ)
 basis_of name ds = (codes "PRKEPT01" ++ name) ∷ directory_text ds ∷ []
 
@@ -18,13 +19,13 @@ basis_of name ds = (codes "PRKEPT01" ++ name) ∷ directory_text ds ∷ []
 abbrev pub spellings : List Piece → List (List ℕ)
 spellings xs = map (λ (x : Piece). spelling x.fields) xs
 
--- The texts are the basis, and behind it those of items, of which this is the set.
+-- The texts are the basis, and behind it those of items. E is the set of these items.
 pub record IsJournalOf (basis : List (List ℕ)) (E : Items) (texts : List (List ℕ)) : Type 0 where
   pub behind : List Piece
   pub texts_are : texts ≡ basis ++ spellings behind
   pub set_is : E ≡ insert_all none behind
 
--- The texts are a journal of these items, where it is begun; else there is no text, and no item.
+-- If the journal is begun, the texts are a journal of these items. Otherwise there is no text and no item.
 abbrev pub Has : Bool → List (List ℕ) → Items → List (List ℕ) → Type 0
 Has true basis E texts = IsJournalOf basis E texts
 Has false basis E texts = (texts ≡ []) × (E ≡ none)
@@ -35,8 +36,8 @@ pub record Keeps (basis : List (List ℕ)) (E : Items) (file : List ℕ) : Type 
   pub is_begun : Bool
   pub just : Has is_begun basis E (recovered file)
 
--- A store that is kept, as contracts see it: the device of its journal; how the journal begins, and whether it is begun; what the store has;
--- and why it is closed, if it is.
+-- A kept store, as contracts see it: the device of its journal, how the journal begins and whether it is begun, what the store has, and why
+-- it is closed, if it is.
 pub record Kept (D : Type 0) : Type 0 where
   pub device : D
   pub basis : List (List ℕ)
@@ -44,13 +45,15 @@ pub record Kept (D : Type 0) : Type 0 where
   pub contents : Contents
   pub closed : Option DeviceFault
 
--- How such a store is stored in a model.
+-- How a store's contents are stored in a model.
 pub contents_code : Coded Contents
 contents_code = Prim.hlevel (coding, items_code)
 
+-- How the reason why a store is closed is stored in a model.
 pub closed_code : Coded (Option DeviceFault)
 closed_code = Prim.hlevel coding
 
+-- How a kept store is stored in a model.
 abbrev pub kept_code : {D : Type 0} → Coded D → Coded (Kept D)
 kept_code {D} c =
     code_by (D × (List (List ℕ) × (Bool × (Contents × Option DeviceFault))))

@@ -38,12 +38,12 @@ pub record IsUnread {D : Type 0} (found : D → List ℕ) (opening : Found D) : 
   pub begun : opening.is_begun ≡ false
   pub none_yet : opening.contents.items ≡ none
 
--- All was read, and the store has just the items of the file.
+-- All of the file was read, and the store has just its items.
 pub record IsWhole {D : Type 0} (seen : D → List ℕ) (may_leave : D → List ℕ → Type 0) (opening : Found D) : Type 0 where
   pub read : IsRead seen may_leave opening.reading
   pub just : Has opening.is_begun opening.basis opening.contents.items (recovered (seen opening.reading.device))
 
--- These texts were found: all of the file's, or those so far.
+-- These texts were found. They are all of the file's, or those that were read so far.
 abbrev pub AreFound : {D : Type 0} → (D → List ℕ) → (D → List ℕ) → Reading D → Bool → List (List ℕ) → Type 0
 AreFound found seen reading true texts = recovered (seen reading.device) ≡ texts
 AreFound found seen reading false texts = recovered (found reading.device) ≡ texts
@@ -52,18 +52,19 @@ AreFound found seen reading false texts = recovered (found reading.device) ≡ t
 abbrev pub IsItemText : Listing → List ℕ → Type 0
 IsItemText ds text = (x : Piece) × (text ≡ spelling x.fields) × IsValid ds x.fields
 
--- The first text is another than the basis begins with.
+-- The first text is not the first one of the basis.
 abbrev pub IsOfOtherProgram : List (List ℕ) → List (List ℕ) → Type 0
 IsOfOtherProgram (program ∷ directory ∷ []) (text ∷ texts) = text ≢ program
 IsOfOtherProgram basis texts = ⊥
 
--- The first text is that of the basis, and the second one is another; or the file has no second one.
+-- The first text is that of the basis, and the second one is not, or the file has no second one.
 abbrev pub IsOfOtherDirectory : List (List ℕ) → Bool → List (List ℕ) → Type 0
 IsOfOtherDirectory (program ∷ directory ∷ []) is_all (text ∷ []) = (text ≡ program) × (is_all ≡ true)
 IsOfOtherDirectory (program ∷ directory ∷ []) is_all (text ∷ next ∷ texts) = (text ≡ program) × (next ≢ directory)
 IsOfOtherDirectory basis is_all texts = ⊥
 
--- What the texts that were found show, where a fault is one that texts show. Items stand behind the two texts of the basis.
+-- What the texts that were found show of a fault. Faults that no text shows say nothing of them. Items stand behind the two texts of the
+-- basis.
 abbrev pub Shows : Listing → List (List ℕ) → Bool → List (List ℕ) → OpenFault → Type 0
 Shows ds basis is_all texts fault.BadWorkers = Unit {0}
 Shows ds basis is_all texts fault.DiskFailed = Unit {0}
@@ -73,7 +74,7 @@ Shows ds basis is_all texts fault.OtherDirectory = IsOfOtherDirectory basis is_a
 Shows ds basis is_all texts (fault.BadItem n) = (text : List ℕ) × (1 < n) × (slice_get texts n ≡ Some text) × (¬ IsItemText ds text)
 Shows ds basis is_all texts fault.Memory = Unit {0}
 
--- The texts that were found show the fault, where it is one that texts show.
+-- The texts that were found show the fault, if it is one that texts show.
 pub record AreShown {D : Type 0} (found seen : D → List ℕ) (ds : Listing) (basis : List (List ℕ)) (reading : Reading D) (e : OpenFault) : Type 0 where
   pub is_all : Bool
   pub texts : List (List ℕ)
@@ -97,8 +98,8 @@ abbrev pub AreOf : Bool → List (List ℕ) → List (List ℕ) → Type 0
 AreOf true texts all = texts ≡ all
 AreOf false texts all = (more : List (List ℕ)) × (texts ++ more ≡ all)
 
--- The texts of a file that keeps valid items show no fault to those who open it under the same program's name and directory. So a file that
--- a crash left is opened again, unless memory runs out or the disk fails: by `LeftFilesAreRead` of `journal` it is not damaged either.
+-- The texts of a file that keeps valid items show no fault, if the file is opened under the same program's name and directory. So a file
+-- that a crash left is opened again, unless memory runs out or the disk fails. By `LeftFilesAreRead` of `journal` it is not damaged either.
 abbrev pub LeftJournalsAreOpened : Type 0
 LeftJournalsAreOpened =
     (name : List ℕ) (ds : Listing) (E : Items) (file : List ℕ) (is_all : Bool) (texts : List (List ℕ)) (e : OpenFault)

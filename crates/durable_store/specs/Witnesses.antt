@@ -1,4 +1,4 @@
--- Witnesses over crashes and restarts: what they acknowledged is there, and nothing that nobody gave.
+-- Witnesses over crashes and restarts: they have what they acknowledged, and nothing that nobody gave.
 use Rattle.std.specs.Prelude.{◌≡◌, ℕ, List, [], ◌∷◌, ◌++◌}
 use Rattle.std.specs.List.{flat_map}
 use Rattle.authenticators.specs.Directory.{Listing}
@@ -13,7 +13,7 @@ use Rattle.durable_store.specs.Runs.{Runs, acknowledged, given}
 
 -- ---- restarts
 
--- What a process did that ended in a crash: the calls that it had answered before, and those behind them.
+-- What a process did that ended in a crash: the calls that it had answered before the crash, and those behind them.
 pub record Life : Type 0 where
   pub answered : List Call
   pub behind : List Call
@@ -32,7 +32,7 @@ pub record IsLife {D : Type 0} (moment : D → ℕ) (may_leave : D → List ℕ 
   pub left : left_since last.device (moment mid.device) file
   pub keeps : Keeps basis F file
 
--- One process after another, each with a store of what the crash before it left.
+-- One process after another. Each has a store of what the crash before it left.
 abbrev pub Lives : {D : Type 0} → (D → ℕ) → (D → List ℕ → Type 0) → (D → ℕ → List ℕ → Type 0) → List (List ℕ) → Items → List Life → Items → Type 0
 Lives moment may_leave left_since basis E [] F = F ≡ E
 Lives moment may_leave left_since basis E (life ∷ lives) F =
@@ -50,15 +50,15 @@ pub record IsStoreOf {D : Type 0} (moment : D → ℕ) (may_leave : D → List �
   pub lived : Lives moment may_leave left_since opened.basis none witness.lives opened.contents.items
   pub ran : Runs moment may_leave left_since opened witness.calls store
 
--- What was acknowledged before each crash, and by the present process.
+-- All that was acknowledged, before each crash and by the present process.
 abbrev pub acknowledged_by : Witness → Items
 acknowledged_by witness = acknowledged none (flat_map (λ (life : Life). life.answered) witness.lives ++ witness.calls)
 
--- What was given to it.
+-- All that was given to the witness.
 abbrev pub given_to : Witness → Items
 given_to witness = given none (flat_map (λ (life : Life). life.answered ++ life.behind) witness.lives ++ witness.calls)
 
--- A witness has each item that it acknowledged, and none that nobody gave it, whatever crashed when.
+-- A witness has each item that it acknowledged, and none that nobody gave it, at whatever moments crashes came.
 abbrev pub WitnessesKeepWhatTheyAcknowledged : (D : Type 0) → (D → ℕ) → (D → List ℕ → Type 0) → (D → ℕ → List ℕ → Type 0) → Type 0
 WitnessesKeepWhatTheyAcknowledged D moment may_leave left_since =
     (witness : Witness) (store : Kept D) → IsStoreOf moment may_leave left_since witness store
@@ -66,17 +66,18 @@ WitnessesKeepWhatTheyAcknowledged D moment may_leave left_since =
 
 -- ---- two witnesses
 
--- Each acknowledged all that was given to either.
+-- Each witness acknowledged all that was given to either.
 abbrev pub AcknowledgeTheSame : Witness → Witness → Type 0
 AcknowledgeTheSame a b = IsWithin (given_to a) (acknowledged_by b) × IsWithin (given_to b) (acknowledged_by a)
 
--- They have the same items, export the same bytes, and say the same of each node under any directory and program.
+-- The two have the same items, export the same bytes, and say the same of each node under any directory and program.
 pub record AnswerAlike (S : Type 0) (E F : Items) : Type 0 where
   pub items : E ≡ F
   pub exports : export_of E ≡ export_of F
   pub indications : (ds : Listing) (program : Meaning S) (node : ℕ) (i j : Indication) → IsIndication ds program E node i → IsIndication ds program F node j → i ≡ j
 
--- Witnesses that acknowledged the same answer alike, whatever crashed when, and whatever their journals lie on.
+-- Two witnesses that each acknowledged what either was given answer alike. This holds at whatever moments crashes came, and whatever
+-- devices their journals are on.
 abbrev pub WitnessesAnswerAlike : (S C D : Type 0) → (C → ℕ) → (C → List ℕ → Type 0) → (C → ℕ → List ℕ → Type 0) → (D → ℕ) → (D → List ℕ → Type 0) → (D → ℕ → List ℕ → Type 0) → Type 0
 WitnessesAnswerAlike S C D moment may_leave left_since moment_too may_leave_too left_since_too =
     (a b : Witness) (store : Kept C) (other : Kept D)

@@ -1,4 +1,4 @@
-//! The items of a journal are checked again, by workers, and then taken.
+//! How workers check the items of a journal again, and how a store takes them.
 
 ghost use Rattle.std.specs.Prelude.{◌≡◌, ◌⊎◌, ◌+◌, ◌<◌, ◌≤◌, ◌^◌, List, ℕ, length, IfErr, IfOk, OnOk};
 ghost use Rattle.std.specs.List.{All};
@@ -21,7 +21,7 @@ use replay_verifier::Program;
 use std::alloc::Global;
 use std::thread::Threads;
 
-/// By whom items are checked, and for which program.
+/// What checks items, and for which program.
 #[derive(Drop)]
 pub(crate) struct Checkers<'a, R, P> {
     pub(crate) rt: &'a R,
@@ -31,7 +31,7 @@ pub(crate) struct Checkers<'a, R, P> {
     pub(crate) workers: usize,
 }
 
-/// Why the item at this place is not taken.
+/// Returns why the item at this place is not taken.
 fn refusal(fault: ItemFault, place: u64) -> OpenFault
     ensures { result ≡ refusal_of place fault }
 {
@@ -41,7 +41,7 @@ fn refusal(fault: ItemFault, place: u64) -> OpenFault
     }
 }
 
-/// The items of the answers, the first of which stands at this place, or why the first of them that was not given back was not.
+/// Returns the items of the answers, or the refusal of the first answer that is a fault. The first answer's item stands at this place.
 fn valid_items<P: Program>(
     alloc: Global,
     answers: Vec<Result<Checked<P>, ItemFault>>,
@@ -63,7 +63,7 @@ fn valid_items<P: Program>(
     Ok(valid)
 }
 
-/// Checks the items, the first of which stands at this place, and has the store take them.
+/// Checks the items, and has the store take them. The first item stands at this place.
 pub(crate) fn take_items<R: Threads + Sync, P: Program + Send + Sync, S: Evidence<P>>(
     checkers: &Checkers<'_, R, P>,
     store: &mut S,

@@ -1,4 +1,4 @@
-//! A store beside the journal of its items.
+//! A store with the journal of its items.
 
 ghost use Rattle.std.specs.Prelude.{◌≡◌, ◌⊎◌, ◌<◌, ◌≤◌, ◌^◌, None, IfErr, IfOk, OnOk, IsErrOf, is_ok};
 ghost use Rattle.std.specs.List.{All};
@@ -21,7 +21,8 @@ use std::marker::{Model, PhantomData};
 /// A store of evidence, and the journal that has a text for each of its items. It has one owner, who gives it groups of items one after the
 /// other.
 ///
-/// A contract sees the device, what the journal begins with, the directory and the set of items, and why the store is closed, if it is.
+/// A contract sees the device, what the journal begins with and whether it is begun, the directory and the set of items, and why the store
+/// is closed, if it is.
 #[derive(Drop)]
 pub struct DurableStore<P: Program, S: Evidence<P>, D: Device> {
     pub(crate) alloc: Global,
@@ -43,46 +44,52 @@ impl<P: Program, S: Evidence<P>, D: Device> Model for DurableStore<P, S, D> {
 
     ghost view = { λ s. record { device = s.journal.texts.device; basis = texts_of s.journal.basis.items; is_begun = s.journal.is_begun; contents = S.contents s.store; closed = s.closed } };
 
-    // Until it is closed, the journal is settled and has just the store's items.
+    // Until the store is closed, the journal is settled and has just the store's items.
     ghost invariant = { λ s. MatchOption s.closed (IsReadyOf D.seen D.may_leave (S.contents s.store).items s.journal) (λ _. Unit {0}) };
 }
 
 impl<P: Program, S: Evidence<P>, D: Device> DurableStore<P, S, D> {
-    /// The store.
+    /// Returns the store.
     pub fn store(&self) -> &S
         ensures { S.contents result.now ≡ self.now.contents }
     {
         &self.store
     }
 
-    /// The device of the journal.
+    /// Returns the device of the journal.
     pub fn device(&self) -> &D
         ensures { result.now ≡ self.now.device }
     {
         self.journal.texts.device()
     }
 
-    /// Why the store is closed for good, if it is.
+    /// Returns why the store is closed for good. Returns `None` if it is open.
     pub fn closed(&self) -> Option<DeviceFault>
         ensures { result ≡ self.now.closed }
     {
         self.closed
     }
 
-    /// How many bytes the journal's blocks take.
+    /// Returns how many bytes the journal's blocks take.
     pub fn journal_len(&self) -> usize {
         self.journal.texts.len()
     }
 
-    /// Takes items that were checked under the store's directory, and tells of each whether it is new: neither there nor earlier in the
-    /// group. At `Ok` each of them is on the disk, and then in the store. What was there already is not written again.
+    /// Takes items that were checked under the store's directory. It returns for each whether it is new: neither in the store nor earlier
+    /// in the group. At `Ok` each item is on the disk, and then in the store. An item that was there already is not written again.
     ///
-    /// After any error but `Lost` the store has no item more, and its journal was repaired: it can be asked again, as behind a full disk
-    /// that has room again. After `Lost` (121) it is closed for good: the items of the group are in the journal whole or not at all,
-    /// and the store may have some of them. The process has to end: whoever opens the journal again has what is in it.
+    /// After any error but `Lost` the store has no item more, and the journal is as it was, repaired if need be. The store can be asked
+    /// again, for example when a full disk has room again. After `Lost` (121) it is closed for good. The items of the group are in the
+    /// journal all or not at all, and the store may have some of them. The process has to end. Whoever opens the journal again has what is
+    /// in it.
     ///
-    /// `GroupTooLong` (118) where the new items take more than a group may; `JournalFull` (119) only where the journal takes 2^60 bytes;
-    /// `DiskFailed` (120) only where the device failed; `Memory` may come in place of any of them.
+    /// The other errors:
+    ///
+    /// - `GroupTooLong` (118), if the texts that must be written take more than a group may. They are those of the new items, and the basis
+    ///   if the journal is not begun;
+    /// - `JournalFull` (119), only if the journal takes 2^60 bytes or more;
+    /// - `DiskFailed` (120), only if the device failed;
+    /// - `Memory`, which may come in place of any of them.
     pub fn take_group(&mut self, group: Vec<Checked<P>>) -> Result<Vec<bool>, TakeFault>
         requires { All (IsChecked self.old.contents.directory P.means) group.items }
 
@@ -92,7 +99,7 @@ impl<P: Program, S: Evidence<P>, D: Device> DurableStore<P, S, D> {
         ensures open { OnOk result (self.new.closed ≡ None) }
         ensures fits { OnOk result (size_of (texts_for self.old (pieces group.items)) ≤ MOST_GROUP) }
         ensures too_long { IsErrOf result TakeFault.GroupTooLong → MOST_GROUP < size_of (texts_for self.old (pieces group.items)) }
-        // It doesn't give up by itself.
+        // The store does not give up by itself.
         ensures cause { (IsErrOf result TakeFault.DiskFailed ⊎ (IsErrOf result (TakeFault.Lost DeviceFault.Failed) × (self.old.closed ≡ None)) → D.faults self.old.device < D.faults self.new.device)
             × (IsErrOf result TakeFault.JournalFull → 2 ^ 60 ≤ covered (D.seen self.old.device)) }
     {

@@ -1,4 +1,4 @@
-//! Why a group is not taken, and why a journal is not opened. Each refusal has a number and a name.
+//! The reasons why a group is not taken, and why a journal is not opened. Each refusal has a number and a name.
 
 ghost use Rattle.std.specs.Prelude.{◌≡◌};
 ghost use Rattle.durable_store.specs.Calls.{closed_by};
@@ -10,20 +10,22 @@ use journal::DeviceFault;
 use std::alloc::{AllocError, AllocFailed};
 use thiserror::Error;
 
-/// Why a group of items was not taken. After all but `Lost` none of it was, and the store can be asked again.
+/// The reason why a group of items was not taken. After all but `Lost` no item of it was taken, and the store can be asked again.
 #[derive(Clone, Copy, Debug, PartialEq, Eq, Error)]
 pub enum TakeFault {
-    /// 118: the texts of the new items are longer than a group may be, with the basis where the journal is not begun. Nothing was written.
+    /// 118: the texts that must be written take more bytes than a group may: those of the new items, and the basis if the journal is not
+    /// begun. Nothing was written.
     #[error("the group is longer than a journal takes at once")]
     GroupTooLong,
-    /// 119: the journal is longer than the longest. Nothing was written.
+    /// 119: the journal takes 2^60 bytes or more. Nothing was written.
     #[error("the journal is full")]
     JournalFull,
-    /// 120: the file or its disk failed, a full disk among others. The journal was repaired.
+    /// 120: the file or its disk failed, for example because the disk is full. The journal was repaired.
     #[error("the journal's file failed")]
     DiskFailed,
-    /// 121: the store is closed for good, and what stopped it: whether the group is in the journal is not known, or the journal could not be
-    /// repaired, or the store could not take what is in the journal. The process ends, and comes back with what is in the journal.
+    /// 121: the store is closed for good, and the value says what stopped it. There are three causes: it is not known whether the group is
+    /// in the journal, or the journal could not be repaired, or the store could not take what is in the journal. The process has to end.
+    /// After a restart the store has what is in the journal.
     #[error("the store is closed until its journal is opened again")]
     Lost(DeviceFault),
     /// 99: a growth of memory was refused.
@@ -32,7 +34,7 @@ pub enum TakeFault {
 }
 
 impl TakeFault {
-    /// The number of the refusal.
+    /// Returns the number of the refusal.
     pub fn number(&self) -> u8
         ensures { result ≡ take_number self.now }
     {
@@ -45,7 +47,7 @@ impl TakeFault {
         }
     }
 
-    /// The name of the refusal, which is that of its variant.
+    /// Returns the name of the refusal, which is that of its variant.
     pub fn name(&self) -> &'static str
         ensures { result.now ≡ take_name self.now }
     {
@@ -58,7 +60,7 @@ impl TakeFault {
         }
     }
 
-    /// Why the store is closed for good from then on, if it is.
+    /// Returns why the store is closed for good by this refusal. Returns `None` if it stays open.
     pub fn closed_by(&self) -> Option<DeviceFault>
         ensures { result ≡ closed_by self.now }
     {
@@ -88,25 +90,26 @@ impl<T: Drop> From<AllocFailed<T>> for TakeFault {
     }
 }
 
-/// Why a journal is not opened. Nothing of its file was cut or written.
+/// The reason why a journal is not opened. Nothing of its file was cut or written.
 #[derive(Clone, Copy, Debug, PartialEq, Eq, Error)]
 pub enum OpenFault {
     /// 90: there is no worker, or there are more than [`MOST_WORKERS`](parallel_checking::MOST_WORKERS).
-    #[error("the number of workers is not one of those allowed")]
+    #[error("the number of workers is not allowed")]
     BadWorkers,
     /// 120: the file or its disk failed.
     #[error("the journal's file failed")]
     DiskFailed,
-    /// 122: no crash leaves such a file: bytes of it were changed by something else.
-    #[error("the journal is damaged: no crash leaves it so")]
+    /// 122: no crash leaves such a file. Something else changed its bytes.
+    #[error("the journal is damaged in a way that no crash causes")]
     Damaged,
     /// 123: the file's first text is not that of a journal of items for this program.
-    #[error("the journal is of another program, or no journal of items")]
+    #[error("the journal is of another program, or it is no journal of items")]
     OtherProgram,
     /// 124: the file's second text is not that of this directory.
     #[error("the journal is of another directory")]
     OtherDirectory,
-    /// 125: the text at this place, from 0, is not that of an item that is valid under the directory.
+    /// 125: the text at this place is not that of an item that is valid under the directory. Places are counted from 0, and the basis has
+    /// the first two.
     #[error("a text of the journal is not that of a valid item")]
     BadItem(u64),
     /// 99: a growth of memory was refused.
@@ -115,7 +118,7 @@ pub enum OpenFault {
 }
 
 impl OpenFault {
-    /// The number of the refusal.
+    /// Returns the number of the refusal.
     pub fn number(&self) -> u8
         ensures { result ≡ open_number self.now }
     {
@@ -130,7 +133,7 @@ impl OpenFault {
         }
     }
 
-    /// The name of the refusal, which is that of its variant.
+    /// Returns the name of the refusal, which is that of its variant.
     pub fn name(&self) -> &'static str
         ensures { result.now ≡ open_name self.now }
     {

@@ -15,17 +15,17 @@ use evidence_item::{DecodeFault, Item};
 use journal::{Device, Reading};
 use std::alloc::Global;
 
-/// How many items are read before they are checked.
+/// The largest number of items that are read before they are checked.
 const MOST_AT_ONCE: usize = 4096;
 
-/// Items of a journal, and whether nothing stands behind them.
+/// Items of a journal, and whether they are its last.
 #[derive(Drop)]
 pub(crate) struct Batch {
     pub(crate) items: Vec<Item>,
     pub(crate) is_last: bool,
 }
 
-/// The next text, where there is one more.
+/// Reads the next text. Returns `None` if there is no more.
 fn next_text<D: Device>(
     alloc: Global,
     reading: &mut Reading<D>,
@@ -48,14 +48,15 @@ fn next_text<D: Device>(
     }
 }
 
-/// Whether two texts are one.
+/// Returns whether two texts are equal.
 fn is_same(text: &[u8], other: &[u8]) -> bool
     ensures { IsTrue result ↔ (text.now ≡ other.now) }
 {
     text == other
 }
 
-/// Whether the journal begins with the basis: not, where it has no text. It is refused where it begins otherwise.
+/// Returns whether the journal is begun: `true` if it begins with the basis, `false` if it has no text. Reports `OtherProgram` or
+/// `OtherDirectory` if it begins otherwise.
 pub(crate) fn read_basis<D: Device>(
     alloc: Global,
     reading: &mut Reading<D>,
@@ -86,7 +87,7 @@ pub(crate) fn read_basis<D: Device>(
     Ok(true)
 }
 
-/// The item of a text, which stands at this place.
+/// Reads the item of a text, which stands at this place.
 fn item_of(alloc: Global, text: &[u8], place: u64) -> Result<Item, OpenFault>
     ensures item { IfOk result (λ item. text.now ≡ spelling item.fields) }
     ensures none { IfErr result (λ e. (e ≡ OpenFault.Memory) ⊎ ((e ≡ OpenFault.BadItem place) × ((x : Piece) → text.now ≡ spelling x.fields → ⊥))) }
@@ -98,7 +99,7 @@ fn item_of(alloc: Global, text: &[u8], place: u64) -> Result<Item, OpenFault>
     }
 }
 
-/// The item of the next text, which stands at this place, where there is one more.
+/// Reads the item of the next text, which stands at this place. Returns `None` if there is no more text.
 fn next_item<D: Device>(
     alloc: Global,
     reading: &mut Reading<D>,
@@ -123,7 +124,7 @@ fn next_item<D: Device>(
     }
 }
 
-/// The items of the next texts, of which the first stands at this place: as many as are checked at once.
+/// Reads the items of the next texts, as many as are checked at once. The first text stands at this place.
 pub(crate) fn next_items<D: Device>(
     alloc: Global,
     reading: &mut Reading<D>,

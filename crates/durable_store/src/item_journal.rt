@@ -1,4 +1,4 @@
-//! The journal of a store's items: it is begun with its basis, and repaired where an append stops.
+//! The journal of a store's items. It is begun with its basis, and repaired when an append stops.
 
 ghost use Rattle.std.specs.Prelude.{◌≡◌, ◌⊎◌, ◌<◌, ◌≤◌, ◌^◌, ◌++◌, true, false, length, None, IfErr, IfOk, OnOk, IsErrOf, []};
 ghost use Rattle.journal.specs.Device.{LeavesOnly};
@@ -16,17 +16,17 @@ use journal::{AppendFault, Device, DeviceFault, Journal};
 use outcome::Memory;
 use std::alloc::Global;
 
-/// A journal of items, with the texts by which it begins.
+/// A journal of items, with the texts with which it begins.
 #[derive(Drop)]
 pub(crate) struct ItemJournal<D: Device> {
     pub(crate) texts: Journal<D>,
     /// The basis.
     pub(crate) basis: Vec<Vec<u8>>,
-    /// It is in the journal.
+    /// Whether the basis is in the journal.
     pub(crate) is_begun: bool,
 }
 
-/// Why nothing was added, once the journal is repaired: what stopped it; or that it could not be repaired.
+/// Repairs the journal after an append that stopped. It returns what stopped the append, or `Lost` if the journal cannot be repaired.
 fn repaired<D: Device>(journal: &mut Journal<D>, stopped: DeviceFault) -> TakeFault
     requires closed { IsClosed D.seen D.may_leave journal.old }
     ensures settled { closed_by result ≡ None → IsSettled D.seen D.may_leave journal.new }
@@ -45,7 +45,7 @@ fn repaired<D: Device>(journal: &mut Journal<D>, stopped: DeviceFault) -> TakeFa
     }
 }
 
-/// Adds a group to a settled journal, which is settled again after each error but `Lost`.
+/// Adds a group to a settled journal. The journal is settled again after each error but `Lost`.
 fn append<D: Device>(
     journal: &mut Journal<D>,
     alloc: Global,
@@ -75,7 +75,7 @@ fn append<D: Device>(
     }
 }
 
-/// Copies of the texts, and behind them copies of further ones.
+/// Returns copies of the texts, and behind them copies of further ones.
 fn joined(alloc: Global, texts: &[Vec<u8>], further: &[Vec<u8>]) -> Result<Vec<Vec<u8>>, Memory>
     ensures { IfOk result (λ all. texts_of all.items ≡ texts_of texts.now ++ texts_of further.now) }
 {
@@ -85,7 +85,7 @@ fn joined(alloc: Global, texts: &[Vec<u8>], further: &[Vec<u8>]) -> Result<Vec<V
     Ok(all)
 }
 
-/// Puts copies of the texts behind those that there are.
+/// Adds copies of the texts behind those that there are.
 fn add_copies(alloc: Global, all: &mut Vec<Vec<u8>>, texts: &[Vec<u8>]) -> Result<(), Memory>
     ensures { OnOk result (texts_of all.new.items ≡ texts_of all.old.items ++ texts_of texts.now) }
 {
@@ -96,7 +96,7 @@ fn add_copies(alloc: Global, all: &mut Vec<Vec<u8>>, texts: &[Vec<u8>]) -> Resul
 }
 
 impl<D: Device> ItemJournal<D> {
-    /// Adds texts as one group, with the basis in front of the first ones.
+    /// Adds texts as one group. The basis goes in front of the first texts.
     pub(crate) fn write(&mut self, alloc: Global, texts: &[Vec<u8>]) -> Result<(), TakeFault>
         requires settled { IsSettled D.seen D.may_leave self.old.texts }
         requires some { 0 < length texts.now }

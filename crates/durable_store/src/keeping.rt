@@ -1,4 +1,4 @@
-//! A group is written, and then taken.
+//! How a group is written, and then taken.
 
 ghost use Rattle.std.specs.Prelude.{◌≡◌, ◌⊎◌, ◌<◌, ◌≤◌, ◌^◌, None, IfErr, IfOk, OnOk, IsErrOf};
 ghost use Rattle.std.specs.List.{All};
@@ -21,7 +21,7 @@ use journal::{Device, DeviceFault};
 use replay_verifier::Program;
 use std::alloc::Global;
 
-/// Writes the texts of those items of the group that the store does not hold, and has the store take the group.
+/// Writes the texts of those items of the group that the store does not hold. Then it has the store take the group.
 pub(crate) fn keep_group<P: Program, S: Evidence<P>, D: Device>(
     alloc: Global,
     journal: &mut ItemJournal<D>,

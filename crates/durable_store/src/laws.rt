@@ -1,4 +1,4 @@
-//! Laws over the definitions. Each is a function that does nothing: its contract is the law.
+//! Laws over the definitions. Each law is the contract of a function that does nothing.
 
 ghost use Rattle.durable_store.specs.Opening.{LeftJournalsAreOpened};
 ghost use Rattle.durable_store.specs.Runs.{CrashesKeepWhatWasAcknowledged, FilesKeepOneSet};
@@ -25,14 +25,14 @@ pub fn left_journals_are_opened()
     ensures { LeftJournalsAreOpened }
 {}
 
-/// A witness has each item that it acknowledged, and none that nobody gave it, whatever crashed when.
+/// A witness has each item that it acknowledged, and none that nobody gave it, at whatever moments crashes came.
 pub fn witnesses_keep_what_they_acknowledged<D: Device>()
     ensures { WitnessesKeepWhatTheyAcknowledged D D.moment D.may_leave D.left_since }
 {
     files_keep_one_set();
 }
 
-/// Witnesses that acknowledged the same answer alike, whatever crashed when.
+/// Two witnesses that each acknowledged what either was given answer alike, at whatever moments crashes came.
 pub fn witnesses_answer_alike<S, C: Device, D: Device>()
     ensures { WitnessesAnswerAlike S C D C.moment C.may_leave C.left_since D.moment D.may_leave D.left_since }
 {

@@ -1,4 +1,4 @@
-//! A journal is opened: it is read, its items are checked again, and what a crash left behind it is cut off.
+//! How a journal is opened: it is read, its items are checked again, and what a crash left behind its texts is cut off.
 
 ghost use Rattle.std.specs.Prelude.{◌≡◌, ◌⊎◌, ◌↔◌, ◌<◌, ◌≤◌, [], List, ℕ, length, None, Err, IfErr, IfOk, IsErrOf, MatchResult, OnOk};
 ghost use Rattle.evidence_set.specs.ItemSets.{none};
@@ -25,10 +25,10 @@ use std::alloc::{AllocError, Global};
 use std::marker::{Model, PhantomData};
 use std::thread::Threads;
 
-/// A journal that is being opened: first all of it is read, by [`read`](Opening::read), and then it is finished. Nothing of its file is cut
-/// or written before.
+/// A journal that is being opened. First [`read`](Opening::read) reads all of it, and then [`finish`](Opening::finish) opens the store.
+/// Nothing of the file is cut or written before `finish`.
 ///
-/// A contract sees how the journal is read, what it is to begin with, whether it was found to, and the store so far.
+/// A contract sees how the journal is read, what it is to begin with, whether it was found to begin so, and the store so far.
 #[derive(Drop)]
 pub struct Opening<P: Program, S: Evidence<P>, D: Device> {
     alloc: Global,
@@ -53,7 +53,7 @@ impl<P: Program, S: Evidence<P>, D: Device> Model for Opening<P, S, D> {
     ghost invariant = { λ o. length o.basis.items ≡ 2 };
 }
 
-/// The texts with which a journal of this program and this directory begins.
+/// Returns the two texts with which a journal of this program and this directory begins.
 fn basis_texts(
     alloc: Global,
     program_name: &str,
@@ -102,7 +102,7 @@ where
 }
 
 impl<P: Program, S: Evidence<P>, D: Device> Opening<P, S, D> {
-    /// Begins to open the journal of a device of which nothing was read. The error is want of memory; the device is let go.
+    /// Begins to open the journal of a device of which nothing was read. If a growth is refused, it reports that and drops the device.
     pub fn new(
         alloc: Global,
         program_name: &str,
@@ -133,11 +133,16 @@ impl<P: Program, S: Evidence<P>, D: Device> Opening<P, S, D> {
 
     /// Reads all of the journal, checks each item again, by so many workers, and takes it. A new journal has no text, and so no item.
     ///
-    /// It is refused with `BadWorkers` (90), before anything is read, where the workers are not 1 to [`MOST_WORKERS`]; with `OtherProgram`
-    /// (123) or `OtherDirectory` (124) where the journal begins otherwise; with `BadItem` (125) of a text that is not that of a valid item;
-    /// with `Damaged` (122) where no crash leaves such a file; with `DiskFailed` (120) only where the device failed. The first of these is
-    /// told that is met; of the items that are checked at once it is any. `Memory` may come in place of each but `BadWorkers`. After an error nothing
-    /// more may be asked.
+    /// The call reports the first of these that it meets:
+    ///
+    /// - `BadWorkers` (90), before anything is read, if the workers are not 1 to [`MOST_WORKERS`];
+    /// - `OtherProgram` (123) or `OtherDirectory` (124), if the journal begins otherwise;
+    /// - `BadItem` (125), if a text is not that of a valid item;
+    /// - `Damaged` (122), if no crash leaves such a file;
+    /// - `DiskFailed` (120), only if the device failed.
+    ///
+    /// Items are read and then checked, up to 4,096 at a time. So a later text of these that cannot be read comes before an earlier item
+    /// that is not valid. `Memory` may come in place of each but `BadWorkers`. After an error nothing more may be asked.
     pub fn read<R: Threads + Sync>(
         &mut self,
         rt: &R,
@@ -171,8 +176,8 @@ impl<P: Program, S: Evidence<P>, D: Device> Opening<P, S, D> {
         Ok(())
     }
 
-    /// Opens the store: what a crash left behind the journal's last text is cut off. A crash meanwhile leaves the same items. The error is
-    /// the device's, or want of memory.
+    /// Opens the store, and cuts off what a crash left behind the journal's last text. A crash meanwhile leaves the same items. The refusal
+    /// gives the device back, and says that it failed or that a growth was refused.
     pub fn finish(self) -> Result<DurableStore<P, S, D>, Refused<D>>
         requires { IsWhole D.seen D.may_leave self }
         ensures opened { IfOk result (λ s. (s.basis ≡ self.basis) × (s.contents ≡ self.contents) × (s.closed ≡ None)) }

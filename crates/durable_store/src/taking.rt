@@ -1,4 +1,4 @@
-//! What a group becomes: the texts of what is new, and then the items in the store.
+//! What becomes of a group: the texts of what is new, and then the items in the store.
 
 ghost use Rattle.std.specs.Prelude.{◌≡◌, ◌≤◌, [], IfOk, OnErr, OnOk, length, not, vec_capacity};
 ghost use Rattle.std.specs.List.{All};
@@ -15,7 +15,7 @@ use outcome::Memory;
 use replay_verifier::Program;
 use std::alloc::{AllocError, Global};
 
-/// The spellings of those items that the store does not hold, in their order.
+/// Returns the encodings of those items that the store does not hold, in their order.
 pub(crate) fn new_texts<P: Program, S: Evidence<P>>(
     alloc: Global,
     store: &S,
@@ -45,8 +45,8 @@ fn take<P: Program, S: Evidence<P>>(store: &mut S, checked: Checked<P>) -> Resul
     }
 }
 
-/// Has the store take each of the items, and tells of each whether it is new, in a vector that has room for that. After an error the store
-/// has some of them.
+/// Has the store take each of the items, and returns for each whether it is new, in a vector that has room for that. After an error the
+/// store has some of them.
 pub(crate) fn take_each<P: Program, S: Evidence<P>>(
     store: &mut S,
     group: Vec<Checked<P>>,

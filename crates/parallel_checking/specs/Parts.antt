@@ -8,7 +8,7 @@ use Rattle.item_forms.specs.Pieces.{Piece}
 use Rattle.evidence_item.specs.declared.examining.Examined.{Examined}
 use Rattle.evidence_item.specs.Examining.{IsExamined}
 
--- What is there is known of the items at the same places.
+-- Each element of the list is true knowledge of the item at the same place. The list may be shorter than that of the items.
 abbrev pub AreKnown : Listing → List Piece → List Examined → Type 0
 AreKnown ds items all = (n : ℕ) (x : Piece) (e : Examined) → n < length all → IsExamined ds (slice_index_or items n x).fields (slice_index_or all n e)
 
@@ -22,7 +22,7 @@ AllWhole [] = Unit {0}
 AllWhole (Ok v ∷ ps) = AllWhole ps
 AllWhole (Err e ∷ ps) = ⊥
 
--- One after the other.
+-- The elements of all parts that are there, one part after the other.
 abbrev pub items_of : {T : Type 0} → List (Part T) → List T
 items_of [] = []
 items_of (Ok v ∷ ps) = v.items ++ items_of ps

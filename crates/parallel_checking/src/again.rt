@@ -1,4 +1,4 @@
-//! Checking again what was refused memory.
+//! Checks that are made again, since they were refused memory.
 
 ghost use Rattle.std.specs.Prelude.{◌≡◌, ◌≢◌, ◌↔◌, ◌<◌, ◌≤◌, ◌⊎◌, All, Err, IfErr, IfOk, count_by, length, slice_set};
 ghost use Rattle.parallel_checking.specs.Again.{AreAgain, wants_answer};
@@ -24,7 +24,7 @@ struct Placed<T> {
     answer: T,
 }
 
-/// Whether the check was refused memory.
+/// Returns whether the check was refused memory.
 #[tactic(auto, unfolding(crate::specs::Again::wants_answer))]
 fn wants<P: Program>(answer: &Result<Checked<P>, ItemFault>) -> bool
     ensures { result ≡ wants_answer answer.now }
@@ -32,7 +32,7 @@ fn wants<P: Program>(answer: &Result<Checked<P>, ItemFault>) -> bool
     matches!(answer, Err(ItemFault::Memory))
 }
 
-/// The places that want an answer, ascending.
+/// Returns the places that want an answer, ascending.
 fn wanting<P: Program>(
     alloc: Global,
     results: &[Result<Checked<P>, ItemFault>],
@@ -48,7 +48,7 @@ fn wanting<P: Program>(
     Ok(places)
 }
 
-/// How many places want an answer.
+/// Returns how many places want an answer.
 fn how_many<P: Program>(results: &[Result<Checked<P>, ItemFault>]) -> usize
     ensures { result ≡ count_by wants_answer results.now }
 {
@@ -74,7 +74,7 @@ fn write_all<T: Drop>(results: &mut Vec<T>, answers: Vec<Placed<T>>)
     }
 }
 
-/// The answers to the items at the places, by so many workers.
+/// Checks the items at the places, by so many workers. Each answer comes with its place.
 fn check_places<R: Threads + Sync, P: Program + Send + Sync, G: Gate + Sync>(
     rt: &R,
     alloc: Global,
@@ -105,12 +105,14 @@ where
     Ok(answers)
 }
 
-/// Checks those items again whose result is `Memory`, by so many workers, each with the answer written to its
-/// place; the other results are left. It gives how many results are `Memory` now. The gate is told before and after each check.
+/// Checks those items again whose result is `Memory`, by so many workers. It writes each answer to its place and leaves the other results.
+/// It returns how many results are `Memory` now. The gate is called before and after each check.
 ///
-/// The first of these is told, and then all results are left: `BadWorkers` (90) where the workers are not 1 to [`MOST_WORKERS`];
-/// `LengthMismatch` (93) where there is not one result for each item; `Memory` where a growth beside the checks was refused. All
-/// growths come before the first result is written.
+/// The call reports the first of these that applies, and then leaves all results:
+///
+/// - `BadWorkers` (90), if the workers are not 1 to [`MOST_WORKERS`];
+/// - `LengthMismatch` (93), if there is not one result for each item;
+/// - `Memory`, if a growth beside the checks was refused. All growths come before the first result is written.
 pub fn check_again<R: Threads + Sync, P: Program + Send + Sync, G: Gate + Sync>(
     rt: &R,
     alloc: Global,

@@ -8,18 +8,18 @@ use evidence_item::Item;
 use outcome::Memory;
 use std::alloc::{AllocError, Global};
 
-/// How many items are checked together at most.
+/// The largest number of items that one worker checks together.
 pub const MOST_TOGETHER: usize = 32;
 
-/// Neighbouring items, and the place of the first one.
+/// Neighbouring items of a list, and the place of the first one.
 #[derive(Clone, Copy)]
 pub(crate) struct Block<'a> {
     pub(crate) start: usize,
     pub(crate) items: &'a [Item],
 }
 
-/// How many items a block has, of so many items for so many workers, at most 15: there are four blocks and more for each worker, if there are
-/// so many items, and no block has more than 32.
+/// Returns how many items a block has, of `count` items for so many workers (1 to 15). A block has 1 to 32 items. There are at least four
+/// blocks for each worker, if there are so many items.
 pub fn block_size(count: usize, workers: usize) -> usize
     requires { (0 < workers) × (workers < 16) }
     ensures some { 0 < result }
@@ -29,7 +29,7 @@ pub fn block_size(count: usize, workers: usize) -> usize
     size.min(MOST_TOGETHER).max(1)
 }
 
-/// The items in blocks of this size. The last one has what is left.
+/// Cuts the items into blocks of this size. The last block has what is left.
 pub(crate) fn blocks_of<'a>(
     alloc: Global,
     items: &'a [Item],
@@ -52,7 +52,7 @@ pub(crate) fn blocks_of<'a>(
     Ok(all)
 }
 
-/// The parts one after the other, if all are there; else `Memory`, as if a growth is refused.
+/// Joins the parts, one after the other. It returns `Memory` if a part is missing or if a growth is refused.
 pub fn joined<T: Drop>(alloc: Global, parts: Vec<Result<Vec<T>, Memory>>) -> Result<Vec<T>, Memory>
     ensures whole { IfOk result (λ all. AllWhole parts.items) }
     ensures items { IfOk result (λ all. all.items ≡ items_of parts.items) }

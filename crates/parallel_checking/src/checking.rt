@@ -1,4 +1,4 @@
-//! Checking a list of items by several workers.
+//! Checks of a list of items by several workers.
 
 ghost use Rattle.std.specs.Prelude.{◌≡◌, ◌↔◌, ◌+◌, ◌<◌, ◌≤◌, ◌^◌, ◌⊎◌, All, Err, IfOk, IfSome, length};
 ghost use Rattle.evidence_item.specs.Examining.{IsExamined};
@@ -19,12 +19,13 @@ use replay_verifier::Program;
 use std::alloc::{AllocError, Global};
 use std::thread::Threads;
 
-/// Who is told of each check. Workers in different threads call it at once.
+/// A receiver of the calls that workers make before and after each check. Workers in different threads call it at once.
 pub trait Gate {
-    /// A worker is about to check the item of this place. Where several are checked together, their signatures were verified before.
+    /// Is called when a worker is about to check the item at this place. If the worker checks several items together, it has verified their
+    /// signatures before this call.
     fn enter(&self, item: usize);
 
-    /// The worker has checked it.
+    /// Is called when the worker has checked the item at this place.
     fn leave(&self, item: usize);
 }
 
@@ -38,7 +39,7 @@ impl Gate for OpenGate {
     fn leave(&self, _item: usize) {}
 }
 
-/// What checking gives of a copy of the item, or `Memory` where it can't be copied.
+/// Checks a copy of the item. It returns `Memory` if the item cannot be copied.
 pub(crate) fn check_copy<P: Program>(
     alloc: Global,
     program: &P,
@@ -51,7 +52,7 @@ pub(crate) fn check_copy<P: Program>(
     check_item(alloc, program, directory, copy)
 }
 
-/// The same of an item of which something may be known.
+/// Checks a copy of an item of which something may be known.
 fn check_known<P: Program>(
     alloc: Global,
     program: &P,
@@ -69,8 +70,8 @@ fn check_known<P: Program>(
     check_examined(alloc, program, directory, copy, *examined)
 }
 
-/// What is known of the items before they are checked, by [`examine_all`]: nothing of fewer than three, of which the signatures are verified
-/// as fast alone, and nothing if there is no memory for it. It is never refused.
+/// Returns what [`examine_all`] finds of the items before they are checked. It returns an empty list for fewer than three items, since
+/// their signatures are verified as fast alone. It also returns an empty list if memory is refused, so the call itself has no refusal.
 pub fn examine_some(alloc: Global, directory: &Directory, items: &[Item]) -> Vec<Examined>
     ensures { AreKnown directory.now items.now result.items }
 {
@@ -83,7 +84,7 @@ pub fn examine_some(alloc: Global, directory: &Directory, items: &[Item]) -> Vec
     }
 }
 
-/// What checking gives of a copy of each item of the block, whose signatures are verified together.
+/// Checks a copy of each item of the block. The signatures are verified together.
 fn check_block<P: Program, G: Gate>(
     alloc: Global,
     program: &P,
@@ -106,7 +107,7 @@ fn check_block<P: Program, G: Gate>(
     Ok(answers)
 }
 
-/// What checking gives of each block, by so many workers.
+/// Checks each block, by so many workers.
 fn check_blocks<R: Threads + Sync, P: Program + Send + Sync, G: Gate + Sync>(
     rt: &R,
     alloc: Global,
@@ -130,12 +131,18 @@ where
     Ok(answers)
 }
 
-/// Checks each item under the directory, by so many workers: place `n` of the answer has what `check_item`
-/// gives of a copy of item `n`. The gate is told before and after each check. A worker takes neighbouring items, 32 at most, and verifies
-/// the signatures of those that are no segments together, with some 90 KB of memory; where that is refused, each is verified alone.
+/// Checks each item under the directory, by so many workers. Place `n` of the answer has what `check_item` gives of a copy of item `n`. The
+/// gate is called before and after each check.
 ///
-/// The first of these is told: `BadWorkers` (90) where the workers are not 1 to [`MOST_WORKERS`]; `Memory` where a growth beside the
-/// checks was refused. A check that is refused memory gives `Memory` at its own place.
+/// A worker takes neighbouring items, 32 at most. It verifies the signatures of those that are no segments together, with some 90 KB of
+/// memory. If that memory is refused, it verifies each signature alone.
+///
+/// The call reports the first of these that applies:
+///
+/// - `BadWorkers` (90), if the workers are not 1 to [`MOST_WORKERS`];
+/// - `Memory`, if a growth beside the checks was refused.
+///
+/// A check that is refused memory gives `Memory` at its own place of the answer.
 pub fn check_all<R: Threads + Sync, P: Program + Send + Sync, G: Gate + Sync>(
     rt: &R,
     alloc: Global,

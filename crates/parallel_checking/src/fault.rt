@@ -1,18 +1,18 @@
-//! Why a list of items is not checked. Each refusal has a number and a name.
+//! The reasons why a list of items is not checked. Each refusal has a number and a name.
 
 ghost use Rattle.std.specs.Prelude.{◌≡◌};
 ghost use Rattle.parallel_checking.specs.Refusals.{name_of, number_of};
 
 use thiserror::Error;
 
-/// Why a list of items is not checked, or not checked again.
+/// The reason why a list of items is not checked, or not checked again.
 #[derive(Clone, Copy, Debug, PartialEq, Eq, Error)]
 pub enum CheckAllFault {
     /// 90: there is no worker, or there are more than [`MOST_WORKERS`](crate::MOST_WORKERS).
-    #[error("the number of workers is not one of those allowed")]
+    #[error("the number of workers is not allowed")]
     BadWorkers,
-    /// 93: there is not one result for each item. Only [`check_again`](crate::check_again) tells it.
-    #[error("the results are not as many as the items")]
+    /// 93: the results are not as many as the items. Only [`check_again`](crate::check_again) reports it.
+    #[error("there are not as many results as items")]
     LengthMismatch,
     /// 99: a growth of memory was refused.
     #[error("memory ran out")]
@@ -20,7 +20,7 @@ pub enum CheckAllFault {
 }
 
 impl CheckAllFault {
-    /// The number of the refusal.
+    /// Returns the number of the refusal.
     pub fn number(&self) -> u8
         ensures { result ≡ number_of self.now }
     {
@@ -31,7 +31,7 @@ impl CheckAllFault {
         }
     }
 
-    /// The name of the refusal, which is that of its variant.
+    /// Returns the name of the refusal, which is that of its variant.
     pub fn name(&self) -> &'static str
         ensures { result.now ≡ name_of self.now }
     {

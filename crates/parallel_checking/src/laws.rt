@@ -1,4 +1,4 @@
-//! Laws over the definitions. Each is a function that does nothing: its contract is the law.
+//! Laws over the definitions. Each law is the contract of a function that does nothing.
 
 ghost use Rattle.parallel_checking.specs.Again.{AgainAreAnswers};
 ghost use Rattle.parallel_checking.specs.Checks.{AnswersAreOne};
@@ -13,7 +13,7 @@ pub fn answers_are_one<S>()
     findings_are_one();
 }
 
-/// Where there was an answer for each item, there is one after checking again.
+/// If there was an answer for each item before, there is one after checking again.
 pub fn again_are_answers<S>()
     ensures { AgainAreAnswers S }
 {}

@@ -19,7 +19,7 @@ use parallel_map::map_claimed;
 use replay_verifier::Program;
 use std::thread::Threads;
 
-/// What the texts of each block are read as, by the workers.
+/// Reads the texts of each block, by the workers.
 fn read_blocks<R: Threads + Sync, P: Program + Send + Sync>(
     workers: &Workers<'_, R>,
     program: &P,
@@ -41,7 +41,7 @@ where
     Ok(parts)
 }
 
-/// What each text but the first is read as behind the one before it, by the workers, each of whom takes a block of neighbouring texts.
+/// Reads each text but the first, behind the one before it, by the workers. Each worker takes a block of neighbouring texts.
 pub(crate) fn read_texts<R: Threads + Sync, P: Program + Send + Sync>(
     workers: &Workers<'_, R>,
     program: &P,
@@ -61,7 +61,7 @@ where
     Ok(readings)
 }
 
-/// One item more.
+/// Adds one item.
 fn keep<P>(items: &mut Vec<Checked<P>>, item: Checked<P>) -> Result<(), Memory>
     ensures { OnOk result (items.new.items ≡ items.old.items ++ item ∷ []) }
 {
@@ -69,7 +69,7 @@ fn keep<P>(items: &mut Vec<Checked<P>>, item: Checked<P>) -> Result<(), Memory>
     Ok(())
 }
 
-/// Keeps the items that were read behind those before them; or tells the first fault.
+/// Adds the items that were read behind those before them, or reports the first fault.
 pub(crate) fn keep_all<P: Program>(
     items: &mut Vec<Checked<P>>,
     readings: Vec<Result<Checked<P>, Cause>>,

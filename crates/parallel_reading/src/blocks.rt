@@ -1,4 +1,4 @@
-//! Blocks of neighbouring texts, of which the items' signatures are verified together.
+//! Blocks of neighbouring texts. The signatures of their items are verified together.
 
 ghost use Rattle.std.specs.Prelude.{◌≡◌, ◌<◌, ◌++◌, ◌∷◌, ◌-◌, [], IfOk, IfSome, OnErr, OnOk, length, map};
 ghost use Rattle.std.specs.List.{All};
@@ -19,10 +19,10 @@ use parallel_checking::examine_some;
 use replay_verifier::Program;
 use std::alloc::Global;
 
-/// What a text is read as, behind the one before it.
+/// What a text is read as, behind the text before it.
 pub(crate) type Reading<P> = Result<Checked<P>, Cause>;
 
-/// The texts in blocks of so many items. Each begins with the text before its first item's.
+/// Cuts the texts into blocks of so many items. Each block begins with the text before its first item's.
 pub(crate) fn blocks_of<'a>(
     alloc: Global,
     texts: &'a [&'a [u8]],
@@ -44,7 +44,8 @@ pub(crate) fn blocks_of<'a>(
     Ok(all)
 }
 
-/// The item of a text that follows the text `last`, if it is one, in its place, and there is memory for it.
+/// Returns the item of a text that follows the text `last`. It returns `None` if the text is no item, if it is out of place, or if memory
+/// is refused.
 fn decode_next(alloc: Global, last: &[u8], text: &[u8]) -> Option<Item>
     ensures { IfSome result (λ i. IsDecoded last.now text.now i) }
 {
@@ -57,7 +58,7 @@ fn decode_next(alloc: Global, last: &[u8], text: &[u8]) -> Option<Item>
     Some(item)
 }
 
-/// One item more.
+/// Adds one item.
 fn keep_item(items: &mut Vec<Item>, item: Item) -> Result<(), Memory>
     ensures kept { OnOk result (items.new.items ≡ items.old.items ++ item ∷ []) }
     ensures refused { OnErr result (items.new.items ≡ items.old.items) }
@@ -66,7 +67,7 @@ fn keep_item(items: &mut Vec<Item>, item: Item) -> Result<(), Memory>
     Ok(())
 }
 
-/// The items of the first texts behind the first one: as far as each is one, in its place, and there is memory.
+/// Returns the items of the first texts behind the first one, as far as each is an item, in its place, and there is memory.
 fn decode_front(alloc: Global, texts: &[&[u8]]) -> Vec<Item>
     requires { 0 < length texts.now }
     ensures { AreDecoded (map (λ t. t.now) texts.now) result.items }
@@ -103,7 +104,7 @@ fn check_known<P: Program>(
     Ok(checked)
 }
 
-/// Checks the items, of which something may be known, in order.
+/// Checks the items in order. Something may be known of each.
 fn check_front<P: Program>(
     alloc: Global,
     program: &P,
@@ -141,8 +142,7 @@ fn read_others<P: Program>(
     Ok(())
 }
 
-/// What each text of a block but the first is read as, behind the one before it. The signatures of items that are no segments are verified
-/// together.
+/// Reads each text of a block but the first, behind the one before it. The signatures of items that are no segments are verified together.
 pub(crate) fn read_block<P: Program>(
     alloc: Global,
     program: &P,

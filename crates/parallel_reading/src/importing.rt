@@ -1,4 +1,4 @@
-//! Adding the items of the text of a set to a store.
+//! Adds the items of the text of a set to a store.
 
 ghost use Rattle.std.specs.Prelude.{◌≡◌, ◌+◌, ◌<◌, ◌≤◌, IfErr, IfOk, IsOk, OnErr, OnOk};
 ghost use Rattle.std.specs.List.{All};
@@ -25,7 +25,7 @@ use log_chain::laws::bytes_fit;
 use replay_verifier::Program;
 use std::thread::Threads;
 
-/// The items of the text of a set, each checked under the directory, in the order of their spellings.
+/// Reads the items of the text of a set. Each is checked under the directory, and they are in the order of their encodings.
 fn items_of<R: Threads + Sync, P: Program + Send + Sync, W: Watcher>(
     workers: &Workers<'_, R>,
     program: &P,
@@ -51,9 +51,9 @@ where
     Ok(items)
 }
 
-/// Reads the text of a set, behind `PRSTORE2` or `PRSTORE1`, checks its items by workers, and adds them: all, or none. It answers how many
-/// are new, as `Evidence::import` does, and tells the same refusals. The text is let go as it is read, and the watcher is told, as of
-/// [`read_all_by`].
+/// Reads the text of a set, behind `PRSTORE2` or `PRSTORE1`, checks its items by workers, and adds all of them, or none. It returns how
+/// many are new, as `Evidence::import` does, and reports the same refusals. As with [`read_all_by`], memory of the text is freed as it is
+/// read, and the watcher is called.
 pub fn import_by<R: Threads + Sync, P: Program + Send + Sync, S: Evidence<P>, W: Watcher>(
     workers: &Workers<'_, R>,
     store: &mut S,

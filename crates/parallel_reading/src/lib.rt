@@ -1,12 +1,12 @@
-//! Evidence that is read by several workers at once (PeerReview, SOSP 2007: evidence).
+//! Several workers read evidence at once (PeerReview, SOSP 2007: evidence).
 //!
-//! - [`read_all_by`] reads the items of a container that is there at once, as `containers::read_all` does. The caller finds where the
-//!   items' texts stand; workers decode them, test that they ascend, and check them.
+//! - [`read_all_by`] reads the items of a container whose text is all there, as `containers::read_all` does. The caller's thread finds
+//!   where the items' texts stand. Workers decode the items, test that they ascend, and check them.
 //! - [`import_by`] adds the items of the text of a set to a store, as `Evidence::import` does.
-//! - A [`Watcher`] is told meanwhile how far it is.
+//! - A [`Watcher`] is called meanwhile with how far the reading is.
 //!
-//! What an item is read as hangs on its own text and on the text before it alone. So the items can be read in any order, and the first
-//! fault in the order of the items is told: `specs/Readings.antt` says so, and [`laws`] proves it.
+//! What an item is read as depends on its own text and on the text before it alone. So the items can be read in any order, and the call
+//! still reports the first fault in the order of the items. `specs/Readings.antt` says so, and [`laws`] proves it.
 #![tactic(auto)]
 
 pub use importing::import_by;

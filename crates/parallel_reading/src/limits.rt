@@ -1,7 +1,7 @@
 //! Limits.
 
-/// How many items workers are given at once.
+/// The largest number of items that workers are given at once.
 pub(crate) const MOST_AT_ONCE: u64 = 4096;
 
-/// From so many bytes on no further item is put to those that workers are given.
+/// A number of bytes. Once the texts of the items have so many, workers are given no further item.
 pub(crate) const ENOUGH_AT_ONCE: usize = 4_194_304;

@@ -1,4 +1,4 @@
-//! Reading a container by several workers.
+//! Readings of a container by several workers.
 
 ghost use Rattle.std.specs.Prelude.{◌≡◌, ◌+◌, ◌<◌, ◌≤◌, [], IfErr, IfOk, MatchOption, OnErr, OnOk, Err, Ok, drop, length, take, List, ℕ, suc};
 ghost use Rattle.std.specs.List.{All};
@@ -55,7 +55,7 @@ fn read_first<'a, P: Program>(
     }
 }
 
-/// Reads the next items. It gives the last one's text, and how many are left.
+/// Reads the next items. It returns the last one's text, and how many items are left.
 fn read_some<'a, R: Threads + Sync, P: Program + Send + Sync>(
     checkers: &Checkers<'_, R, P>,
     reader: &mut FieldReader<'a>,
@@ -105,7 +105,7 @@ struct Reached {
     left: u64,
 }
 
-/// Reads the next items of bytes in front of which the last one's text stands, of so many bytes.
+/// Reads the next items from bytes that begin with the text of the last item. That text has `last` bytes.
 fn read_behind<R: Threads + Sync, P: Program + Send + Sync>(
     checkers: &Checkers<'_, R, P>,
     bytes: &[u8],
@@ -134,7 +134,7 @@ where
     })
 }
 
-/// Reads the items that are left, behind those that were read. What was read is let go, up to the last item's text.
+/// Reads the items that are left, behind those that were read. Memory of what was read is freed, up to the last item's text.
 fn read_rest<R: Threads + Sync, P: Program + Send + Sync, W: Watcher>(
     checkers: &Checkers<'_, R, P>,
     text: &mut Pending,
@@ -164,7 +164,7 @@ where
     Ok(items)
 }
 
-/// Reads the header and the first item, where there is one.
+/// Reads the header, and the first item if there is one.
 fn read_front<P: Program>(
     alloc: Global,
     program: &P,
@@ -193,18 +193,28 @@ fn read_front<P: Program>(
     }))
 }
 
-/// The items of a text that is there at once, each checked, by workers. It answers what `containers::read_all` answers, whoever read
-/// which item. The text is let go as it is read, so that text and items are never in memory together.
+/// Reads the items of a text that is all there, and checks each, by workers. It returns what `containers::read_all` returns, whichever
+/// worker read which item. Memory of the text is freed as it is read, so text and items are never in memory together.
 ///
-/// The first of these is told, at the first item that shows it: `Truncated` (40) and `BadMagic` (60) in the header; `Truncated` of
-/// an item's length, `TooLong` (42) of it, `Truncated` of its bytes, its own fault of reading (40 to 43), `NotAscending` (61), its
-/// fault of checking (44 to 49); and `Trailing` (43) at the count. `Memory` may come in place of any of them, but not before the
-/// first item was read: what is wrong with the header or with the first item's text is told, whether there is memory or not.
+/// The call reports the first fault in the order of the text. Of the header and of each item it reports the first of these that applies:
 ///
-/// The watcher is told once the first item is read, and then whenever those are that the workers were given at once. With a refusal, what
-/// is left of the text begins with the text of the last item of which the watcher was told, or is the whole text.
+/// - `Truncated` (40) or `BadMagic` (60), in the header;
+/// - `Truncated`, of an item's length;
+/// - `TooLong` (42), of an item's length;
+/// - `Truncated`, of an item's bytes;
+/// - the item's own fault of reading (40 to 43);
+/// - `NotAscending` (61);
+/// - the item's fault of checking (44 to 49).
 ///
-/// Beside the text and the items it takes memory for those that workers are given at once: about four mebibytes of texts, or one item.
+/// `Trailing` (43) comes last, at the count of the items, if bytes follow them. `Memory` may come in place of any of these or of the
+/// answer, with one exception: the call reports what is wrong with the header or with the first item's text whether there is memory or not.
+///
+/// The watcher is called once the first item is read. It is called again each time that workers have read the items that they were given at
+/// once. If the call is refused, what is left of the text begins with the text of the last item that was read when the watcher was last
+/// called. It is the whole text if the watcher was not called.
+///
+/// Beside the text and the items, the call takes memory for the items that the workers are given at once. They are at most 4,096.
+/// Their texts have less than four mebibytes, but for the last one.
 pub fn read_all_by<R: Threads + Sync, P: Program + Send + Sync, W: Watcher>(
     workers: &Workers<'_, R>,
     program: &P,

@@ -1,8 +1,8 @@
-//! Who is told how far a reading is.
+//! Receivers of how far a reading is.
 
-/// Who is told how far a text is read. It is handed numbers alone: whatever it does, what is read stays the same.
+/// A receiver of how far a text is read. It gets numbers alone, so nothing that it does changes what is read.
 pub trait Watcher {
-    /// So many items of the text are read, and so many bytes stand behind them.
+    /// Is called with the number of items that are read, and with the number of bytes of the text that stand behind them.
     fn read(&mut self, items: u64, left: u64);
 }
 

@@ -1,16 +1,16 @@
-//! By whom a text is read, and under what its items are checked.
+//! The workers that read a text, and what they check its items under.
 
 use authenticators::Directory;
 use std::alloc::Global;
 
-/// Workers that read: so many threads of a runtime, and what they take memory of.
+/// Workers that read: a number of threads of a runtime, and the allocator that they use.
 #[derive(Drop)]
 pub struct Workers<'a, R> {
-    /// The runtime, which makes threads.
+    /// The runtime, which makes the threads.
     pub rt: &'a R,
-    /// Of what memory is taken.
+    /// The allocator from which memory is taken.
     pub alloc: Global,
-    /// How many there are: 1 to [`MOST_WORKERS`](crate::MOST_WORKERS).
+    /// How many workers there are: 1 to [`MOST_WORKERS`](crate::MOST_WORKERS).
     pub count: usize,
 }
 

@@ -1,4 +1,4 @@
--- What a line of a scenario says: words that are parted by one blank.
+-- What a line of a scenario says. One blank separates two words.
 use Rattle.std.specs.Prelude.{ℕ, ◌==◌, ◌&&◌, nat_le, List, [], ◌∷◌, Result, Ok, Err, codes, decimal, if◌then◌else◌}
 use Rattle.std.specs.List.{slice_split}
 use Rattle.std.specs.Str.{bytes_eq}
@@ -20,7 +20,7 @@ use Rattle.scenarios.specs.declared.limits.TheConstants.{MOST_WITNESSES}
 abbrev pub words_of : List ℕ → List (List ℕ)
 words_of line = slice_split (λ byte. byte == 32) line
 
--- The number, at most so great, of which the word is the decimal text: digits without leading zeros.
+-- The number of which the word is the decimal text, if it is at most `most`: digits without leading zeros.
 unfoldable pub number_to : ℕ → List ℕ → Result ℕ ScenarioFault
 number_to most word =
     if nat_le (digits_value 10 word) most && bytes_eq (decimal (digits_value 10 word)) word then Ok (digits_value 10 word) else Err BadScenario

@@ -20,7 +20,7 @@ pub record Script : Type 0 where
 
 -- ---- lines
 
--- The parts between line feeds without the last one, where it is empty.
+-- The parts between line feeds, without the last one if that is empty.
 abbrev pub ended : List (List ℕ) → List (List ℕ)
 ended [] = []
 ended (line ∷ []) = if length line == 0 then [] else line ∷ []
@@ -30,7 +30,7 @@ ended (line ∷ next ∷ more) = line ∷ ended (next ∷ more)
 unfoldable pub lines_of : List ℕ → List (List ℕ)
 lines_of text = ended (slice_split (λ byte. byte == 10) text)
 
--- An empty line and one that begins with `#` are skipped.
+-- Whether a line is skipped: it is empty, or begins with `#`.
 abbrev pub is_skipped : List ℕ → Bool
 is_skipped [] = true
 is_skipped (byte ∷ rest) = byte == 35
@@ -43,15 +43,18 @@ pub record Draft : Type 0 where
   pub nodes : List Member
   pub acts : List Act
 
+-- Nothing was read.
 abbrev pub nothing : Draft
 nothing = record { witnesses = None; nodes = []; acts = [] }
 
+-- The node to which it happens.
 abbrev pub node_of : Act → ℕ
 node_of (act.Timer node moment) = node
 node_of (act.Checkpoint node) = node
 node_of (act.Audit node) = node
 node_of (act.Rekey node) = node
 
+-- Whether a node with this number is listed.
 abbrev pub is_listed : List Member → ℕ → Bool
 is_listed nodes id = list_any (λ m. m.id == id) nodes
 
@@ -69,17 +72,18 @@ taken d (says.Witnesses count) = if has_no_line d then Ok (record d { witnesses 
 taken d (says.Node m) = if takes_node d m.id then Ok (record d { nodes = d.nodes ++ m ∷ [] }) else Err BadScenario
 taken d (says.Happens a) = if is_listed d.nodes (node_of a) then Ok (record d { acts = d.acts ++ a ∷ [] }) else Err BadScenario
 
--- A line, after those that were read.
+-- What was read, with one more line.
 unfoldable pub line_taken : Draft → List ℕ → Result Draft ScenarioFault
 line_taken d line = if is_skipped line then Ok d else (instruction_of line >>= taken d)
 
+-- What was read, with all of these lines.
 unfoldable pub lines_taken : Draft → List (List ℕ) → Result Draft ScenarioFault
 lines_taken d [] = Ok d
 lines_taken d (line ∷ lines) = do
   next ← line_taken d line
   lines_taken next lines
 
--- There is a node.
+-- The scenario, if the number of witnesses was said and there is a node.
 abbrev pub completed : Option ℕ → List Member → List Act → Result Script ScenarioFault
 completed None nodes acts = Err BadScenario
 completed (Some count) [] acts = Err BadScenario
@@ -87,7 +91,7 @@ completed (Some count) (m ∷ ms) acts = Ok (record { witnesses = count; nodes =
 
 -- ---- the text
 
--- Bytes below 128, in at most `MOST_LINES` lines, skipped ones counted.
+-- Whether the bytes are below 128, in at most `MOST_LINES` lines, skipped ones counted.
 abbrev pub is_readable : List ℕ → Bool
 is_readable text = list_all (λ byte. nat_lt byte 128) text && nat_le (length (lines_of text)) MOST_LINES
 

@@ -18,8 +18,8 @@ IsMoment (act.Checkpoint node) = Unit {0}
 IsMoment (act.Audit node) = Unit {0}
 IsMoment (act.Rekey node) = Unit {0}
 
--- From 1 to `MOST_WITNESSES` witnesses; from 1 to `MOST_NODES` nodes with different numbers of 32 bits; what happens, happens to a listed node; and a line
--- for each finds room in a text.
+-- There are from 1 to `MOST_WITNESSES` witnesses, and from 1 to `MOST_NODES` nodes with different numbers of 32 bits. What happens, happens
+-- to a listed node. A text has room for a line for each of these.
 pub record IsScenario (s : Script) : Type 0 where
   pub some_witnesses : 1 ≤ s.witnesses
   pub few_witnesses : s.witnesses ≤ MOST_WITNESSES
@@ -33,22 +33,26 @@ pub record IsScenario (s : Script) : Type 0 where
 
 -- ---- its text
 
+-- The word for a kind of node.
 abbrev pub name_of : Kind → List ℕ
 name_of kind.Honest = codes "honest"
 name_of kind.Fork = codes "fork"
 name_of kind.Mute = codes "mute"
 name_of kind.Wrong = codes "wrong"
 
--- Words, parted by one blank, in a line.
+-- A line of a word and a number, with one blank between them.
 abbrev pub pair_line : List ℕ → ℕ → List ℕ
 pair_line verb number = verb ++ 32 ∷ decimal number ++ 10 ∷ []
 
+-- A line of a word, a number and a word, with one blank between two of them.
 abbrev pub triple_line : List ℕ → ℕ → List ℕ → List ℕ
 triple_line verb number word = verb ++ 32 ∷ decimal number ++ 32 ∷ word ++ 10 ∷ []
 
+-- The line of a node.
 abbrev pub node_line : Member → List ℕ
 node_line m = triple_line (codes "node") m.id (name_of m.kind)
 
+-- The line of what happens.
 abbrev pub act_line : Act → List ℕ
 act_line (act.Timer node moment) = triple_line (codes "timer") node (decimal moment)
 act_line (act.Checkpoint node) = pair_line (codes "checkpoint") node
@@ -61,7 +65,7 @@ text_of s = pair_line (codes "witnesses") s.witnesses ++ flat_map node_line s.no
 
 -- ---- laws, which `laws` proves
 
--- What is read is a scenario, and each scenario is read of its text.
+-- What is read is a scenario, and each scenario is read from its text.
 pub record ScenariosAreRead : Type 0 where
   pub found : (text : List ℕ) (s : Script) → scenario_of text ≡ Ok s → IsScenario s
   pub only : (s : Script) → IsScenario s → scenario_of (text_of s) ≡ Ok s

@@ -1,4 +1,4 @@
-//! What was read of a scenario so far.
+//! What is read of a scenario, line by line.
 
 ghost use Rattle.std.specs.Prelude.{◌≡◌, IfErr, OnOk, Ok};
 ghost use Rattle.outcome.specs.Outcome.{Fails, Gives};
@@ -32,6 +32,7 @@ impl Model for Draft {
 }
 
 impl Draft {
+    /// Makes a draft of which nothing was read.
     fn new(alloc: Global) -> Draft
         ensures { result ≡ nothing }
     {
@@ -42,14 +43,14 @@ impl Draft {
         }
     }
 
-    /// Whether the node is listed.
+    /// Returns whether the node is listed.
     fn is_listed(&self, id: NodeId) -> bool
         ensures { result ≡ is_listed self.now.nodes id }
     {
         self.nodes.iter().any(|member| member.id == id)
     }
 
-    /// Whether a node may come, and this one.
+    /// Returns whether a node may come now, and this one.
     fn takes_node(&self, id: NodeId) -> bool
         ensures { result ≡ takes_node self.now id }
     {
@@ -121,7 +122,7 @@ impl Draft {
         self.take(instruction_of(line)?)
     }
 
-    /// What the lines of a text say.
+    /// Returns what the lines of a text say.
     pub(crate) fn read(alloc: Global, text: &[u8]) -> Result<Draft, ScenarioFault>
         ensures { Gives Memory (λ d. d) result (lines_taken nothing (lines_of text.now)) }
     {

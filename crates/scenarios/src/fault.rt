@@ -1,4 +1,4 @@
-//! Why a text is no scenario.
+//! The reasons why a text is no scenario.
 
 ghost use Rattle.std.specs.Prelude.{◌≡◌};
 ghost use Rattle.scenarios.specs.Refusals.{name_of, number_of};
@@ -7,10 +7,10 @@ ghost use Rattle.scenarios.specs.declared.fault.ScenarioFault.TheVariants.{Memor
 use std::alloc::{AllocError, AllocFailed};
 use thiserror::Error;
 
-/// Why a scenario is refused.
+/// The reason why a scenario is refused.
 #[derive(Clone, Copy, Debug, PartialEq, Eq, Error)]
 pub enum ScenarioFault {
-    /// 105: the text is not one that a scenario has.
+    /// 105: the text is not that of a scenario.
     #[error("the text is no scenario")]
     BadScenario,
     /// 99: a growth of memory was refused.
@@ -19,7 +19,7 @@ pub enum ScenarioFault {
 }
 
 impl ScenarioFault {
-    /// The number of the refusal.
+    /// Returns the number of the refusal.
     pub fn number(&self) -> u8
         ensures { result ≡ number_of self.now }
     {
@@ -29,7 +29,7 @@ impl ScenarioFault {
         }
     }
 
-    /// The name of the refusal, which is that of its variant.
+    /// Returns the name of the refusal, which is that of its variant.
     pub fn name(&self) -> &'static str
         ensures { result.now ≡ name_of self.now }
     {

@@ -2,12 +2,12 @@
 
 use authenticators::NodeId;
 
-/// What kind of node one is.
+/// The kind of a node.
 #[derive(Clone, Copy, Debug, PartialEq, Eq)]
 pub enum Kind {
     /// It runs the program and answers.
     Honest,
-    /// It does as an honest one does, and in the end signs a second hash of its last number.
+    /// It does as an honest one does. In the end it signs a second hash of its last number.
     Fork,
     /// It answers nothing that comes to it.
     Mute,
@@ -44,7 +44,7 @@ pub enum Act {
         /// The node that is asked.
         node: NodeId,
     },
-    /// The node signs with its next key from here on.
+    /// From here on, the node signs with its next key.
     Rekey {
         /// The node whose key changes.
         node: NodeId,
@@ -66,7 +66,7 @@ impl Act {
     ghost use Rattle.std.specs.Prelude.{◌≡◌};
     ghost use Rattle.scenarios.specs.Scenarios.{node_of};
 
-    /// The node to which it happens.
+    /// Returns the node to which it happens.
     pub fn node(&self) -> NodeId
         ensures { result ≡ node_of self.now }
     {

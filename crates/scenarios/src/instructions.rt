@@ -1,4 +1,4 @@
-//! Reading what a line says. No call here takes memory.
+//! Readings of what a line says. No call here takes memory.
 
 ghost use Rattle.std.specs.Prelude.{◌≡◌};
 ghost use Rattle.scenarios.specs.Instructions.{id_of, kind_of, member_of, pair_of, instruction_of, timer_of, triple_of, witnesses_of};
@@ -10,7 +10,7 @@ use crate::lines::{Words, words_of};
 use crate::numbers::number_to;
 use authenticators::NodeId;
 
-/// A node's number.
+/// Reads a node's number, of 32 bits.
 fn id_of(word: &[u8]) -> Result<NodeId, ScenarioFault>
     ensures { result ≡ id_of word.now }
 {
@@ -18,6 +18,7 @@ fn id_of(word: &[u8]) -> Result<NodeId, ScenarioFault>
     Ok(NodeId(number as u32))
 }
 
+/// Reads the word for a kind of node.
 #[tactic(auto, unfolding(crate::specs::Instructions::kind_of))]
 fn kind_of(word: &[u8]) -> Result<Kind, ScenarioFault>
     ensures { result ≡ kind_of word.now }
@@ -35,6 +36,7 @@ fn kind_of(word: &[u8]) -> Result<Kind, ScenarioFault>
     }
 }
 
+/// Reads the number of witnesses, from 1 to 8.
 #[tactic(auto, unfolding(crate::specs::Instructions::witnesses_of))]
 fn witnesses_of(word: &[u8]) -> Result<Instruction, ScenarioFault>
     ensures { result ≡ witnesses_of word.now }
@@ -46,6 +48,7 @@ fn witnesses_of(word: &[u8]) -> Result<Instruction, ScenarioFault>
     Ok(Instruction::Witnesses(count as u8))
 }
 
+/// Reads the number and the kind of a node.
 #[tactic(auto, unfolding(crate::specs::Instructions::member_of))]
 fn member_of(first: &[u8], second: &[u8]) -> Result<Instruction, ScenarioFault>
     ensures { result ≡ member_of first.now second.now }
@@ -55,6 +58,7 @@ fn member_of(first: &[u8], second: &[u8]) -> Result<Instruction, ScenarioFault>
     Ok(Instruction::Node(Member { id, kind }))
 }
 
+/// Reads the node and the moment of a timer.
 #[tactic(auto, unfolding(crate::specs::Instructions::timer_of))]
 fn timer_of(first: &[u8], second: &[u8]) -> Result<Instruction, ScenarioFault>
     ensures { result ≡ timer_of first.now second.now }
@@ -64,7 +68,7 @@ fn timer_of(first: &[u8], second: &[u8]) -> Result<Instruction, ScenarioFault>
     Ok(Instruction::Happens(Act::Timer { node, moment }))
 }
 
-/// What two words say.
+/// Returns what two words say.
 #[tactic(auto, unfolding(crate::specs::Instructions::pair_of, crate::specs::Instructions::happening_of))]
 fn pair_of(verb: &[u8], word: &[u8]) -> Result<Instruction, ScenarioFault>
     ensures { result ≡ pair_of verb.now word.now }
@@ -85,7 +89,7 @@ fn pair_of(verb: &[u8], word: &[u8]) -> Result<Instruction, ScenarioFault>
     }
 }
 
-/// What three words say.
+/// Returns what three words say.
 #[tactic(auto, unfolding(crate::specs::Instructions::triple_of))]
 fn triple_of(verb: &[u8], first: &[u8], second: &[u8]) -> Result<Instruction, ScenarioFault>
     ensures { result ≡ triple_of verb.now first.now second.now }
@@ -99,7 +103,7 @@ fn triple_of(verb: &[u8], first: &[u8], second: &[u8]) -> Result<Instruction, Sc
     }
 }
 
-/// What the line says.
+/// Returns what the line says.
 #[tactic(auto, unfolding(crate::specs::Instructions::instruction_of))]
 pub(crate) fn instruction_of(line: &[u8]) -> Result<Instruction, ScenarioFault>
     ensures { result ≡ instruction_of line.now }

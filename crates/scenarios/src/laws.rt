@@ -1,8 +1,8 @@
-//! Laws over the definitions. Each is a function that does nothing: its contract is the law.
+//! Laws over the definitions. Each law is the contract of a function that does nothing.
 
 ghost use Rattle.scenarios.specs.Spelling.{ScenariosAreRead};
 
-/// What is read is a scenario, and each scenario is read of its text.
+/// What is read is a scenario, and each scenario is read from its text.
 pub fn scenarios_are_read()
     ensures { ScenariosAreRead }
 {}

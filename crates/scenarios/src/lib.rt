@@ -1,9 +1,10 @@
 //! Scenarios: what nodes and witnesses do, in lines of words.
 //!
-//! - [`Scenario::read`] reads a scenario's text whole, or refuses it, before anything runs: how many witnesses there are, which nodes
-//!   and of what [`Kind`] each is, and the [`Act`]s in their order.
+//! - [`Scenario::read`] reads a scenario's text whole, or refuses it, before anything runs. A scenario says how many witnesses there are,
+//!   which nodes there are and of what [`Kind`] each is, and the [`Act`]s in their order.
 //!
-//! `specs/Scenarios.antt` says which text is which scenario, `specs/Spelling.antt` how one is written. [`laws`] has what follows.
+//! `specs/Scenarios.antt` says which text is which scenario. `specs/Spelling.antt` says how a scenario is written. [`laws`] has what
+//! follows.
 #![tactic(auto)]
 
 pub use authenticators::NodeId;

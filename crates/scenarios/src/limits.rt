@@ -1,10 +1,10 @@
 //! The limits of scenarios.
 
-/// The most witnesses.
+/// The largest number of witnesses.
 pub(crate) const MOST_WITNESSES: u8 = 8;
 
-/// The most nodes.
+/// The largest number of nodes.
 pub(crate) const MOST_NODES: usize = 64;
 
-/// The most lines, skipped ones counted.
+/// The largest number of lines, with skipped ones counted.
 pub(crate) const MOST_LINES: usize = 1_000;

@@ -8,17 +8,17 @@ ghost use Rattle.scenarios.specs.within.Words.{AreWords};
 /// The byte that ends a line.
 const LINE_FEED: u8 = b'\n';
 
-/// The byte that parts words.
+/// The byte that separates words.
 const BLANK: u8 = b' ';
 
-/// Where the byte stands first.
+/// Returns the first place of the byte.
 fn place_of(text: &[u8], at: u8) -> Option<usize>
     ensures { result ≡ position (λ byte. byte == at) text.now }
 {
     text.iter().position(|byte| *byte == at)
 }
 
-/// What stands before the first such byte, and what behind it; or all, where there is none.
+/// Returns what stands before the first such byte, and what stands behind it. If there is no such byte, returns all and `None`.
 fn cut(text: &[u8], at: u8) -> (&[u8], Option<&[u8]>)
     ensures parts { MatchOption result.1 (slice_split (λ byte. byte == at) text.now ≡ result.0.now ∷ []) (λ rest. slice_split (λ byte. byte == at) text.now ≡ result.0.now ∷ slice_split (λ byte. byte == at) rest.now) }
     ensures whole { IfNone result.1 (result.0.now ≡ text.now) }
@@ -30,7 +30,7 @@ fn cut(text: &[u8], at: u8) -> (&[u8], Option<&[u8]>)
     }
 }
 
-/// The first line without its end, and the bytes after it; `None` where there are no bytes.
+/// Returns the first line without its end, and the bytes after it. Returns `None` if there are no bytes.
 pub(crate) fn first_line(text: &[u8]) -> Option<(&[u8], &[u8])>
     ensures line { MatchOption result (lines_of text.now ≡ []) (λ p. lines_of text.now ≡ p.0.now ∷ lines_of p.1.now) }
     ensures shorter { IfSome result (λ p. length p.1.now < length text.now) }
@@ -45,7 +45,7 @@ pub(crate) fn first_line(text: &[u8]) -> Option<(&[u8], &[u8])>
     }
 }
 
-/// How many lines there are.
+/// Returns how many lines there are.
 pub(crate) fn line_count(text: &[u8]) -> usize
     ensures { result ≡ length (lines_of text.now) }
 {
@@ -58,7 +58,7 @@ pub(crate) fn line_count(text: &[u8]) -> usize
     count
 }
 
-/// Whether the line says nothing: it is empty, or begins with `#`.
+/// Returns whether the line says nothing: it is empty, or begins with `#`.
 pub(crate) fn is_skipped(line: &[u8]) -> bool
     ensures { result ≡ is_skipped line.now }
 {
@@ -77,7 +77,7 @@ pub(crate) enum Words<'a> {
     Three(&'a [u8], &'a [u8], &'a [u8]),
 }
 
-/// The words of the line, where they are two or three.
+/// Returns the words of the line if they are two or three, and otherwise `None`.
 pub(crate) fn words_of(line: &[u8]) -> Option<Words<'_>>
     ensures { AreWords result line.now }
 {

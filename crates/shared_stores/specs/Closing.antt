@@ -1,4 +1,4 @@
--- What passes and a history have to do with one another.
+-- How passes agree with a history.
 use Rattle.std.specs.Prelude.{◌≡◌, ◌<◌, ◌==◌, ℕ, List, [], length, All, count_by, filter, map}
 use Rattle.std.specs.List.{range_with_len}
 use Rattle.shared_stores.specs.declared.fault.CloseFault.{CloseFault}
@@ -33,7 +33,7 @@ pub record AllAgree (callers : ℕ) (history : List Recorded) (passes : List Not
   pub agree : All (Agrees history) passes
   pub known : All (IsOf callers) history
 
--- A pass is missing, or there twice; or the passes are all there.
+-- PassMissing says that a pass is missing or is there twice. HistoryMismatch says no more than that the passes are all there.
 abbrev pub IsFault : ℕ → List Notes → CloseFault → Type 0
 IsFault callers passes closing.PassMissing = ¬ (OneEach callers passes)
 IsFault callers passes closing.HistoryMismatch = OneEach callers passes

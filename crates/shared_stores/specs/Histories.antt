@@ -16,12 +16,13 @@ use Rattle.shared_stores.specs.declared.history.Given.{Given}
 use Rattle.shared_stores.specs.declared.history.Given.TheVariants as reply
 use Rattle.shared_stores.specs.declared.history.Recorded.{Recorded}
 
+-- A call with its caller and its reply.
 abbrev pub recorded : ℕ → Call → Given → Recorded
 recorded caller call reply = record { caller = caller; call = call; reply = reply }
 
 -- ---- what one thread would do
 
--- What is asked of a call: an item that is taken is valid under the directory, and so is each that is merged; a node that is asked about
+-- What a call must be. An item that is taken is valid under the directory, and so is each item that is merged. A node that is asked about
 -- is listed.
 abbrev pub IsAllowed : Listing → Call → Type 0
 IsAllowed ds (call.Take x) = IsValid ds x.fields
@@ -36,8 +37,8 @@ after E (call.Merge M) = Join E M
 after E (call.Ask node) = E
 after E call.Export = E
 
--- What the call is answered: a taking, whether the item is new; a merge, how many items are; a question, what the items say of the
--- node; an export, the text of the items.
+-- The reply to a call. A taking is answered whether the item is new. A merge is answered how many items are new. A question is answered
+-- what the items say of the node. An export is answered with the text of the items.
 abbrev pub IsReply : {S : Type 0} → Listing → Meaning S → Items → Call → Given → Type 0
 IsReply ds program E (call.Take x) (reply.Took new) = new ≡ not (contains E x)
 IsReply ds program E (call.Merge M) (reply.Merged new) = count E + new ≡ count (Join E M)
@@ -45,7 +46,7 @@ IsReply ds program E (call.Ask node) (reply.Says i) = IsIndication ds program E 
 IsReply ds program E call.Export (reply.Bytes text) = text ≡ export_of E
 IsReply ds program E c r = ⊥
 
--- The history leads from the set E to the set F: each call is allowed, and its reply is the one that a single thread is given there.
+-- The history leads from the set E to the set F. Each call is allowed, and its reply is the one that a single thread is given there.
 abbrev pub Replays : {S : Type 0} → Listing → Meaning S → Items → List Recorded → Items → Type 0
 Replays ds program E [] F = E ≡ F
 Replays ds program E (r ∷ rs) F = IsAllowed ds r.call × IsReply ds program E r.call r.reply × Replays ds program (after E r.call) rs F

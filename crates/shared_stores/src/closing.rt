@@ -1,4 +1,4 @@
-//! Closing a shared store.
+//! How a shared store is closed.
 
 ghost use Rattle.std.specs.Prelude.{◌≡◌, IfErr, IfOk};
 ghost use Rattle.shared_stores.specs.Closing.{AllAgree, IsFault};
@@ -14,14 +14,14 @@ use replay_verifier::Program;
 use std::fmt;
 use thiserror::Error;
 
-/// A store that is shared no more, the history of its calls, and the callers' passes.
+/// A store that is no longer shared, the history of its calls, and the callers' passes.
 #[derive(Drop)]
 pub struct Closed<S> {
     /// The store.
     pub store: S,
     /// The calls that were answered, in the order in which they were done.
     pub history: Vec<Recorded>,
-    /// The passes, as they were given.
+    /// The passes, as the caller gave them.
     pub passes: Vec<Pass>,
 }
 
@@ -29,15 +29,15 @@ pub struct Closed<S> {
 #[derive(Drop, Error)]
 #[error("the store is not closed: {fault}")]
 pub struct CloseRefused<S> {
-    /// Why.
+    /// Why it was not closed.
     pub fault: CloseFault,
-    /// The store. Nothing is said of it.
+    /// The store. The contract says nothing of what it has.
     pub store: S,
-    /// The passes, as they were given.
+    /// The passes, as the caller gave them.
     pub passes: Vec<Pass>,
 }
 
-/// Shows why, and nothing of the store.
+/// Shows the fault and the passes, and nothing of the store.
 impl<S> fmt::Debug for CloseRefused<S> {
     fn fmt<W: fmt::Write>(&self, f: &mut fmt::Formatter<W>) -> fmt::Result {
         f.debug_struct("CloseRefused")
@@ -50,12 +50,15 @@ impl<S> fmt::Debug for CloseRefused<S> {
 impl<P: Program, S: Evidence<P>> SharedStore<P, S> {
     /// Takes the store out of its lock, and compares the passes with the history. It takes no memory, and waits for nobody.
     ///
-    /// Where it answers `Ok`, the history is that of a single thread, from the store that was opened to this one: what was taken and
-    /// merged is valid, the nodes that were asked about are listed, and each reply is the one that is given there. The calls of each
-    /// pass are just those of its number in the history; and there are no others. Else the first of these is told: `PassMissing` (91)
-    /// where the passes are not those numbered from 0 on, each once; `HistoryMismatch` (92) where a pass does not agree with the
-    /// history, or the history has a call of another number, or what is kept under the lock of the directory or the opening set is
-    /// not what is kept beside it.
+    /// If it returns `Ok`, the history is that of a single thread, from the store that was opened to this one. What was taken and merged is
+    /// valid. The nodes that were asked about are listed. Each reply is the one that is given there. The calls of each pass are just those
+    /// of its number in the history, and the history has no others.
+    ///
+    /// Otherwise the call reports the first of these that applies:
+    ///
+    /// - `PassMissing` (91), if the passes are not those numbered from 0 on, each once;
+    /// - `HistoryMismatch` (92), if a pass does not agree with the history, or if the history has a call of another number. The same is
+    ///   reported if the directory or the opening set under the lock is not the one beside it.
     pub fn close(self, passes: Vec<Pass>) -> Result<Closed<S>, CloseRefused<S>>
         ensures replays { IfOk result (λ c. Replays self.directory P.means self.opening c.history.items (S.contents c.store).items) }
         ensures directory { IfOk result (λ c. (S.contents c.store).directory ≡ self.directory) }

@@ -1,4 +1,4 @@
-//! Comparing passes with a history.
+//! Comparisons of passes with a history.
 
 ghost use Rattle.std.specs.Prelude.{◌≡◌, ◌↔◌, ◌==◌, All, IsTrue, count_by};
 ghost use Rattle.shared_stores.specs.Closing.{Agrees, IsOf, OneEach};
@@ -6,14 +6,14 @@ ghost use Rattle.shared_stores.specs.Closing.{Agrees, IsOf, OneEach};
 use crate::history::Recorded;
 use crate::pass::Pass;
 
-/// How many passes have the number.
+/// Returns how many passes have the number.
 fn how_many(passes: &[Pass], number: usize) -> usize
     ensures { result ≡ count_by (λ p. p.number == number) passes.now }
 {
     passes.iter().filter(|p| p.number() == number).count()
 }
 
-/// Whether the passes are those numbered from 0 on, each once.
+/// Returns whether the passes are those numbered from 0 on, each once.
 pub(crate) fn one_each(passes: &[Pass], callers: usize) -> bool
     ensures { IsTrue result ↔ OneEach callers passes.now }
 {
@@ -28,7 +28,7 @@ pub(crate) fn one_each(passes: &[Pass], callers: usize) -> bool
     true
 }
 
-/// Whether the calls of the pass are just those of its number in the history, in their order.
+/// Returns whether the calls of the pass are just those of its number in the history, in their order.
 fn agrees(history: &[Recorded], pass: &Pass) -> bool
     ensures { IsTrue result → Agrees history.now pass.now }
 {
@@ -45,14 +45,14 @@ fn agrees(history: &[Recorded], pass: &Pass) -> bool
     next == calls.len()
 }
 
-/// Whether each pass agrees with the history.
+/// Returns whether each pass agrees with the history.
 pub(crate) fn all_agree(history: &[Recorded], passes: &[Pass]) -> bool
     ensures { IsTrue result → All (Agrees history.now) passes.now }
 {
     passes.iter().all(|p| agrees(history, p))
 }
 
-/// Whether each call of the history is of one of the callers.
+/// Returns whether each call of the history is of one of the callers.
 pub(crate) fn all_known(history: &[Recorded], callers: usize) -> bool
     ensures { IsTrue result ↔ All (IsOf callers) history.now }
 {

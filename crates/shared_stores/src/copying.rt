@@ -1,4 +1,4 @@
-//! Copies of items, which are made before a lock.
+//! Copies of items, which are made before the lock is taken.
 
 ghost use Rattle.std.specs.Prelude.{◌≡◌, ◌<◌, IfOk, Some, slice_get};
 ghost use Rattle.evidence_item.specs.Checking.{IsChecked};
@@ -13,7 +13,7 @@ use outcome::Memory;
 use replay_verifier::Program;
 use std::alloc::Global;
 
-/// A copy of the item at a place before the count.
+/// Returns a copy of the item at a place below the count.
 fn copy_at<P: Program, S: Evidence<P>>(store: &S, n: u64) -> Result<Item, Memory>
     requires { n < count (S.contents store.now).items }
     ensures { IfOk result (λ x. slice_get (listed (S.contents store.now).items) n ≡ Some x) }
@@ -25,7 +25,7 @@ fn copy_at<P: Program, S: Evidence<P>>(store: &S, n: u64) -> Result<Item, Memory
     Ok(checked.into_item())
 }
 
-/// Copies of the items of a store, ascending.
+/// Returns copies of the items of a store, ascending.
 fn items_of<P: Program, S: Evidence<P>>(alloc: Global, store: &S) -> Result<Vec<Item>, Memory>
     ensures { IfOk result (λ items. items.items ≡ listed (S.contents store.now).items) }
 {
@@ -37,7 +37,7 @@ fn items_of<P: Program, S: Evidence<P>>(alloc: Global, store: &S) -> Result<Vec<
     Ok(items)
 }
 
-/// A set of copies of the items of a store.
+/// Returns a set of copies of the items of a store.
 pub(crate) fn copies_of<P: Program, S: Evidence<P>>(
     alloc: Global,
     store: &S,
@@ -49,7 +49,7 @@ pub(crate) fn copies_of<P: Program, S: Evidence<P>>(
     Ok(ItemSet::from_vec(items))
 }
 
-/// Two copies of a checked item, of which then is found what checking finds.
+/// Returns two copies of a checked item, after the item's findings are there.
 pub(crate) fn item_and_copies<P: Program>(
     alloc: Global,
     directory: &Directory,

@@ -1,4 +1,4 @@
-//! Why a call is refused. Each refusal has a number and a name.
+//! The reasons why a call is refused. Each refusal has a number and a name.
 
 ghost use Rattle.std.specs.Prelude.{◌≡◌};
 ghost use Rattle.shared_stores.specs.Refusals.{ask_name, ask_number, call_name, call_number, close_name, close_number};
@@ -6,10 +6,11 @@ ghost use Rattle.shared_stores.specs.Refusals.{ask_name, ask_number, call_name, 
 use std::alloc::AllocError;
 use thiserror::Error;
 
-/// Why a call at a shared store is refused.
+/// The reason why a call at a shared store is refused.
 #[derive(Clone, Copy, Debug, PartialEq, Eq, Error)]
 pub enum CallFault {
-    /// 96: the directory under the lock is not the one beside it. It is not seen to happen: a lock keeps only what a type says.
+    /// 96: the directory under the lock is not the one beside it. No call changes it. It is compared since a lock keeps only what the type
+    /// of its content says.
     #[error("the directory under the lock is another one")]
     DirectoryChanged,
     /// 99: a growth of memory was refused.
@@ -17,13 +18,14 @@ pub enum CallFault {
     Memory,
 }
 
-/// Why a question at a shared store is refused.
+/// The reason why a question at a shared store is refused.
 #[derive(Clone, Copy, Debug, PartialEq, Eq, Error)]
 pub enum QuestionFault {
     /// 44: the node is not listed in the store's directory.
     #[error("the node is not listed in the directory")]
     UnknownNode,
-    /// 96: the directory under the lock is not the one beside it. It is not seen to happen: a lock keeps only what a type says.
+    /// 96: the directory under the lock is not the one beside it. No call changes it. It is compared since a lock keeps only what the type
+    /// of its content says.
     #[error("the directory under the lock is another one")]
     DirectoryChanged,
     /// 99: a growth of memory was refused.
@@ -31,20 +33,20 @@ pub enum QuestionFault {
     Memory,
 }
 
-/// Why a shared store is not closed.
+/// The reason why a shared store is not closed.
 #[derive(Clone, Copy, Debug, PartialEq, Eq, Error)]
 pub enum CloseFault {
     /// 91: the passes are not those numbered from 0 on, each once.
-    #[error("a pass is missing, or there twice")]
+    #[error("a pass is missing, or it is given twice")]
     PassMissing,
-    /// 92: the calls of a pass are not those of its number in the history; or the history has a call of another number; or the
-    /// directory or the opening set under the lock is not the one beside it.
+    /// 92: the calls of a pass are not those of its number in the history, or the history has a call of another number. Or the directory or
+    /// the opening set under the lock is not the one beside it.
     #[error("the passes, the directory or the opening set do not agree with the history")]
     HistoryMismatch,
 }
 
 impl CallFault {
-    /// The number of the refusal.
+    /// Returns the number of the refusal.
     pub fn number(&self) -> u8
         ensures { result ≡ call_number self.now }
     {
@@ -54,7 +56,7 @@ impl CallFault {
         }
     }
 
-    /// The name of the refusal, which is that of its variant.
+    /// Returns the name of the refusal, which is that of its variant.
     pub fn name(&self) -> &'static str
         ensures { result.now ≡ call_name self.now }
     {
@@ -66,7 +68,7 @@ impl CallFault {
 }
 
 impl QuestionFault {
-    /// The number of the refusal.
+    /// Returns the number of the refusal.
     pub fn number(&self) -> u8
         ensures { result ≡ ask_number self.now }
     {
@@ -77,7 +79,7 @@ impl QuestionFault {
         }
     }
 
-    /// The name of the refusal, which is that of its variant.
+    /// Returns the name of the refusal, which is that of its variant.
     pub fn name(&self) -> &'static str
         ensures { result.now ≡ ask_name self.now }
     {
@@ -90,7 +92,7 @@ impl QuestionFault {
 }
 
 impl CloseFault {
-    /// The number of the refusal.
+    /// Returns the number of the refusal.
     pub fn number(&self) -> u8
         ensures { result ≡ close_number self.now }
     {
@@ -100,7 +102,7 @@ impl CloseFault {
         }
     }
 
-    /// The name of the refusal, which is that of its variant.
+    /// Returns the name of the refusal, which is that of its variant.
     pub fn name(&self) -> &'static str
         ensures { result.now ≡ close_name self.now }
     {

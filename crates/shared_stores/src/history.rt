@@ -1,4 +1,4 @@
-//! Calls at a shared store, and what they were answered.
+//! Calls at a shared store, and their replies.
 
 ghost use Rattle.std.specs.Prelude.{◌≡◌, ◌↔◌, IsTrue};
 ghost use Rattle.shared_stores.specs.Histories.{recorded};
@@ -12,18 +12,18 @@ use log_chain::ByteString;
 /// A call at a shared store.
 #[derive(Debug, Drop)]
 pub enum Call {
-    /// The item was to be taken.
+    /// A request to take the item.
     Take(Item),
-    /// The items of another store were to be merged.
+    /// A request to merge another store, which has these items.
     Merge(ItemSet),
-    /// The indication of the node was asked for.
+    /// A question for the indication of the node.
     Ask(NodeId),
-    /// The text of all items was asked for.
+    /// A request for the text of all items.
     Export,
 }
 
 impl Call {
-    /// Whether the two are the same call with the same values. It takes no memory.
+    /// Returns whether the two are the same call with the same values. It takes no memory.
     pub fn is(&self, other: &Call) -> bool
         ensures { IsTrue result ↔ (self.now ≡ other.now) }
     {
@@ -37,21 +37,21 @@ impl Call {
     }
 }
 
-/// What a call was answered.
+/// The reply to a call.
 #[derive(Debug, Drop)]
 pub enum Given {
-    /// Whether the item was new.
+    /// The reply to a taking: whether the item was new.
     Took(bool),
-    /// How many of the other store's items were new.
+    /// The reply to a merge: how many of the other store's items were new.
     Merged(u64),
-    /// What the items say of the node.
+    /// The reply to a question: what the items say of the node.
     Says(Indication),
-    /// The text of all items.
+    /// The reply to an export: the text of all items.
     Bytes(ByteString),
 }
 
 impl Given {
-    /// Whether the two are the same reply. It takes no memory.
+    /// Returns whether the two are the same reply. It takes no memory.
     pub fn is(&self, other: &Given) -> bool
         ensures { IsTrue result ↔ (self.now ≡ other.now) }
     {
@@ -65,19 +65,19 @@ impl Given {
     }
 }
 
-/// A call, the number of the caller, and what the call was answered.
+/// A call, the number of its caller, and its reply.
 #[derive(Debug, Drop)]
 pub struct Recorded {
     /// The number of the caller's pass.
     pub caller: usize,
     /// The call.
     pub call: Call,
-    /// What it was answered.
+    /// The reply to the call.
     pub reply: Given,
 }
 
 impl Recorded {
-    /// A call with its caller and its reply. It takes no memory.
+    /// Joins a call with its caller and its reply. It takes no memory.
     pub fn new(caller: usize, call: Call, reply: Given) -> Recorded
         ensures { result ≡ recorded caller call reply }
     {
@@ -88,7 +88,7 @@ impl Recorded {
         }
     }
 
-    /// Whether the two are the same call of the same caller with the same reply. It takes no memory.
+    /// Returns whether the two are the same call of the same caller with the same reply. It takes no memory.
     pub fn is(&self, other: &Recorded) -> bool
         ensures { IsTrue result ↔ (self.now ≡ other.now) }
     {

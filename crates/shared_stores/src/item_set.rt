@@ -1,4 +1,4 @@
-//! Sets of items that nothing is asked of.
+//! Sets of items that are only kept and compared.
 
 ghost use Rattle.std.specs.Prelude.{◌≡◌, ◌↔◌, IfOk, IsTrue, map};
 ghost use Rattle.std.specs.List.Sorted.{IsStrictlySortedBy};
@@ -12,7 +12,7 @@ use outcome::Memory;
 use std::alloc::Global;
 use std::marker::Model;
 
-/// A set of items, each of them once, ascending by their spellings. A contract sees the set.
+/// A set of items, in ascending order of their encodings. Each item is in it once. A contract sees the set.
 #[derive(Debug, Drop)]
 pub struct ItemSet {
     items: Vec<Item>,
@@ -34,7 +34,7 @@ impl Model for ItemSet {
 }
 
 impl ItemSet {
-    /// The set of items that ascend. It takes no memory.
+    /// Makes a set of items that ascend by their encodings, each once. It takes no memory.
     pub fn from_vec(items: Vec<Item>) -> ItemSet
         requires { IsStrictlySortedBy by_bytes items.items }
         ensures { result ≡ insert_all none items.items }
@@ -42,7 +42,7 @@ impl ItemSet {
         ItemSet { items }
     }
 
-    /// The items, ascending by their spellings. It takes no memory.
+    /// Returns the items, in ascending order of their encodings. It takes no memory.
     pub fn items(&self) -> &[Item]
         ensures { result.now ≡ listed self.now }
     {
@@ -50,7 +50,7 @@ impl ItemSet {
         self.items.as_slice()
     }
 
-    /// The items, ascending by their spellings, in the `Vec` that they are kept in. It takes no memory.
+    /// Returns the items, in ascending order of their encodings, in the `Vec` in which the set keeps them. It takes no memory.
     pub fn into_vec(self) -> Vec<Item>
         ensures { result.items ≡ listed self }
     {
@@ -58,7 +58,7 @@ impl ItemSet {
         self.items
     }
 
-    /// A copy.
+    /// Returns a copy of the set, or `Memory` if a growth is refused.
     pub fn try_clone(&self, alloc: Global) -> Result<ItemSet, Memory>
         ensures { IfOk result (λ copy. copy ≡ self.now) }
     {
@@ -66,7 +66,7 @@ impl ItemSet {
         Ok(ItemSet { items })
     }
 
-    /// Whether the two have the same items. It takes no memory.
+    /// Returns whether the two have the same items. It takes no memory.
     pub fn is(&self, other: &ItemSet) -> bool
         ensures { IsTrue result ↔ (self.now ≡ other.now) }
     {
@@ -76,7 +76,7 @@ impl ItemSet {
     }
 }
 
-/// Copies of the items.
+/// Returns copies of the items.
 fn copies(alloc: Global, items: &[Item]) -> Result<Vec<Item>, Memory>
     ensures { IfOk result (λ copies. copies.items ≡ items.now) }
 {

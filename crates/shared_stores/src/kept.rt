@@ -1,4 +1,4 @@
-//! What lies under the lock: a store, beside the history that leads to it.
+//! What lies under the lock: a store, and the history that leads to it.
 
 ghost use Rattle.std.specs.Prelude.{◌≡◌, ◌↔◌, [], true, IfErr, IfOk, IsTrue, OnErr};
 ghost use Rattle.authenticators.specs.Directory.{is_listed};
@@ -20,8 +20,8 @@ use replay_verifier::Program;
 use std::alloc::Global;
 use std::marker::{Model, PhantomData};
 
-/// A store with the set that it was opened with and the history since then. The history replays from the opening set to the store's
-/// items, whenever nobody is in a call. It changes by its four calls alone, each of which is one step.
+/// A store with the set that it was opened with and the history since then. The history leads from the opening set to the store's items,
+/// whenever nobody is in a call. Only its four calls change it, and each of them is one step.
 #[derive(Drop)]
 pub(crate) struct Kept<P: Program, S: Evidence<P>> {
     opening: ItemSet,
@@ -44,7 +44,7 @@ impl<P: Program, S: Evidence<P>> Model for Kept<P, S> {
 }
 
 impl<P: Program, S: Evidence<P>> Kept<P, S> {
-    /// The store with the set of its items. It takes no memory.
+    /// Keeps the store, with the set of its items. It takes no memory.
     pub(crate) fn new(alloc: Global, opening: ItemSet, store: S) -> Kept<P, S>
         requires { opening ≡ (S.contents store).items }
         ensures { result ≡ record { directory = (S.contents store).directory; opening = opening; history = []; items = opening } }
@@ -57,7 +57,7 @@ impl<P: Program, S: Evidence<P>> Kept<P, S> {
         }
     }
 
-    /// Whether the store is under this directory. It takes no memory.
+    /// Returns whether the store is under this directory. It takes no memory.
     pub(crate) fn is_under(&self, directory: &Directory) -> bool
         ensures { IsTrue result ↔ (self.now.directory ≡ directory.now) }
     {
@@ -93,7 +93,7 @@ impl<P: Program, S: Evidence<P>> Kept<P, S> {
         ensures done { IfOk result (λ new. Steps P.means self.old caller (Merge copies) (Merged new) self.new) }
         ensures refused { OnErr result (self.new ≡ self.old) }
     {
-        // What it has is valid under its directory.
+        // What the other store has is valid under its directory.
         other.directory();
         self.history.reserve(1)?;
         let new = self.store.merge(other)?;
@@ -101,7 +101,7 @@ impl<P: Program, S: Evidence<P>> Kept<P, S> {
         Ok(new)
     }
 
-    /// What the items say of a node that is listed.
+    /// Returns what the items say of a node that is listed.
     pub(crate) fn ask(&mut self, caller: usize, node: NodeId) -> Result<Indication, Memory>
         requires { is_listed self.old.directory node ≡ true }
         ensures done { IfOk result (λ says. Steps P.means self.old caller (Ask node) (Says says) self.new) }
@@ -116,7 +116,7 @@ impl<P: Program, S: Evidence<P>> Kept<P, S> {
         Ok(says)
     }
 
-    /// The text of all items, twice: for the caller, and for its pass.
+    /// Returns the text of all items twice, for the caller and for its pass.
     pub(crate) fn export(
         &mut self,
         alloc: Global,
@@ -134,7 +134,7 @@ impl<P: Program, S: Evidence<P>> Kept<P, S> {
         Ok((text, noted))
     }
 
-    /// The opening set, the store and the history, when the lock is gone. It takes no memory.
+    /// Returns the opening set, the store and the history, once the lock is gone. It takes no memory.
     pub(crate) fn into_parts(self) -> (ItemSet, S, Vec<Recorded>)
         ensures parts { (result.0 ≡ self.opening) × (S.contents result.1 ≡ record { directory = self.directory; items = self.items }) × (result.2.items ≡ self.history) }
         ensures replays { Replays (S.contents result.1).directory P.means result.0 result.2.items (S.contents result.1).items }

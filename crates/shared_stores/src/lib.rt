@@ -1,13 +1,13 @@
 //! Stores of evidence that several callers share (PeerReview, SOSP 2007: witnesses and evidence).
 //!
-//! - [`SharedStore`] is a store under a lock. Each caller has a [`Pass`], which notes the caller's own calls and their replies. Under
-//!   the lock stands, beside the store, the history of all calls.
-//! - [`SharedStore::close`] compares the passes with the history. Where it answers `Ok`, the history is one that a single thread
-//!   could have made: it leads from the opening store to the closed one, and each reply is the one that the store gives there.
+//! - [`SharedStore`] is a store under a lock. Each caller has a [`Pass`], which notes the caller's own calls and their replies. The lock
+//!   guards the store and the history of all calls.
+//! - [`SharedStore::close`] compares the passes with the history. If it returns `Ok`, a single thread could have made the history. It leads
+//!   from the opening store to the closed one, and each reply is the one that the store gives there.
 //!
-//! `specs/Histories.antt` says what one thread would do, `specs/Closing.antt` what passes and history have to do with one another, and
-//! `specs/HistoryLaws.antt` what follows; [`laws`] proves it. `specs/within` has the words of private code. What is said of the calls
-//! that wait holds when they return; nothing is said of waiting.
+//! `specs/Histories.antt` says what one thread would do. `specs/Closing.antt` says how passes agree with a history.
+//! `specs/HistoryLaws.antt` says what follows, and [`laws`] proves it. `specs/within` has the words of private code. What the contracts say
+//! of calls that wait holds when these return. Nothing is said of the waiting itself.
 #![tactic(auto)]
 
 pub use closing::{CloseRefused, Closed};

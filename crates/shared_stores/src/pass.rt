@@ -1,4 +1,4 @@
-//! Passes.
+//! The passes of callers.
 
 ghost use Rattle.std.specs.Prelude.{◌≡◌, []};
 
@@ -6,7 +6,7 @@ use crate::history::Recorded;
 use std::alloc::Global;
 use std::marker::Model;
 
-/// What a caller of a shared store has: its number, and its own calls with what they were answered. A contract sees both.
+/// The number of a caller of a shared store, with the caller's own calls and their replies. A contract sees both.
 #[derive(Debug, Drop)]
 pub struct Pass {
     pub(crate) number: usize,
@@ -24,7 +24,7 @@ impl Model for Pass {
 }
 
 impl Pass {
-    /// A pass with no call. It takes no memory.
+    /// Makes a pass with no call. It takes no memory.
     pub(crate) fn new(alloc: Global, number: usize) -> Pass
         ensures { result ≡ record { number = number; calls = [] } }
     {
@@ -34,14 +34,14 @@ impl Pass {
         }
     }
 
-    /// The caller's number. It takes no memory.
+    /// Returns the caller's number. It takes no memory.
     pub fn number(&self) -> usize
         ensures { result ≡ self.now.number }
     {
         self.number
     }
 
-    /// The caller's calls that were answered, in their order. It takes no memory.
+    /// Returns the caller's calls that were answered, in their order. It takes no memory.
     pub fn calls(&self) -> &[Recorded]
         ensures { result.now ≡ self.now.calls }
     {

@@ -28,13 +28,15 @@ use std::marker::Model;
 use std::sync::{Mutex, Wait};
 use thiserror::Error;
 
-/// A store under a lock, and beside it the directory, the number of callers, and the set that the store was opened with. A contract
+/// A store under a lock. Beside the lock are the directory, the number of callers, and the set that the store was opened with. A contract
 /// sees what is beside the lock.
 ///
-/// Each call locks the store, is one step of its history, and is noted in the caller's pass. What can be made ready is made before
-/// the lock: under it nothing is checked, no signature is verified and no content is hashed. A call that is refused stands neither in
-/// the history nor in the pass. The calls but [`open`](SharedStore::open), [`directory`](SharedStore::directory) and
-/// [`close`](SharedStore::close) may wait for other callers, and what is said of them holds when they return.
+/// Each call locks the store, is one step of its history, and is noted in the caller's pass. What can be made ready is made before the lock
+/// is taken. Under the lock nothing is checked, no signature is verified and no content is hashed. A call that is refused is neither in the
+/// history nor in the pass.
+///
+/// All calls but [`open`](SharedStore::open), [`directory`](SharedStore::directory) and [`close`](SharedStore::close) may wait for other
+/// callers. What their contracts say holds when they return.
 #[derive(Drop)]
 pub struct SharedStore<P: Program, S: Evidence<P>> {
     pub(crate) alloc: Global,
@@ -56,7 +58,7 @@ impl<P: Program, S: Evidence<P>> Model for SharedStore<P, S> {
 
 /// A store that could not be shared, since a growth was refused. It is given back.
 #[derive(Drop, Error)]
-#[error("out of memory for sharing a store")]
+#[error("memory ran out")]
 pub struct OpenRefused<S> {
     /// The store.
     pub store: S,
@@ -79,14 +81,14 @@ pub struct NotTaken<P> {
     pub fault: CallFault,
 }
 
-/// A pass with no call for each number below the count.
+/// Makes an empty pass for each number below the count.
 fn fresh_passes(alloc: Global, callers: usize) -> Result<Vec<Pass>, Memory>
     ensures { IfOk result (λ v. v.items ≡ fresh callers) }
 {
     (0..callers).map(|n| Pass::new(alloc, n)).collect(alloc)
 }
 
-/// What a shared store has beside its store: the store's directory, its items twice, and a pass for each caller.
+/// Returns what a shared store has beside its store: the store's directory, its items twice, and a pass for each caller.
 fn parts_of<P: Program, S: Evidence<P>>(
     alloc: Global,
     store: &S,
@@ -104,8 +106,8 @@ fn parts_of<P: Program, S: Evidence<P>>(
 }
 
 impl<P: Program, S: Evidence<P>> SharedStore<P, S> {
-    /// Shares a store among so many callers: 1 to [`MOST_WORKERS`](parallel_checking::MOST_WORKERS). Each gets a pass, numbered from 0 and empty.
-    /// Where a growth is refused, and only there, the store is given back.
+    /// Shares a store among so many callers: 1 to [`MOST_WORKERS`](parallel_checking::MOST_WORKERS). Each caller gets an empty pass. The
+    /// passes are numbered from 0. The call is refused only if a growth is refused, and then it gives the store back.
     pub fn open(
         alloc: Global,
         store: S,
@@ -129,15 +131,15 @@ impl<P: Program, S: Evidence<P>> SharedStore<P, S> {
         Ok((shared, passes))
     }
 
-    /// The directory of the store that was opened. It takes no memory, and waits for nobody.
+    /// Returns the directory of the store that was opened. It takes no memory, and waits for nobody.
     pub fn directory(&self) -> &Directory
         ensures { result.now ≡ self.now.directory }
     {
         &self.directory
     }
 
-    /// Takes an item that was checked under the directory, and answers whether it was new. Where it is refused, the item is given
-    /// back: `DirectoryChanged` (96), `Memory`. What checking finds of an item that keeps nothing of it is found before the lock.
+    /// Takes an item that was checked under the directory, and returns whether it was new. If it is refused, the item is given back, with
+    /// `DirectoryChanged` (96) or `Memory`. If the checked item does not keep its findings, they are found before the lock is taken.
     pub fn take<R: Wait>(
         &self,
         rt: &R,
@@ -185,7 +187,7 @@ impl<P: Program, S: Evidence<P>> SharedStore<P, S> {
         }
     }
 
-    /// Merges a store under the same directory, and answers how many of its items were new. `DirectoryChanged` (96), `Memory`.
+    /// Merges a store under the same directory, and returns how many of its items were new. It reports `DirectoryChanged` (96) or `Memory`.
     pub fn merge<R: Wait>(&self, rt: &R, pass: &mut Pass, other: &S) -> Result<u64, CallFault>
         requires { (S.contents other.now).directory ≡ self.now.directory }
         ensures noted { IfOk result (λ new. pass.new ≡ noted pass.old (Merge (S.contents other.now).items) (Merged new)) }
@@ -204,7 +206,8 @@ impl<P: Program, S: Evidence<P>> SharedStore<P, S> {
         Ok(new)
     }
 
-    /// What the items say of the node. `UnknownNode` (44) where the directory does not list it, `DirectoryChanged` (96), `Memory`.
+    /// Returns what the items say of the node. It reports `UnknownNode` (44) if the directory does not list the node, before anything else.
+    /// It may also report `DirectoryChanged` (96) or `Memory`.
     pub fn ask<R: Wait>(
         &self,
         rt: &R,
@@ -229,7 +232,7 @@ impl<P: Program, S: Evidence<P>> SharedStore<P, S> {
         Ok(says)
     }
 
-    /// The one text of the items: the container `PRSTORE2`. `DirectoryChanged` (96), `Memory`.
+    /// Returns the text of the items, which is one for each set: the container `PRSTORE2`. It reports `DirectoryChanged` (96) or `Memory`.
     pub fn export<R: Wait>(&self, rt: &R, pass: &mut Pass) -> Result<Vec<u8>, CallFault>
         ensures noted { IfOk result (λ text. pass.new ≡ noted pass.old Export (Bytes text.items)) }
         ensures refused { OnErr result (pass.new ≡ pass.old) }
@@ -246,7 +249,7 @@ impl<P: Program, S: Evidence<P>> SharedStore<P, S> {
     }
 }
 
-/// The item comes back, since a growth was refused.
+/// Returns the refusal `Memory` with the item, since a growth was refused.
 fn out_of_memory<P>(checked: Checked<P>) -> NotTaken<P>
     ensures { result.checked ≡ checked }
 {

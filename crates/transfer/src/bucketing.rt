@@ -15,14 +15,14 @@ use outcome::Memory;
 use sha2::{Digest, Sha256};
 use std::alloc::Global;
 
-/// Whether the digest stands in the bucket.
+/// Returns whether the digest stands in the bucket.
 pub(crate) fn stands_in(digest: &Hash, bucket: u16) -> bool
     ensures { result ≡ (first_byte digest.now == bucket) }
 {
     u16::from(digest.0[0]) == bucket
 }
 
-/// How many digests in front stand in the bucket.
+/// Returns how many digests in front stand in the bucket.
 pub(crate) fn run_length(digests: &[Hash], bucket: u16) -> usize
     ensures inside { result ≤ length digests.now }
     ensures run { take result digests.now ≡ run_of bucket digests.now }
@@ -36,7 +36,7 @@ pub(crate) fn run_length(digests: &[Hash], bucket: u16) -> usize
     digests.len()
 }
 
-/// The digest of the digests of a bucket, joined.
+/// Returns the digest of the digests of a bucket, joined.
 fn digest_of_run(digests: &[Hash]) -> Hash
     ensures digest { result ≡ sha256 (joined digests.now) }
     ensures fits { IsBytesOf 32 result }
@@ -50,7 +50,7 @@ fn digest_of_run(digests: &[Hash]) -> Hash
     digest
 }
 
-/// The digest of each bucket, in one pass over digests that ascend: each bucket is a run of them.
+/// Returns the digest of each bucket. It takes one pass over digests that ascend, since each bucket is a run of them.
 pub(crate) fn digests_of_buckets(alloc: Global, digests: &[Hash]) -> Result<Vec<Hash>, Memory>
     requires { AreDigests digests.now }
     ensures each { IfOk result (λ found. found.items ≡ map (λ b. sha256 (joined (in_bucket b digests.now))) buckets) }
@@ -67,7 +67,7 @@ pub(crate) fn digests_of_buckets(alloc: Global, digests: &[Hash]) -> Result<Vec<
     Ok(found)
 }
 
-/// Nothing is kept of any bucket.
+/// Returns that nothing is kept of any bucket.
 pub(crate) fn nothing_kept(alloc: Global) -> Result<Vec<Option<Hash>>, Memory>
     ensures { IfOk result (λ kept. kept.items ≡ map (λ b. None) buckets) }
 {
@@ -78,21 +78,21 @@ pub(crate) fn nothing_kept(alloc: Global) -> Result<Vec<Option<Hash>>, Memory>
     Ok(kept)
 }
 
-/// Whether the digest of some bucket is kept.
+/// Returns whether the digest of some bucket is kept.
 pub(crate) fn keeps_some(kept: &[Option<Hash>]) -> bool
     ensures { result ≡ keeps_some kept.now }
 {
     kept.iter().any(|k| k.is_some())
 }
 
-/// The digest, where the outline has the same.
+/// Returns the digest, if the outline has the same.
 fn kept_of(own: Hash, told: Hash) -> Option<Hash>
     ensures { result ≡ if bytes_eq told own then Some own else None }
 {
     if told == own { Some(own) } else { None }
 }
 
-/// Of each bucket its digest, where the outline has the same.
+/// Returns the digest of each bucket, if the outline has the same.
 pub(crate) fn kept_where_same(
     alloc: Global,
     own: &[Hash],
@@ -110,7 +110,7 @@ pub(crate) fn kept_where_same(
     Ok(kept)
 }
 
-/// Whether the bucket of the digest is listed.
+/// Returns whether the bucket of the digest is listed.
 fn is_beside(kept: &[Option<Hash>], digest: &Hash) -> bool
     ensures { result ≡ is_none (slice_index_or kept.now (first_byte digest.now) None) }
 {
@@ -120,7 +120,7 @@ fn is_beside(kept: &[Option<Hash>], digest: &Hash) -> bool
     }
 }
 
-/// The digests whose buckets are not kept.
+/// Returns the digests whose buckets are not kept.
 pub(crate) fn listed_beside(
     alloc: Global,
     kept: &[Option<Hash>],

@@ -37,7 +37,7 @@ impl Model for Outline {
 }
 
 impl Outline {
-    /// An outline of so many digests. It takes no memory.
+    /// Returns an outline of so many digests. It takes no memory.
     pub(crate) fn from_vec(digests: Vec<Hash>) -> Outline
         requires { IsOutline digests.items }
         ensures { result ≡ digests.items }
@@ -45,7 +45,7 @@ impl Outline {
         Outline { digests }
     }
 
-    /// The digests of the buckets, in their order. It takes no memory.
+    /// Returns the digests of the buckets, in their order. It takes no memory.
     pub(crate) fn digests(&self) -> &[Hash]
         ensures digests { result.now ≡ self.now }
         ensures outline { IsOutline self.now }
@@ -53,7 +53,7 @@ impl Outline {
         self.digests.as_slice()
     }
 
-    /// Its text: `PROUTL01`, and each digest in 32 bytes. Memory is asked for once.
+    /// Returns its encoding, 8,200 bytes: `PROUTL01`, and each digest in 32 bytes. It asks for memory once.
     pub fn to_bytes(&self, alloc: Global) -> Result<Vec<u8>, Memory>
         ensures { IfOk result (λ text. text.items ≡ outline_text self.now) }
     {
@@ -63,17 +63,17 @@ impl Outline {
         Ok(writer.finish())
     }
 
-    /// Reads the text of an outline.
+    /// Reads the encoding of an outline.
     ///
-    /// The first of these is told: `Truncated` (40) of the first eight bytes, `BadMagic` (60), `Truncated` of a digest, `Trailing`
-    /// (43). `Memory` may come in place of those behind the first eight bytes, or of the answer.
+    /// It reports the first of these faults: `Truncated` (40) of the first eight bytes, `BadMagic` (60), `Truncated` of a digest,
+    /// `Trailing` (43). `Memory` may come in place of the faults behind the first eight bytes, or of the outline.
     pub fn from_bytes(alloc: Global, bytes: &[u8]) -> Result<Outline, SummaryFault>
-        // What is read is spelled so.
+        // The bytes are the encoding of the outline that is read.
         ensures found { IfOk result (λ o. IsOutline o × (bytes.now ≡ outline_text o)) }
-        // What is spelled so is read, unless memory runs out.
+        // The encoding of an outline is read, unless memory runs out.
         ensures only { (digests : List (List ℕ)) → IsOutline digests → bytes.now ≡ outline_text digests → Gives fault.Memory (λ o. o) result (Ok digests) }
         ensures exact { Gives fault.Memory (λ o. o) result (outline_of_text bytes.now) }
-        // A fault of the header is told, whether there is memory or not.
+        // A fault of the header is reported, whether there is memory or not.
         ensures forbidden { (e : TheFault) → outline_header bytes.now ≡ Err e → result ≡ Err e }
     {
         bytes_fit(bytes);

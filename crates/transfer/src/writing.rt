@@ -22,7 +22,7 @@ pub(crate) fn write_digests(writer: &mut FieldWriter, digests: &[Hash]) -> Resul
     Ok(())
 }
 
-/// Writes a bucket that is listed: those of the digests in front that stand in it. It answers how many these are.
+/// Writes a bucket that is listed: the digests in front that stand in it. It returns how many these are.
 fn write_listed(writer: &mut FieldWriter, bucket: u16, digests: &[Hash]) -> Result<usize, Memory>
     ensures inside { IfOk result (λ n. n ≤ length digests.now) }
     ensures after { IfOk result (λ n. drop n digests.now ≡ after_run bucket digests.now) }
@@ -45,7 +45,7 @@ fn write_kept(writer: &mut FieldWriter, digest: Hash) -> Result<(), Memory>
     Ok(())
 }
 
-/// Writes a bucket, of which this is kept or the digests in front are listed. It answers how many of them are.
+/// Writes a bucket. If its digest is kept, it writes that, and else the digests in front that stand in it. It returns how many these are.
 fn write_part(
     writer: &mut FieldWriter,
     bucket: u16,

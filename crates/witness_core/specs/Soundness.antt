@@ -1,5 +1,5 @@
--- Sound worlds, and what witnesses answer in runs that begin in one: it rests on valid items, and so none exposes an honest node
--- (PeerReview, SOSP 2007: accuracy).
+-- Sound worlds, and what witnesses answer in runs that begin in one (PeerReview, SOSP 2007: accuracy). These answers rest on valid items,
+-- so none exposes an honest node.
 use Rattle.std.specs.Prelude.{◌≡◌, ◌<◌, ◌⊎◌, ℕ, List, ◌∷◌, ◌++◌, length, reverse}
 use Rattle.std.specs.List.{All}
 use Rattle.log_chain.specs.declared.entry.Entry.{Entry}
@@ -23,7 +23,7 @@ use Rattle.witness_core.specs.Answering.{AreChecked}
 use Rattle.witness_core.specs.Running.{Ran}
 use Rattle.witness_core.specs.Worlds.{HaveOneDirectory, IsTaken, World, directory_of, pack_of, set_of}
 
--- All witnesses have one directory, and what they have and what is in the packs that are kept is valid under it.
+-- All witnesses have one directory. What they have, and what is in the packs that are kept, is valid under it.
 pub record IsSound (W : World) : Type 0 where
   pub one : HaveOneDirectory W.stores
   pub stores : (w : ℕ) → w < length W.stores → AreValid (directory_of W w) (set_of W w)
@@ -35,7 +35,7 @@ pub record IsRun {P S : Type 0} (program : Meaning S) (W : World) (events : List
   pub checked : AreChecked program W events
   pub ran : Ran program W events replies V
 
--- One of the events asks witness v of the node, and its reply is this.
+-- One of the events asks witness v of the node, and this is its reply.
 pub record IsAsked {P : Type 0} (events : List (Event P)) (replies : List Reply) (v node : ℕ) (i : Indication) : Type 0 where
   pub before : List (Event P)
   pub later : List (Event P)
@@ -45,9 +45,9 @@ pub record IsAsked {P : Type 0} (events : List (Event P)) (replies : List Reply)
   pub says : replies ≡ early ++ reply.Says i ∷ late
   pub place : length before ≡ length early
 
--- Where a witness answers that a node is exposed that kept this log, whose numbers and bytes are in the ranges of their types, and that
--- signed these statements, and where it followed its program, what the witness took until then holds a forged statement, or two of the
--- texts of the log and of the node's segments there collide.
+-- Suppose that a witness answers that a node is exposed. The node kept this log, whose numbers and bytes are in the ranges of their types,
+-- signed these statements, and followed its program. Then what the witness took until then holds a forged statement, or two of the texts of
+-- the log and of the node's segments there collide.
 abbrev pub ExposesNoHonestNode : {P S : Type 0} → Meaning S → World → List (Event P) → List Reply → Type 0
 ExposesNoHonestNode program W events replies =
     (v node : ℕ) (log : List Entry) (signed : List Stamp) → (asked : IsAsked events replies v node Exposed) → All IsLogged log → Honest (setting_of (directory_of W v) node program) log signed
@@ -55,7 +55,7 @@ ExposesNoHonestNode program W events replies =
 
 -- ---- laws, which `laws` proves
 
--- What a witness answers is what a set says that has just what the witness took until then, and the items of that set are valid.
+-- What a witness answers is what a set of valid items says. The set has just what the witness took until then.
 abbrev pub AnswersAreOfValidItems : {S : Type 0} → Type 0 → Meaning S → Type 0
 AnswersAreOfValidItems P program =
     (W V : World) (events : List (Event P)) (replies : List Reply) (v node : ℕ) (i : Indication) → IsRun program W events replies V → (asked : IsAsked events replies v node i)

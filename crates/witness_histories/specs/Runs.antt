@@ -17,12 +17,12 @@ use Rattle.shared_stores.specs.declared.history.Given.TheVariants as given
 use Rattle.shared_stores.specs.declared.history.Recorded.{Recorded}
 use Rattle.shared_stores.specs.Histories.{Replays}
 
--- The world has one witness, with that directory and that set.
+-- The world has one witness, with this directory and this set.
 abbrev pub HasOneWitness : World → Listing → Items → Type 0
 HasOneWitness W ds E = W.stores ≡ record { directory = ds; items = E } ∷ []
 
--- The event that a call is: the one of its name at the one witness, with the same item or node; a merge is the delivery of a pack that
--- the world keeps and that has the merged items.
+-- The event is what the call is in the world. It is the event of the call's name at the one witness, with the same item or node. A merge is
+-- the delivery of a pack that the world keeps and that has the merged items.
 abbrev pub IsEventOf : {P : Type 0} → World → Call → Event P → Type 0
 IsEventOf W (call.Take x) (event.Take v item) = (v ≡ 0) × (item.item ≡ x)
 IsEventOf W (call.Merge M) (event.Deliver k v) = (v ≡ 0) × (k < length W.packs) × (pack_of W k ≡ M)
@@ -30,28 +30,29 @@ IsEventOf W (call.Ask node) (event.Ask v asked) = (v ≡ 0) × (asked ≡ node)
 IsEventOf W call.Export (event.Export v) = v ≡ 0
 IsEventOf W c e = ⊥
 
--- The events that the calls of a history are, one after the other.
+-- The events are what the calls of a history are, one after the other.
 abbrev pub AreEventsOf : {P : Type 0} → World → List Recorded → List (Event P) → Type 0
 AreEventsOf W [] [] = Unit {0}
 AreEventsOf W (r ∷ history) (e ∷ events) = IsEventOf W r.call e × AreEventsOf W history events
 AreEventsOf W history events = ⊥
 
--- A reply as the world gives it.
+-- A reply of the store, as the world gives it.
 abbrev pub told : Given → Reply
 told (given.Took new) = reply.Took new
 told (given.Merged new) = reply.Delivered new
 told (given.Says i) = reply.Says i
 told (given.Bytes text) = reply.Bytes text
 
+-- The replies of a history, as the world gives them.
 abbrev pub told_in : List Recorded → List Reply
 told_in history = map (λ (r : Recorded). told r.reply) history
 
--- The events are done: none is refused, each is answered by its reply, and what the one witness took in them is the set.
+-- The events are done. None is refused, each is answered with its reply, and the set has just what the one witness took in them.
 pub record IsRun {P S : Type 0} (program : Meaning S) (W : World) (events : List (Event P)) (replies : List Reply) (F : Items) : Type 0 where
   pub answered : AreReplies program W [] events replies
   pub took : (x : Piece) → Has F x ↔ HasTaken W 0 (reverse events) x
 
--- A world in which the events may happen that the history's calls are: what is kept there, and what is taken, is checked.
+-- A world in which the events can happen that are the history's calls. What is kept there, and what is taken, is checked.
 pub record IsWorldOf {P S : Type 0} (program : Meaning S) (ds : Listing) (E : Items) (history : List Recorded) (W : World) (events : List (Event P)) : Type 0 where
   pub one : HasOneWitness W ds E
   pub kept : IsOfOneProgram program W
@@ -60,14 +61,15 @@ pub record IsWorldOf {P S : Type 0} (program : Meaning S) (ds : Listing) (E : It
 
 -- ---- laws, which `laws` proves
 
--- A history that leads from the set of the one witness to the set F, as it does for a single thread, is a run of its events.
+-- Suppose that a history leads from the set of the one witness to the set F, as a single thread's history does. Then it is a run of its
+-- events.
 abbrev pub HistoriesAreRuns : Type 0 → Type 0 → Type 0
 HistoriesAreRuns P S =
     (ds : Listing) (program : Meaning S) (W : World) (E F : Items) (history : List Recorded) (events : List (Event P))
     → HasOneWitness W ds E → AreEventsOf W history events → Replays ds program E history F
     → IsRun program W events (told_in history) F
 
--- Each such history has such a world and such events, of checked items alone.
+-- Each such history has such a world and such events, with checked items alone.
 abbrev pub HistoriesHaveWorlds : {S : Type 0} → Type 0 → Meaning S → Type 0
 HistoriesHaveWorlds P program =
     (ds : Listing) (E F : Items) (history : List Recorded) → Replays ds program E history F

@@ -1,4 +1,4 @@
-//! Laws over the definitions. Each is a function that does nothing: its contract is the law.
+//! Laws over the definitions. Each is a function that does nothing. Its contract is the law.
 
 ghost use Rattle.witness_histories.specs.Runs.{HistoriesAreRuns, HistoriesHaveWorlds};
 
@@ -6,8 +6,8 @@ use evidence_set::laws::{joins_are_as_expected, sets_are_as_expected, sets_are_l
 use replay_verifier::Program;
 use replay_verifier::laws::lists_are_judged;
 
-/// A history that is a single thread's is a run of the world with one witness: no event is refused, the replies are those of the
-/// world, and the witness took what the store has after it.
+/// A history that is a single thread's is a run of the world with one witness. No event is refused, and the replies are those of the world.
+/// The witness took what the store has after the history.
 pub fn histories_are_runs<P, S>()
     ensures { HistoriesAreRuns P S }
 {
@@ -15,8 +15,8 @@ pub fn histories_are_runs<P, S>()
     joins_are_as_expected();
 }
 
-/// Each such history has a world with one witness, which keeps the packs of its merges, and events that its calls are. What is in the
-/// packs and what is taken is checked under the directory and the program.
+/// Each such history has a world with one witness, which keeps the packs of the history's merges. The history's calls are events there.
+/// What is in the packs, and what is taken, is checked under the directory and the program.
 pub fn histories_have_worlds<P: Program>()
     ensures { HistoriesHaveWorlds P P.means }
 {

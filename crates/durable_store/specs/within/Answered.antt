@@ -16,7 +16,7 @@ pub record Checking {S : Type 0} (ds : Listing) (program : Meaning S) (items : L
   pub checked : All (IsChecked ds program) valid
   pub answered : AreAnswers ds program left answers
 
--- The same under each directory and of all items of which these were the answers, and there are as many as fit behind a place.
+-- The same under each directory and for all items of which these were the answers. There are as many answers as fit behind a place.
 pub record CheckingAll {S : Type 0} (program : Meaning S) (all : List (Result Checked ItemFault)) (before : ℕ) (valid : List Checked) (answers : List (Result Checked ItemFault)) : Type 0 where
   pub each : (ds : Listing) (items : List Piece) → AreAnswers ds program items all → Checking ds program items valid answers
   pub fits : before + length valid + length answers < 2 ^ 64

@@ -7,7 +7,7 @@ use Rattle.journal.specs.declared.reading.Reading.{Reading}
 use Rattle.durable_store.specs.Keeping.{spellings}
 use Rattle.durable_store.specs.declared.finding.TheConstants.{MOST_AT_ONCE}
 
--- Behind what was read when it began n items were read, each of some bytes, and there is room for so many.
+-- Since it began, n items were read, each of some bytes, and there is room for so many.
 pub record Gathering {D : Type 0} (found : D → List ℕ) (before now : Reading D) (items : List Piece) (room n : ℕ) : Type 0 where
   pub reading : IsReading found now
   pub texts : recovered (found now.device) ≡ recovered (found before.device) ++ spellings items

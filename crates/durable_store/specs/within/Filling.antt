@@ -6,7 +6,8 @@ use Rattle.journal.specs.Reading.{IsReading}
 use Rattle.journal.specs.declared.reading.Reading.{Reading}
 use Rattle.durable_store.specs.Keeping.{IsJournalOf}
 
--- Behind the basis, which was read first, just the items were read that the store has now. So many texts were read in all.
+-- Behind the basis, which was read first, the items that the store has now were read, and no others. The count is how many texts were read
+-- in all.
 pub record Filling {D : Type 0} (found : D → List ℕ) (first now : Reading D) (empty filled : Contents) (count : ℕ) : Type 0 where
   pub reading : IsReading found now
   pub just : IsJournalOf (recovered (found first.device)) filled.items (recovered (found now.device))

@@ -11,7 +11,7 @@ use Rattle.journal.specs.declared.reading.Reading.{Reading}
 use Rattle.durable_store.specs.declared.fault.OpenFault.{OpenFault}
 use Rattle.durable_store.specs.declared.fault.OpenFault.TheVariants as fault
 
--- These texts were read; and they are all, where the end is reached.
+-- These texts were read. If the end is reached, they are all.
 abbrev pub AreReached : {D : Type 0} → (D → List ℕ) → (D → List ℕ) → (D → List ℕ → Type 0) → Bool → List (List ℕ) → Reading D → Type 0
 AreReached found seen may_leave true texts reading = IsRead seen may_leave reading × (recovered (seen reading.device) ≡ texts)
 AreReached found seen may_leave false texts reading = IsReading found reading × (recovered (found reading.device) ≡ texts)
@@ -21,7 +21,7 @@ abbrev pub IsBegun : {D : Type 0} → (D → List ℕ) → (D → List ℕ) → 
 IsBegun found seen may_leave basis reading true = AreReached found seen may_leave false basis reading
 IsBegun found seen may_leave basis reading false = AreReached found seen may_leave true [] reading
 
--- Why the item at this place is not taken, where checking refuses it.
+-- Why the item at this place is not taken, if checking refuses it.
 abbrev pub refusal_of : ℕ → ItemFault → OpenFault
 refusal_of place item.UnknownNode = fault.BadItem place
 refusal_of place item.SelfMessage = fault.BadItem place
@@ -31,7 +31,7 @@ refusal_of place item.BadRange = fault.BadItem place
 refusal_of place item.BadSignature = fault.BadItem place
 refusal_of place item.Memory = fault.Memory
 
--- Memory ran out; or one of the items, of which the first stands at this place, is not valid.
+-- The fault names one of the items, and that item is not valid. The first item stands at place `before`.
 pub record IsInvalid (ds : Listing) (items : List Piece) (before : ℕ) (e : OpenFault) : Type 0 where
   pub place : ℕ
   pub item : Piece
@@ -39,5 +39,6 @@ pub record IsInvalid (ds : Listing) (items : List Piece) (before : ℕ) (e : Ope
   pub is : e ≡ fault.BadItem (before + place)
   pub invalid : ¬ IsValid ds item.fields
 
+-- Memory ran out, or one of the items is not valid.
 abbrev pub IsBad : Listing → List Piece → ℕ → OpenFault → Type 0
 IsBad ds items before e = (e ≡ fault.Memory) ⊎ IsInvalid ds items before e

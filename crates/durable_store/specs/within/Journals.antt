@@ -12,7 +12,7 @@ pub record IsReadyOf {D : Type 0} (seen : D → List ℕ) (may_leave : D → Lis
   pub settled : IsSettled seen may_leave j.texts
   pub has : Has j.is_begun (texts_of j.basis.items) E (recovered (seen j.texts.device))
 
--- The journal has just these items, and the texts are of those of a group that are not among them.
+-- The journal has just these items. The texts are those of the items of a group that are not among them.
 pub record IsOfGroup {D : Type 0} (seen : D → List ℕ) (j : ItemJournal D) (E : Items) (group : List Piece) (texts : List (List ℕ)) : Type 0 where
   pub has : Has j.is_begun (texts_of j.basis.items) E (recovered (seen j.texts.device))
   pub are : texts ≡ spellings (unheld E group)

@@ -8,7 +8,7 @@ use Rattle.evidence_set.specs.ItemSets.{IsWithin, insert_all, pieces}
 use Rattle.evidence.specs.Contents.{Contents}
 use Rattle.durable_store.specs.Calls.{are_new}
 
--- Some of the group was taken and told, and the rest is still to be.
+-- Some items of the group were taken, and it was noted whether they were new. The rest is still to be taken.
 pub record Taking {S : Type 0} (program : Meaning S) (before : Contents) (group : List Piece) (now : Contents) (news : List Bool) (room : ℕ) (rest : List Checked) : Type 0 where
   pub directory : now.directory ≡ before.directory
   pub least : IsWithin before.items now.items

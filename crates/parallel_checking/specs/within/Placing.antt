@@ -36,5 +36,6 @@ abbrev pub written : {T : Type 0} → List T → List (Placed T) → List T
 written xs [] = xs
 written xs (p ∷ ps) = written (slice_set xs p.place p.answer) ps
 
+-- The place is one of the list's.
 abbrev pub IsPlaceOf : {T : Type 0} → List T → Placed T → Type 0
 IsPlaceOf xs p = p.place < length xs

@@ -1,4 +1,4 @@
--- Blocks of texts, whose items are checked together.
+-- Blocks of texts. Their items are checked together.
 use Rattle.std.specs.Prelude.{ℕ, suc, ◌≡◌, ◌+◌, ◌-◌, ◌<◌, true, List, [], ◌∷◌, Result, Ok, IfOk, drop, length, map, slice_index_or, take}
 use Rattle.std.specs.Borrow.{Bor}
 use Rattle.outcome.specs.Outcome.{Gives, told_as}
@@ -19,7 +19,7 @@ use Rattle.parallel_reading.specs.Readings.{AreReadings, IsReadingAt}
 
 -- ---- blocks
 
--- From text a to text b the texts stand in blocks, each behind the text before its first.
+-- The texts from a to b stand in blocks. Each block begins with the text before its first item's.
 abbrev pub AreBlocks : List (Bor (List ℕ)) → (a b : ℕ) → List (Bor (List (Bor (List ℕ)))) → Type 0
 AreBlocks texts a b [] = a ≡ b
 AreBlocks texts a b (s ∷ ss) = (c : ℕ) × (a < c) × (c < length texts) × (s.now ≡ take ((c - a) + 1) (drop a texts)) × AreBlocks texts c b ss
@@ -45,16 +45,16 @@ pub record AreDecoded (texts : List (List ℕ)) (items : List Piece) : Type 0 wh
   pub within : length items < length texts
   pub each : (n : ℕ) (x : Piece) (t : List ℕ) → n < length items → IsDecoded (slice_index_or texts n t) (slice_index_or texts (suc n) t) (slice_index_or items n x)
 
--- The fields of an item, where it is valid.
+-- The fields of an item if it is valid, or why it is not.
 abbrev pub valid_of : Listing → Fields → Result Fields Cause
 valid_of ds x = told_as of_checking (unless (fault_of ds x) x)
 
--- The item was checked, or why it is not valid; or memory ran out.
+-- The item was checked, or the reading says why it is not valid, or memory ran out.
 pub record IsCheckedAs {S : Type 0} (ds : Listing) (program : Meaning S) (x : Piece) (reading : Result Checked Cause) : Type 0 where
   pub exact : Gives cause.Memory (λ (c : Checked). c.item.fields) reading (valid_of ds x.fields)
   pub checked : IfOk reading (IsChecked ds program)
 
--- So were the first k items, and no other.
+-- The first k items were checked so, and no other.
 pub record AreCheckedAs {S : Type 0} (ds : Listing) (program : Meaning S) (k : ℕ) (items : List Piece) (readings : List (Result Checked Cause)) : Type 0 where
   pub count : length readings ≡ k
   pub each : (n : ℕ) (x : Piece) (r : Result Checked Cause) → n < k → IsCheckedAs ds program (slice_index_or items n x) (slice_index_or readings n r)

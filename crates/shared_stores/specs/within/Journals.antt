@@ -23,7 +23,7 @@ abbrev pub stepped : Journal → ℕ → Call → Given → Journal
 stepped j caller call reply =
     record { directory = j.directory; opening = j.opening; history = j.history ++ recorded caller call reply ∷ []; items = after j.items call }
 
--- One step: the call is answered as a single thread is, and changes the items as it does there; the history has it at its end.
+-- One step. The call is answered as a single thread is, and changes the items as it does there. The history has the call at its end.
 pub record Steps {S : Type 0} (program : Meaning S) (old : Journal) (caller : ℕ) (call : Call) (reply : Given) (new : Journal) : Type 0 where
   pub answered : IsReply old.directory program old.items call reply
   pub left : new ≡ stepped old caller call reply
