@@ -16,13 +16,13 @@ use Rattle.answers.specs.Showing.{form_name}
 
 -- ---- what is said of a node
 
--- Its number, a blank, and the word for it.
+-- The node's number, a blank, and the word for its indication.
 abbrev pub standing_line : ℕ × Standing → List ℕ
 standing_line row = decimal row.0 ++ codes " " ++ name_of row.1.indication ++ codes "\n"
 
 -- ---- whom a proof convicts
 
--- The node's number; then the name of the program, and the SHA-256 value of the directory's text, under which it is convicted.
+-- The node's number. Then the name of the program, and the SHA-256 value of the directory's text, under which the node is convicted.
 abbrev pub conviction_lines : ℕ → List ℕ → List ℕ → List ℕ
 conviction_lines node program directory = codes "exposes " ++ decimal node ++ codes "\nprogram " ++ program ++ codes "\ndirectory " ++ encode_lower (sha256 directory) ++ codes "\n"
 
@@ -40,6 +40,7 @@ key_line k = codes "key of node " ++ decimal k.node ++ codes ": SHA-256 " ++ enc
 abbrev pub node_line : ℕ × ℕ → List ℕ
 node_line row = codes "items of node " ++ decimal row.0 ++ codes ": " ++ decimal row.1 ++ codes "\n"
 
+-- How many items there are, of each form and of each node.
 abbrev pub tally_lines : Tally → List ℕ
 tally_lines t =
     count_line (codes "items") t.items
@@ -50,10 +51,11 @@ tally_lines t =
     ++ count_line (codes "acknowledgements") t.acknowledgements
     ++ flat_map node_line t.nodes.entries
 
--- Why it can't be read: a refusal's number and its name.
+-- Why a text cannot be read: a refusal's number and its name.
 abbrev pub refused_line : ℕ → List ℕ → List ℕ
 refused_line number name = codes "can't be read: refused " ++ decimal number ++ codes " " ++ name ++ codes "\n"
 
+-- What is in a text.
 abbrev pub contents_lines : Contents → List ℕ
 contents_lines (contents.Keys prints) = flat_map key_line prints.items
 contents_lines (contents.NoDirectory f) = refused_line (listing.number_of f) (listing.name_of f)
@@ -61,6 +63,7 @@ contents_lines (contents.Items tally) = tally_lines tally
 contents_lines (contents.NoItems f) = refused_line (container.number_of f.cause) (container.name_of f.cause) ++ count_line (codes "items before it") f.item
 contents_lines contents.Untold = []
 
+-- What a text is, how long it is, its SHA-256 value, and what is in it.
 abbrev pub shown_lines : Shown → List ℕ
 shown_lines s =
     codes "form: " ++ form_name s.form ++ codes "\n"

@@ -1,4 +1,4 @@
--- What a text is and what is in it, where nothing is checked: no signature, no log, and no node against a directory.
+-- What a text is and what is in it. Nothing of the text is checked: no signature, no log, and no node against a directory.
 use Rattle.std.specs.Prelude.{ℕ, zero, suc, ◌≡◌, Bool, true, false, ◌||◌, List, [], ◌∷◌, length, map, nat_eq, take, codes, count_by, Option, Some, None, Result, Ok, Err, ltb, if◌then◌else◌}
 use Rattle.std.specs.BTreeMap.{IsOrdered, get}
 use Rattle.std.specs.List.{flat_map}
@@ -32,7 +32,7 @@ use Rattle.answers.specs.declared.showing.Shown.{Shown}
 
 -- ---- what a text is
 
--- What eight bytes say.
+-- What eight bytes say that a text is.
 unfoldable pub form_of_front : List ℕ → TextForm
 form_of_front front =
     if bytes_eq front (codes "PRDIREC2") || bytes_eq front (codes "PRDIRECT") then form.Directory
@@ -42,20 +42,21 @@ form_of_front front =
     else (if bytes_eq front (codes "PRPACK01") then form.Pack
     else form.Unknown))))
 
--- What the first eight bytes of a text say.
+-- What the first eight bytes of a text say that it is.
 unfoldable pub known_form : List ℕ → TextForm
 known_form text = if ltb (length text) 8 then form.Unknown else form_of_front (take 8 text)
 
--- What a text is that does not begin as one of these, by what it is read as.
+-- What a text is that begins as none of these and is no proof, by what it is read as.
 abbrev pub item_form : Result Fields DecodeFault → TextForm
 item_form (Ok x) = form.Item
 item_form (Err f) = form.Unknown
 
+-- What a text is that begins as none of these, by what it is read as.
 abbrev pub plain_form : Result Parts DecodeFault → Result Fields DecodeFault → TextForm
 plain_form (Ok parts) item = form.Proof
 plain_form (Err e) item = item_form item
 
--- Where the first eight bytes say something, that.
+-- What the first eight bytes say, if they say something. Otherwise what the text is read as.
 abbrev pub or_plain : TextForm → TextForm → TextForm
 or_plain form.Proof plain = plain
 or_plain form.Item plain = plain
@@ -66,6 +67,7 @@ or_plain f plain = f
 abbrev pub form_of : List ℕ → TextForm
 form_of text = or_plain (known_form text) (plain_form (proof_of text) (item_of text))
 
+-- The word for a form.
 abbrev pub form_name : TextForm → List ℕ
 form_name form.Directory = codes "directory"
 form_name form.Store = codes "store"
@@ -78,7 +80,7 @@ form_name form.Unknown = codes "unknown"
 
 -- ---- a directory's keys
 
--- A key of a node, by the SHA-256 of its text.
+-- A key of a node, by the SHA-256 value of its text.
 abbrev pub print_of : ℕ → PublicKey → KeyPrint
 print_of node key = record { node = node; sha256 = sha256 (key_text key) }
 
@@ -87,6 +89,7 @@ abbrev pub prints_in : ℕ → Option (List PublicKey) → List KeyPrint
 prints_in node None = []
 prints_in node (Some keys) = map (print_of node) keys
 
+-- The keys of a node that a directory lists.
 abbrev pub prints_at : Listing → ℕ → List KeyPrint
 prints_at ds node = prints_in node (keys_at ds node)
 
@@ -104,6 +107,7 @@ seen_of (item.Audit c) = record { kind = kind.AuditChallenge; node = c.node }
 seen_of (item.Send m) = record { kind = kind.SendChallenge; node = m.to }
 seen_of (item.Ack a) = record { kind = kind.Acknowledgement; node = a.message.to }
 
+-- Whether the two forms are one.
 abbrev pub same_kind : Kind → Kind → Bool
 same_kind kind.Statement kind.Statement = true
 same_kind kind.Segment kind.Segment = true
@@ -112,23 +116,25 @@ same_kind kind.SendChallenge kind.SendChallenge = true
 same_kind kind.Acknowledgement kind.Acknowledgement = true
 same_kind k l = false
 
+-- Whether an item has this form.
 abbrev pub is_kind : Kind → Seen → Bool
 is_kind k s = same_kind k s.kind
 
+-- Whether an item is of this node.
 abbrev pub is_of : ℕ → Seen → Bool
 is_of node s = nat_eq s.node node
 
--- A count, where it counts something.
+-- A count, or none if nothing is counted.
 abbrev pub told : ℕ → Option ℕ
 told zero = None
 told (suc n) = Some (suc n)
 
--- A count, or none where nothing is counted.
+-- The count of an entry, or 0 if there is no entry.
 abbrev pub count_in : Option ℕ → ℕ
 count_in None = 0
 count_in (Some n) = n
 
--- How many items there are, of each form and of each node. A node of which there is none is not named.
+-- How many items there are, of each form and of each node. A node of which there is no item is not named.
 pub record IsTally (seen : List Seen) (t : Tally) : Type 0 where
   pub items : t.items ≡ length seen
   pub statements : t.statements ≡ count_by (is_kind kind.Statement) seen
@@ -166,7 +172,7 @@ AreContents text form.Proof c = (parts : Parts) × (proof_of text ≡ Ok parts) 
 AreContents text form.Item c = (x : Fields) × (item_of text ≡ Ok x) × AreItems (Ok (x ∷ [])) c
 AreContents text f c = c ≡ contents.Untold
 
--- What a text is, how long it is, its SHA-256, and what is in it.
+-- What a text is, how long it is, its SHA-256 value, and what is in it.
 pub record IsShown (text : List ℕ) (s : Shown) : Type 0 where
   pub form : s.form ≡ form_of text
   pub bytes : s.bytes ≡ length text

@@ -1,4 +1,4 @@
--- How answers are written, each as a function of the answer and of for whom it is written.
+-- How answers are written, each as a function of the answer and of the style.
 use Rattle.std.specs.Prelude.{ℕ, ◌≡◌, List}
 use Rattle.std.specs.List.{flat_map}
 use Rattle.answers.specs.declared.style.Style.{Style}
@@ -18,8 +18,8 @@ abbrev pub standing_text : Style → ℕ × Standing → List ℕ
 standing_text style.Lines row = standing_line row
 standing_text style.Json row = standing_object row
 
--- What is said of each of these nodes, under the program of a name and the directory of a text. Lines tell neither of the two, nor of which
--- nodes anything is known.
+-- What is said of each of these nodes, under the program of a name and the directory of a text. Lines have neither of the two. They do not
+-- say of which nodes anything is known.
 abbrev pub standings_text : Style → List ℕ → List ℕ → List (ℕ × Standing) → List ℕ
 standings_text style.Lines program directory rows = flat_map standing_line rows
 standings_text style.Json program directory rows = standings_json program directory rows
@@ -31,7 +31,7 @@ conviction_text style.Json node program directory = conviction_json node program
 
 -- ---- laws, which `laws` proves
 
--- What is written of a node tells its indication, in either style; as JSON it tells whether anything is known of it too.
+-- What is written of a node shows its indication, in either style. As JSON it also shows whether anything is known of the node.
 pub record StandingsAreTold : Type 0 where
   pub indication : (s : Style) (node : ℕ) (a b : Standing) → standing_text s (node, a) ≡ standing_text s (node, b) → a.indication ≡ b.indication
   pub known : (node : ℕ) (a b : Standing) → standing_text style.Json (node, a) ≡ standing_text style.Json (node, b) → a.known ≡ b.known

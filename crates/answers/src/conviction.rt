@@ -1,4 +1,4 @@
-//! Whom a proof convicts, and by what that was found.
+//! Whom a proof convicts, and under which program and directory.
 
 ghost use Rattle.std.specs.Prelude.{◌≡◌, IfOk, decimal, string_bytes};
 ghost use Rattle.answers.specs.Json.{conviction_json, conviction_members};
@@ -10,13 +10,14 @@ use crate::writing::sum_of;
 use authenticators::NodeId;
 use std::alloc::{AllocError, Global};
 
-/// A number in decimal digits.
+/// Returns a number in decimal digits.
 fn decimal_of(alloc: Global, number: u64) -> Result<String, AllocError>
     ensures { IfOk result (λ word. string_bytes word ≡ decimal number) }
 {
     format!(in alloc; "{number}")
 }
 
+/// Returns whom a proof convicts, in lines.
 fn lines_of(
     alloc: Global,
     node: NodeId,
@@ -38,6 +39,7 @@ fn lines_of(
     Ok(text)
 }
 
+/// Returns the members of JSON that say whom a proof convicts.
 fn members_of(
     alloc: Global,
     node: NodeId,
@@ -59,6 +61,7 @@ fn members_of(
     Ok(text)
 }
 
+/// Returns whom a proof convicts, as JSON.
 fn json_of(
     alloc: Global,
     node: NodeId,
@@ -75,8 +78,8 @@ fn json_of(
     Ok(text)
 }
 
-/// Whom a proof convicts, under the program of this name and the directory of this text, whose SHA-256 value is told. The name is to have
-/// no character that JSON escapes. It is refused memory alone.
+/// Returns whom a proof convicts, under the program of this name and the directory of this text. The answer has the SHA-256 value of the
+/// directory's text. The name must have no character that JSON escapes. The call is refused only if memory is.
 pub fn conviction_text(
     alloc: Global,
     style: Style,

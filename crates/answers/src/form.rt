@@ -1,11 +1,11 @@
-//! What a text is.
+//! The form of a text.
 
 ghost use Rattle.std.specs.Prelude.{◌≡◌, ◌≤◌, length};
 ghost use Rattle.answers.specs.Showing.{form_name, form_of_front, known_form};
 
 use std::fmt;
 
-/// What a text is.
+/// The form of a text: what the text is.
 #[derive(Clone, Copy, Debug, PartialEq, Eq)]
 pub enum TextForm {
     /// It begins with `PRDIREC2` or `PRDIRECT`.
@@ -18,15 +18,15 @@ pub enum TextForm {
     Outline,
     /// It begins with `PRPACK01`.
     Pack,
-    /// It begins with none of these, and is the text of a proof.
+    /// It begins with none of the above, and is the text of a proof.
     Proof,
-    /// It begins with none of these, is no proof, and is the text of an item.
+    /// It begins with none of the above, is no proof, and is the text of an item.
     Item,
-    /// None of these.
+    /// None of the above.
     Unknown,
 }
 
-/// What eight bytes say.
+/// Returns what eight bytes say that a text is.
 #[tactic(auto, unfolding(crate::specs::Showing::form_of_front))]
 fn form_of_front(front: &[u8]) -> TextForm
     ensures { result ≡ form_of_front front.now }
@@ -50,7 +50,7 @@ fn form_of_front(front: &[u8]) -> TextForm
 }
 
 impl TextForm {
-    /// What the first eight bytes of a text say that it is; `Unknown` where they say nothing.
+    /// Returns what the first eight bytes of a text say that it is. Returns `Unknown` if they say nothing, or if the text has fewer bytes.
     #[tactic(auto, unfolding(crate::specs::Showing::known_form))]
     pub fn known(text: &[u8]) -> TextForm
         ensures known { result ≡ known_form text.now }
@@ -62,7 +62,7 @@ impl TextForm {
         form_of_front(&text[..8])
     }
 
-    /// The word for it.
+    /// Returns the word for the form, without an article.
     pub fn name(&self) -> &'static str
         ensures { result.now ≡ form_name self.now }
     {
@@ -79,7 +79,7 @@ impl TextForm {
     }
 }
 
-/// As it stands in a sentence.
+/// Writes the form as it stands in a sentence, with an article.
 impl fmt::Display for TextForm {
     fn fmt<W: fmt::Write>(&self, f: &mut fmt::Formatter<W>) -> fmt::Result {
         f.write_str(match self {

@@ -8,16 +8,16 @@ use authenticators::{Directory, Hash, NodeId, PublicKey};
 use sha2::{Digest, Sha256};
 use std::alloc::{AllocError, Global};
 
-/// A key of a node, by the SHA-256 of its text.
+/// A key of a node, by the SHA-256 value of its text.
 #[derive(Clone, Copy, Debug)]
 pub struct KeyPrint {
     /// The node.
     pub node: NodeId,
-    /// The SHA-256 of the key's text.
+    /// The SHA-256 value of the key's text.
     pub sha256: Hash,
 }
 
-/// The fingerprint of a node's key.
+/// Returns the fingerprint of a node's key.
 fn print_of(node: NodeId, key: &PublicKey) -> KeyPrint
     ensures { result ≡ print_of node key.now }
 {
@@ -55,7 +55,7 @@ fn add_node(
     }
 }
 
-/// The fingerprints of the keys of all nodes, in the directory's order.
+/// Returns the fingerprints of the keys of all nodes, in the directory's order.
 pub(crate) fn prints_of(alloc: Global, directory: &Directory) -> Result<Vec<KeyPrint>, AllocError>
     ensures { IfOk result (λ prints. prints.items ≡ prints_of directory.now) }
 {

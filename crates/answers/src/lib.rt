@@ -1,10 +1,10 @@
-//! Answers to operators, each a value that is written in lines for people or as JSON for programs.
+//! Answers to operators. Each is a value that is written in lines for people, or as JSON for programs.
 //!
-//! - [`shown_of`] tells what a text is and what is in it, and checks nothing of it; [`Shown::write`] writes that.
-//! - [`standings_text`] writes what is said of each node, a [`Standing`], and [`conviction_text`] whom a proof convicts, and under which
+//! - [`shown_of`] says what a text is and what is in it, and checks nothing of it. [`Shown::write`] writes that.
+//! - [`standings_text`] writes what is said of each node, a [`Standing`]. [`conviction_text`] writes whom a proof convicts, and under which
 //!   program and directory.
 //!
-//! `specs/Showing.antt` says what is in a text, `specs/Lines.antt` and `specs/Json.antt` how answers are written, each as a function of
+//! `specs/Showing.antt` says what is in a text. `specs/Lines.antt` and `specs/Json.antt` say how answers are written, each as a function of
 //! the answer alone. [`laws`] has what follows.
 #![tactic(auto)]
 

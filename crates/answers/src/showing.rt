@@ -25,30 +25,30 @@ use std::alloc::{AllocError, Global};
 pub enum Contents {
     /// The keys of a directory's nodes, in its order.
     Keys(Vec<KeyPrint>),
-    /// Why a directory can't be read.
+    /// Why the directory cannot be read.
     NoDirectory(DirectoryFault),
-    /// The items of a store, of a pack or of a proof, or the one that there is.
+    /// How many items there are in a store, in a pack or in a proof. Of a text that is an item, it counts that one.
     Items(Tally),
-    /// Why the items of a store or of a pack can't be read, and how many stand before the fault.
+    /// Why the items of a store or of a pack cannot be read, and how many items stand before the fault.
     NoItems(ImportFault),
-    /// Of this form nothing is told.
+    /// Nothing is said of what is in a text of this form.
     Untold,
 }
 
 /// What a text is, and what is in it.
 #[derive(Debug, Drop)]
 pub struct Shown {
-    /// What it is.
+    /// What the text is.
     pub form: TextForm,
     /// How many bytes it has.
     pub bytes: usize,
-    /// Its SHA-256.
+    /// Its SHA-256 value.
     pub sha256: Hash,
     /// What is in it.
     pub contents: Contents,
 }
 
-/// The keys of the directory that a text is, or why it is none.
+/// Reads the keys of the directory that a text is, or why it is none.
 fn keys_in(alloc: Global, text: &[u8]) -> Result<Contents, AllocError>
     ensures { IfOk result (AreKeys (directory_of text.now)) }
 {
@@ -62,7 +62,7 @@ fn keys_in(alloc: Global, text: &[u8]) -> Result<Contents, AllocError>
     }
 }
 
-/// What items are seen as.
+/// Returns what items are seen as.
 fn all_seen(alloc: Global, items: &[Item]) -> Result<Vec<Seen>, AllocError>
     ensures { IfOk result (λ seen. seen.items ≡ map seen_of (map (λ (i : Piece). i.fields) items.now)) }
 {
@@ -73,7 +73,7 @@ fn all_seen(alloc: Global, items: &[Item]) -> Result<Vec<Seen>, AllocError>
     Ok(seen)
 }
 
-/// The first eight bytes.
+/// Returns the first eight bytes.
 fn front_of(text: &[u8]) -> [u8; 8]
     requires { 8 ≤ length text.now }
     ensures { result ≡ take 8 text.now }
@@ -83,7 +83,7 @@ fn front_of(text: &[u8]) -> [u8; 8]
     front
 }
 
-/// The items of the store or of the pack that a text is, or why they can't be read.
+/// Counts the items of the store or of the pack that a text is, or returns why they cannot be read.
 fn items_in(alloc: Global, text: &[u8]) -> Result<Contents, AllocError>
     requires { 8 ≤ length text.now }
     ensures { IfOk result (AreItems (items_in text.now)) }
@@ -101,7 +101,7 @@ fn items_in(alloc: Global, text: &[u8]) -> Result<Contents, AllocError>
     }
 }
 
-/// What the parts of a proof are seen as.
+/// Returns what the parts of a proof are seen as.
 fn parts_seen(alloc: Global, parts: &Parts) -> Result<Vec<Seen>, AllocError>
     ensures { IfOk result (λ seen. seen.items ≡ map seen_of (items_of parts.now)) }
 {
@@ -117,7 +117,7 @@ fn parts_seen(alloc: Global, parts: &Parts) -> Result<Vec<Seen>, AllocError>
     Ok(seen)
 }
 
-/// The parts of a proof.
+/// Counts the parts of a proof.
 fn parts_in(alloc: Global, parts: &Parts) -> Result<Contents, AllocError>
     ensures { IfOk result (AreItems (Ok (items_of parts.now))) }
 {
@@ -126,7 +126,7 @@ fn parts_in(alloc: Global, parts: &Parts) -> Result<Contents, AllocError>
     Ok(Contents::Items(tally))
 }
 
-/// The item that a text is, or that it is none.
+/// Reads the item that a text is, or that it is none.
 fn item_in(alloc: Global, text: &[u8]) -> Result<(TextForm, Contents), AllocError>
     ensures form { IfOk result (λ x. x.0 ≡ item_form (item_of text.now)) }
     ensures contents { IfOk result (λ x. AreContents text.now x.0 x.1) }
@@ -142,7 +142,7 @@ fn item_in(alloc: Global, text: &[u8]) -> Result<(TextForm, Contents), AllocErro
     }
 }
 
-/// The proof or the item that a text is, or that it is none.
+/// Reads the proof or the item that a text is, or that it is neither.
 fn plain_in(alloc: Global, text: &[u8]) -> Result<(TextForm, Contents), AllocError>
     ensures form { IfOk result (λ x. x.0 ≡ plain_form (proof_of text.now) (item_of text.now)) }
     ensures contents { IfOk result (λ x. AreContents text.now x.0 x.1) }
@@ -160,7 +160,7 @@ fn plain_in(alloc: Global, text: &[u8]) -> Result<(TextForm, Contents), AllocErr
     }
 }
 
-/// What a text is, and what is in it.
+/// Returns what a text is, and what is in it.
 fn read(alloc: Global, text: &[u8]) -> Result<(TextForm, Contents), AllocError>
     ensures form { IfOk result (λ x. x.0 ≡ form_of text.now) }
     ensures contents { IfOk result (λ x. AreContents text.now x.0 x.1) }
@@ -175,8 +175,8 @@ fn read(alloc: Global, text: &[u8]) -> Result<(TextForm, Contents), AllocError>
     Ok((form, contents))
 }
 
-/// What a text is, how long it is, its SHA-256, and what is in it. Nothing of it is checked: no signature, no log, and no node against a
-/// directory. It is refused memory alone.
+/// Returns what a text is, how long it is, its SHA-256 value, and what is in it. Nothing of the text is checked: no signature, no log, and
+/// no node against a directory. The call is refused only if memory is.
 pub fn shown_of(alloc: Global, text: &[u8]) -> Result<Shown, AllocError>
     ensures { IfOk result (IsShown text.now) }
 {
@@ -190,7 +190,7 @@ pub fn shown_of(alloc: Global, text: &[u8]) -> Result<Shown, AllocError>
 }
 
 impl Shown {
-    /// What a text is, and what is in it, as it is written.
+    /// Writes what a text is, and what is in it. The call is refused only if memory is.
     pub fn write(&self, alloc: Global, style: Style) -> Result<Vec<u8>, AllocError>
         ensures { IfOk result (λ text. text.items ≡ shown_text style self.now) }
     {

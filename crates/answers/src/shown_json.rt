@@ -47,7 +47,7 @@ fn put_further_keys(alloc: Global, text: &mut Vec<u8>, keys: &[KeyPrint]) -> Res
     Ok(())
 }
 
-/// Writes keys of nodes, parted by commas.
+/// Writes keys of nodes, with commas between.
 fn put_keys(alloc: Global, text: &mut Vec<u8>, keys: &[KeyPrint]) -> Result<(), AllocError>
     ensures { OnOk result (text.new.items ≡ text.old.items ++ join_by key_object (codes ",") keys.now) }
 {
@@ -78,7 +78,7 @@ fn put_node(
     text.extend_from_slice(b"}")
 }
 
-/// Writes how many items there are of each node, parted by commas.
+/// Writes how many items there are of each node, with commas between.
 fn put_nodes(
     alloc: Global,
     text: &mut Vec<u8>,
@@ -157,7 +157,7 @@ fn put_name(text: &mut Vec<u8>, name: &str) -> Result<(), AllocError>
     text.extend_from_slice(b"\"")
 }
 
-/// Writes why a text can't be read.
+/// Writes why a text cannot be read.
 fn put_refused(alloc: Global, text: &mut Vec<u8>, number: u8, name: &str) -> Result<(), AllocError>
     ensures { OnOk result (text.new.items ≡ text.old.items ++ refused_members number name.now) }
 {
@@ -200,7 +200,7 @@ fn put_form(text: &mut Vec<u8>, form: TextForm) -> Result<(), AllocError>
     text.extend_from_slice(b"\"")
 }
 
-/// Writes a SHA-256.
+/// Writes a SHA-256 value.
 #[tactic(auto, unfolding(crate::specs::Json::digest_member))]
 fn put_digest(alloc: Global, text: &mut Vec<u8>, digest: &Hash) -> Result<(), AllocError>
     ensures { OnOk result (text.new.items ≡ text.old.items ++ digest_member digest.now) }

@@ -92,7 +92,7 @@ fn put_tally(alloc: Global, text: &mut Vec<u8>, tally: &Tally) -> Result<(), All
     put_nodes(alloc, text, &tally.nodes)
 }
 
-/// Writes why a text can't be read.
+/// Writes why a text cannot be read.
 fn put_refused(alloc: Global, text: &mut Vec<u8>, number: u8, name: &str) -> Result<(), AllocError>
     ensures { OnOk result (text.new.items ≡ text.old.items ++ refused_line number name.now) }
 {

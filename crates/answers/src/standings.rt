@@ -1,4 +1,4 @@
-//! What is said of nodes.
+//! What is said of nodes, in lines or as JSON.
 
 ghost use Rattle.std.specs.Prelude.{◌≡◌, ◌++◌, IfOk, OnOk, codes};
 ghost use Rattle.std.specs.List.{flat_map, join_by};
@@ -16,13 +16,13 @@ use std::collections::BTreeMap;
 /// What is said of a node.
 #[derive(Clone, Copy, Debug)]
 pub struct Standing {
-    /// Its indication.
+    /// The node's indication.
     pub indication: Indication,
-    /// Whether anything is known of it. One that behaved well is trusted, and so is one of which there is no evidence.
+    /// Whether anything is known of the node. A node that behaved well is trusted, and so is a node of which there is no evidence.
     pub known: bool,
 }
 
-/// The word for an indication.
+/// Returns the word for an indication.
 fn word_of(indication: Indication) -> &'static str
     ensures { result.now ≡ name_of indication }
 {
@@ -33,7 +33,7 @@ fn word_of(indication: Indication) -> &'static str
     }
 }
 
-/// Whether anything is known of a node, as a member.
+/// Returns, as a member of JSON, whether anything is known of a node.
 #[tactic(auto, unfolding(crate::specs::Json::known_member))]
 fn known_member(known: bool) -> &'static str
     ensures { result.now ≡ known_member known }
@@ -110,7 +110,7 @@ fn put_object(
     text.extend_from_slice(b"}")
 }
 
-/// Writes what is said of all nodes, parted by commas.
+/// Writes what is said of all nodes, with commas between.
 fn put_objects(
     alloc: Global,
     text: &mut Vec<u8>,
@@ -126,6 +126,7 @@ fn put_objects(
     Ok(())
 }
 
+/// Returns what is said of each node, in lines.
 fn lines_of(alloc: Global, standings: &BTreeMap<u32, Standing>) -> Result<Vec<u8>, AllocError>
     ensures { IfOk result (λ text. text.items ≡ flat_map standing_line standings.now.entries) }
 {
@@ -134,6 +135,7 @@ fn lines_of(alloc: Global, standings: &BTreeMap<u32, Standing>) -> Result<Vec<u8
     Ok(text)
 }
 
+/// Returns what is said of each node, as JSON.
 fn json_of(
     alloc: Global,
     program: &[u8],
@@ -154,9 +156,9 @@ fn json_of(
     Ok(text)
 }
 
-/// What is said of each node, ascending by their numbers, under the program of this name and the directory of this text: JSON tells the
-/// name, the text's SHA-256 value and of which nodes anything is known, lines tell none of these. The name is to have no character that
-/// JSON escapes. It is refused memory alone.
+/// Returns what is said of each node, ascending by their numbers, under the program of this name and the directory of this text. JSON has
+/// the name, the SHA-256 value of the directory's text, and of which nodes anything is known. Lines have none of these. The name must have
+/// no character that JSON escapes. The call is refused only if memory is.
 pub fn standings_text(
     alloc: Global,
     style: Style,

@@ -1,4 +1,4 @@
-//! For whom an answer is written.
+//! How answers are written.
 
 /// How an answer is written.
 #[derive(Clone, Copy, Debug, PartialEq, Eq)]

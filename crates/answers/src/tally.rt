@@ -1,4 +1,4 @@
-//! How many items there are, of which form and of which node.
+//! How many items there are, of each form and of each node.
 
 ghost use Rattle.std.specs.Prelude.{◌≡◌, ℕ, IfOk, count_by, length};
 ghost use Rattle.std.specs.BTreeMap.{IsOrdered, get};
@@ -14,14 +14,19 @@ use std::collections::BTreeMap;
 /// The five forms of items.
 #[derive(Clone, Copy, Debug, PartialEq, Eq)]
 pub enum Kind {
+    /// A signed statement.
     Statement,
+    /// A segment of a log.
     Segment,
+    /// A challenge to show a log.
     AuditChallenge,
+    /// A challenge to acknowledge a message.
     SendChallenge,
+    /// An acknowledgement of a message.
     Acknowledgement,
 }
 
-/// An item's form, and the node of which it is: that which signed a statement, a segment or an acknowledgement, or is challenged.
+/// An item's form and its node. It is the node that signed a statement, a segment or an acknowledgement, or that is challenged.
 #[derive(Clone, Copy, Debug)]
 pub struct Seen {
     /// The item's form.
@@ -33,17 +38,23 @@ pub struct Seen {
 /// How many items there are of each form, and of each node.
 #[derive(Debug, Drop)]
 pub struct Tally {
+    /// How many items there are of all forms.
     pub items: usize,
+    /// How many signed statements there are.
     pub statements: usize,
+    /// How many segments there are.
     pub segments: usize,
+    /// How many audit challenges there are.
     pub audit_challenges: usize,
+    /// How many send challenges there are.
     pub send_challenges: usize,
+    /// How many acknowledgements there are.
     pub acknowledgements: usize,
-    /// How many items there are of each node that has one.
+    /// How many items there are of each node that has one, by the node's number.
     pub nodes: BTreeMap<u32, usize>,
 }
 
-/// What a statement is seen as.
+/// Returns what a statement is seen as.
 pub(crate) fn statement_seen(auth: &Authenticator) -> Seen
     ensures { result ≡ seen_of (form.Auth auth.now) }
 {
@@ -53,7 +64,7 @@ pub(crate) fn statement_seen(auth: &Authenticator) -> Seen
     }
 }
 
-/// What a segment is seen as.
+/// Returns what a segment is seen as.
 pub(crate) fn segment_seen(segment: &Segment) -> Seen
     ensures { result ≡ seen_of (form.Segment segment.now) }
 {
@@ -63,7 +74,7 @@ pub(crate) fn segment_seen(segment: &Segment) -> Seen
     }
 }
 
-/// What an item is seen as.
+/// Returns what an item is seen as.
 pub(crate) fn seen_of(item: &Item) -> Seen
     ensures { result ≡ seen_of item.now.fields }
 {
@@ -85,7 +96,7 @@ pub(crate) fn seen_of(item: &Item) -> Seen
     }
 }
 
-/// Whether an item has this form.
+/// Returns whether an item has this form.
 fn is_kind(kind: Kind, one: &Seen) -> bool
     ensures { result ≡ is_kind kind one.now }
 {
@@ -99,14 +110,14 @@ fn is_kind(kind: Kind, one: &Seen) -> bool
     }
 }
 
-/// How many items have this form.
+/// Returns how many items have this form.
 fn count_of(seen: &[Seen], kind: Kind) -> usize
     ensures { result ≡ count_by (is_kind kind) seen.now }
 {
     seen.iter().filter(|one| is_kind(kind, one)).count()
 }
 
-/// How many items of a node were counted.
+/// Returns how many items of a node were counted.
 fn count_in(nodes: &BTreeMap<u32, usize>, node: u32) -> usize
     ensures { result ≡ count_in (get nat_cmp nodes.now node) }
 {
@@ -116,7 +127,7 @@ fn count_in(nodes: &BTreeMap<u32, usize>, node: u32) -> usize
     }
 }
 
-/// How many items there are of each node.
+/// Returns how many items there are of each node.
 fn nodes_of(alloc: Global, seen: &[Seen]) -> Result<BTreeMap<u32, usize>, AllocError>
     ensures { IfOk result (λ m. (node : ℕ) → get nat_cmp m node ≡ told (count_by (is_of node) seen.now)) }
 {
@@ -129,14 +140,14 @@ fn nodes_of(alloc: Global, seen: &[Seen]) -> Result<BTreeMap<u32, usize>, AllocE
     Ok(nodes)
 }
 
-/// A map is in ascending order.
+/// Does nothing. Its contract says that a map is in ascending order.
 fn is_ordered(nodes: &BTreeMap<u32, usize>)
     ensures { IsOrdered nat_cmp nodes.now }
 {
     let _ = nodes.len();
 }
 
-/// How many items there are, of each form and of each node.
+/// Counts the items of each form and of each node.
 pub(crate) fn tally_of(alloc: Global, seen: &[Seen]) -> Result<Tally, AllocError>
     ensures { IfOk result (IsTally seen.now) }
 {

@@ -1,4 +1,4 @@
-//! Numbers and digits, as answers are written.
+//! Numbers and digits, as answers write them.
 
 ghost use Rattle.std.specs.Prelude.{◌≡◌, ◌++◌, OnOk, decimal};
 ghost use Rattle.hex.specs.Hex.{encode_lower};
@@ -7,7 +7,7 @@ ghost use Rattle.sha2.specs.Sha256.{sha256};
 use sha2::{Digest, Sha256};
 use std::alloc::{AllocError, Global};
 
-/// The SHA-256 value of the bytes, in digits.
+/// Returns the SHA-256 value of the bytes, in hexadecimal digits.
 pub(crate) fn sum_of(bytes: &[u8]) -> [u8; 64]
     ensures { result ≡ encode_lower (sha256 bytes.now) }
 {

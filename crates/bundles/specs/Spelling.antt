@@ -1,12 +1,12 @@
--- What a bundle is, and its one text, line by line. A line feed (10) ends each line.
+-- What a bundle is, and what its one text is, line by line. A line feed (10) ends each line.
 use Rattle.std.specs.Prelude.{◌≡◌, ◌<◌, ◌^◌, ◌==◌, ◌&&◌, ◌||◌, nat_le, ℕ, Bool, false, List, [], ◌∷◌, ◌++◌, length, IsTrue, codes, decimal}
 use Rattle.std.specs.List.{All, flat_map, list_all}
 use Rattle.hex.specs.Hex.{encode_lower}
 use Rattle.outcome.specs.Bytes.{IsBytes}
 use Rattle.sha2.specs.Sha256.{sha256}
 
--- What a bundle hands over: sentences for people, as they stand, the name of a program, the node that it says to be exposed, and the
--- bytes of a directory and of a proof.
+-- What a bundle hands over: sentences for people, as they stand, the name of a program, the node that is said to be exposed, and the bytes
+-- of a directory and of a proof.
 pub record Contents : Type 0 where
   pub sentences : List ℕ
   pub program : List ℕ
@@ -16,7 +16,7 @@ pub record Contents : Type 0 where
 
 -- ---- lines
 
--- The line and its end.
+-- The line and its line feed.
 abbrev pub ended : List ℕ → List ℕ
 ended line = line ++ 10 ∷ []
 
@@ -33,11 +33,11 @@ is_sentence (c ∷ rest) = (c == 35) && list_all is_printed rest
 abbrev pub is_name_character : ℕ → Bool
 is_name_character c = (nat_le 97 c && nat_le c 122) || (nat_le 48 c && nat_le c 57) || (c == 95)
 
--- 1 to 32 of them.
+-- 1 to 32 characters of a name.
 abbrev pub is_name : List ℕ → Bool
 is_name name = nat_le 1 (length name) && nat_le (length name) 32 && list_all is_name_character name
 
--- ---- what is spelled
+-- ---- what a bundle may have
 
 -- Lines that are sentences, one after the other.
 pub record AreSentences (text : List ℕ) : Type 0 where
@@ -50,6 +50,7 @@ pub record IsPart (bytes : List ℕ) : Type 0 where
   pub each : IsBytes bytes
   pub count : length bytes < 10 ^ 10
 
+-- Each part is as bundles have it.
 pub record IsBundle (b : Contents) : Type 0 where
   pub sentences : AreSentences b.sentences
   pub program : IsTrue (is_name b.program)
@@ -63,6 +64,7 @@ pub record IsBundle (b : Contents) : Type 0 where
 abbrev pub told_line : List ℕ → List ℕ → List ℕ
 told_line word bytes = word ++ 32 ∷ decimal (length bytes) ++ 32 ∷ encode_lower (sha256 bytes)
 
+-- The first line of each bundle.
 abbrev pub first_line : List ℕ
 first_line = codes "bulwynef bundle 1"
 

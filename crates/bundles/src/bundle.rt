@@ -1,19 +1,19 @@
-//! Bundles.
+//! The values that a bundle has.
 
 use std::marker::Model;
 
-/// A bundle, all of whose parts are lent.
+/// A bundle that is to be written. All of its parts are borrowed.
 #[derive(Debug, Drop)]
 pub struct Bundle<'a> {
-    /// The sentences as they stand: lines of `#` and characters from a blank to `~`, each with its line feed.
+    /// The sentences as they stand in the text. Each is a line of `#` and characters from a blank to `~`, with its line feed.
     pub sentences: &'a [u8],
-    /// The name of the program that the nodes were to follow: 1 to 32 of `a` to `z`, `0` to `9` and `_`.
+    /// The name of the program that the nodes were to follow: 1 to 32 characters of `a` to `z`, `0` to `9` and `_`.
     pub program: &'a [u8],
-    /// The node that the proof is said to expose, of at most ten decimal digits.
+    /// The number of the node that the proof is said to expose, of at most ten decimal digits.
     pub node: u64,
-    /// The bytes of a directory, less than 10,000,000,000 of them.
+    /// The bytes of a directory, fewer than 10,000,000,000.
     pub directory: &'a [u8],
-    /// The bytes of a proof, less than 10,000,000,000 of them.
+    /// The bytes of a proof, fewer than 10,000,000,000.
     pub proof: &'a [u8],
 }
 
@@ -25,14 +25,14 @@ impl<'a> Model for Bundle<'a> {
     ghost view = { λ b. record { sentences = b.sentences.now; program = b.program.now; node = b.node; directory = b.directory.now; proof = b.proof.now } };
 }
 
-/// A bundle that was read. Its sentences and its program's name are lent from its text.
+/// A bundle that was read. Its sentences and its program's name are borrowed from its text.
 #[derive(Debug, Drop)]
 pub struct OpenBundle<'a> {
-    /// The sentences as they stand, as in [`Bundle::sentences`].
+    /// The sentences as they stand in the text, as in [`Bundle::sentences`].
     pub sentences: &'a [u8],
     /// The name of the program, which a reader may not know.
     pub program: &'a [u8],
-    /// The node that the proof is said to expose.
+    /// The number of the node that the proof is said to expose.
     pub node: u64,
     /// The bytes of the directory.
     pub directory: Vec<u8>,

@@ -1,4 +1,4 @@
-//! Why a text is no bundle, and why a bundle is not written. Each refusal has a number and a name.
+//! The reasons why a text is no bundle, and why a bundle is not written. Each refusal has a number and a name.
 
 ghost use Rattle.std.specs.Prelude.{◌≡◌};
 ghost use Rattle.bundles.specs.declared.fault.BundleFault.TheVariants.{Memory};
@@ -8,17 +8,17 @@ ghost use Rattle.bundles.specs.Refusals.{line_of, name_of, number_of, write_name
 use std::alloc::{AllocError, AllocFailed};
 use thiserror::Error;
 
-/// Why a text is refused, and at which line, counted from 1.
+/// The reason why a text is refused, and the number of the line that is at fault, counted from 1.
 #[derive(Clone, Copy, Debug, PartialEq, Eq, Error)]
 pub enum BundleFault {
-    /// 106: the line is the first that is not spelled as a bundle's, is missing, or stands behind the last.
-    #[error("the line is the first that is not spelled as a bundle's, is missing, or stands behind the last")]
+    /// 106: this line is the first that is not written as a bundle's, is missing, or stands behind the last.
+    #[error("this line is not as bundles have it, is missing, or stands behind the last")]
     BadBundle(usize),
-    /// 107: the digits have another length than this line tells.
-    #[error("the digits have another length than this line tells")]
+    /// 107: the digits have another length than this line says.
+    #[error("the digits have another length than this line says")]
     OtherLength(usize),
-    /// 108: the digits have another sum than this line tells.
-    #[error("the digits have another sum than this line tells")]
+    /// 108: the bytes of the digits have another SHA-256 value than this line says.
+    #[error("the bytes of the digits have another SHA-256 than this line says")]
     OtherSum(usize),
     /// 99: a growth of memory was refused.
     #[error("memory ran out")]
@@ -26,7 +26,7 @@ pub enum BundleFault {
 }
 
 impl BundleFault {
-    /// The number of the refusal.
+    /// Returns the number of the refusal.
     pub fn number(&self) -> u8
         ensures { result ≡ number_of self.now }
     {
@@ -38,7 +38,7 @@ impl BundleFault {
         }
     }
 
-    /// The name of the refusal, which is that of its variant.
+    /// Returns the name of the refusal, which is that of its variant.
     pub fn name(&self) -> &'static str
         ensures { result.now ≡ name_of self.now }
     {
@@ -50,7 +50,7 @@ impl BundleFault {
         }
     }
 
-    /// The number of the line that is at fault, counted from 1; none where memory ran out.
+    /// Returns the number of the line that is at fault, counted from 1. Returns `None` if memory ran out.
     pub fn line(&self) -> Option<usize>
         ensures { result ≡ line_of self.now }
     {
@@ -71,11 +71,11 @@ impl From<AllocError> for BundleFault {
     }
 }
 
-/// Why a bundle is not written.
+/// The reason why a bundle is not written.
 #[derive(Clone, Copy, Debug, PartialEq, Eq, Error)]
 pub enum WriteFault {
-    /// 106: a part of it is not spelled as bundles have it.
-    #[error("a part of the bundle is not spelled as bundles have it")]
+    /// 106: a part of the bundle is not as [`Bundle`](crate::Bundle) says.
+    #[error("a part of the bundle is not as bundles have it")]
     BadBundle,
     /// 99: a growth of memory was refused.
     #[error("memory ran out")]
@@ -83,7 +83,7 @@ pub enum WriteFault {
 }
 
 impl WriteFault {
-    /// The number of the refusal.
+    /// Returns the number of the refusal.
     pub fn number(&self) -> u8
         ensures { result ≡ write_number self.now }
     {
@@ -93,7 +93,7 @@ impl WriteFault {
         }
     }
 
-    /// The name of the refusal, which is that of its variant.
+    /// Returns the name of the refusal, which is that of its variant.
     pub fn name(&self) -> &'static str
         ensures { result.now ≡ write_name self.now }
     {

@@ -26,13 +26,14 @@ impl<'a> Model for Head<'a> {
     ghost view = { λ h. record { sentences = h.sentences.now; program = h.program.now; node = h.node } };
 }
 
+/// Returns whether the line is the first one of a bundle.
 fn is_first_line(line: &[u8]) -> bool
     ensures { result ≡ bytes_eq line.now first_line }
 {
     line == b"bulwynef bundle 1".as_slice()
 }
 
-/// The lines behind the first one.
+/// Returns the lines behind the first one.
 fn greeted<'a>(at: &Lines<'a>) -> Result<Lines<'a>, BundleFault>
     ensures { MatchResult result (λ behind. line_at greets at.now ≡ Ok (tt, behind)) (λ f. line_at greets at.now ≡ Err f) }
 {
@@ -45,7 +46,7 @@ fn greeted<'a>(at: &Lines<'a>) -> Result<Lines<'a>, BundleFault>
     Ok(behind)
 }
 
-/// The program's name, and the lines behind it.
+/// Returns the program's name, and the lines behind it.
 fn program_at<'a>(at: &Lines<'a>) -> Result<(&'a [u8], Lines<'a>), BundleFault>
     ensures { MatchResult result (λ p. line_at program_in at.now ≡ Ok (p.0.now, p.1)) (λ f. line_at program_in at.now ≡ Err f) }
 {
@@ -58,7 +59,7 @@ fn program_at<'a>(at: &Lines<'a>) -> Result<(&'a [u8], Lines<'a>), BundleFault>
     }
 }
 
-/// The node that is said to be exposed, and the lines behind it.
+/// Returns the node that is said to be exposed, and the lines behind it.
 fn exposed_at<'a>(at: &Lines<'a>) -> Result<(u64, Lines<'a>), BundleFault>
     ensures { MatchResult result (λ p. line_at exposed_in at.now ≡ Ok (p.0, p.1)) (λ f. line_at exposed_in at.now ≡ Err f) }
 {
@@ -71,7 +72,7 @@ fn exposed_at<'a>(at: &Lines<'a>) -> Result<(u64, Lines<'a>), BundleFault>
     }
 }
 
-/// What stands before the directory's line, and the lines from it on.
+/// Returns what stands before the directory's line, and the lines from it on.
 #[tactic(auto, unfolding(crate::specs::Grammar::head_of))]
 pub(crate) fn head_of(text: &[u8]) -> Result<(Head<'_>, Lines<'_>), BundleFault>
     ensures { MatchResult result (λ p. head_of text.now ≡ Ok (p.0, p.1)) (λ f. head_of text.now ≡ Err f) }

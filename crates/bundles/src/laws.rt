@@ -1,4 +1,4 @@
-//! Laws over the definitions. Each is a function that does nothing: its contract is the law.
+//! Laws over the definitions. Each law is the contract of a function that does nothing.
 
 ghost use Rattle.bundles.specs.BundleLaws.{BundlesAreRead, TextsTellBundles};
 

@@ -1,11 +1,11 @@
-//! Bundles: a proof to hand over in one file, with its directory, and with sentences for people.
+//! Bundles. A bundle is a proof to hand over in one file, with its directory and with sentences for people.
 //!
-//! - [`write`] gives the text of a [`Bundle`].
-//! - [`read`] gives the [`OpenBundle`] of a text, or refuses it with the number of a line. It believes no sentence, and not the node that
-//!   a bundle names: what its proof exposes is for who checks that.
+//! - [`write`] returns the text of a [`Bundle`].
+//! - [`read`] returns the [`OpenBundle`] of a text, or refuses the text with the number of a line. It believes no sentence, and not the
+//!   node that a bundle names. What the proof exposes is for the caller to check.
 //!
-//! `specs/Spelling.antt` says what a bundle is, and its one text; `specs/Grammar.antt` how a text is read. [`laws`] has that each
-//! bundle's text is read as that bundle, and that nothing else is read.
+//! `specs/Spelling.antt` says what a bundle is, and what its one text is. `specs/Grammar.antt` says how a text is read. By [`laws`], each
+//! bundle's text is read as that bundle, and no other text is read.
 #![tactic(auto)]
 
 pub use bundle::{Bundle, OpenBundle};

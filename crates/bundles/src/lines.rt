@@ -13,7 +13,7 @@ use std::marker::Model;
 /// The byte that ends a line.
 const LINE_FEED: u8 = b'\n';
 
-/// The first line, and what stands behind its end; `None` where no line feed ends it.
+/// Returns the first line, and what stands behind its end. Returns `None` if no line feed ends it.
 fn first_line(text: &[u8]) -> Option<(&[u8], &[u8])>
     ensures line { MatchOption result (lines_of text.now ≡ text.now ∷ []) (λ p. IsLine text.now p.0.now p.1.now) }
     ensures shorter { IfSome result (λ p. length p.1.now < length text.now) }
@@ -24,7 +24,7 @@ fn first_line(text: &[u8]) -> Option<(&[u8], &[u8])>
     }
 }
 
-/// What stands behind the first line, where that is a sentence.
+/// Returns what stands behind the first line, if that is a sentence, and otherwise `None`.
 fn behind_sentence(text: &[u8]) -> Option<&[u8]>
     ensures sentence { MatchOption result ((n : ℕ) → sentences_from n (lines_of text.now) ≡ ([], record { number = n; left = lines_of text.now })) (λ rest. IsBehindSentence text.now rest.now) }
     ensures shorter { IfSome result (λ rest. length rest.now < length text.now) }
@@ -38,7 +38,7 @@ fn behind_sentence(text: &[u8]) -> Option<&[u8]>
     Some(rest)
 }
 
-/// The sentences as they stand at the front, what stands behind them, and how many there are.
+/// Returns the sentences as they stand at the front, what stands behind them, and how many there are.
 pub(crate) fn sentences_of(text: &[u8]) -> (&[u8], &[u8], usize)
     ensures sentences { (n : ℕ) → sentences_from n (lines_of text.now) ≡ (result.0.now, record { number = n + result.2; left = lines_of result.1.now }) }
     ensures whole { text.now ≡ result.0.now ++ result.1.now }
@@ -72,7 +72,7 @@ impl<'a> Model for Lines<'a> {
 }
 
 impl<'a> Lines<'a> {
-    /// All lines of a text.
+    /// Returns all lines of a text.
     pub(crate) fn of(text: &'a [u8]) -> Lines<'a>
         ensures { result ≡ beginning text.now }
     {
@@ -82,21 +82,21 @@ impl<'a> Lines<'a> {
         }
     }
 
-    /// The number of the next line.
+    /// Returns the number of the next line.
     pub(crate) fn number(&self) -> usize
         ensures { result ≡ self.now.number }
     {
         self.number
     }
 
-    /// The refusal of the next line.
+    /// Returns the refusal of the next line.
     pub(crate) fn refusal(&self) -> BundleFault
         ensures { result ≡ BadBundle self.now.number }
     {
         BundleFault::BadBundle(self.number)
     }
 
-    /// The next line, and the lines behind it; `None` where no line feed ends it.
+    /// Returns the next line, and the lines behind it. Returns `None` if no line feed ends it.
     pub(crate) fn next(&self) -> Option<(&'a [u8], Lines<'a>)>
         ensures { MatchOption result (length self.now.left ≤ 1) (λ p. IsNext self.now p.0.now p.1) }
     {
@@ -112,7 +112,7 @@ impl<'a> Lines<'a> {
         }
     }
 
-    /// The sentences as they stand, and the lines behind them.
+    /// Returns the sentences as they stand, and the lines behind them.
     pub(crate) fn sentences(&self) -> (&'a [u8], Lines<'a>)
         ensures { sentences_from self.now.number self.now.left ≡ (result.0.now, result.1) }
     {
@@ -126,7 +126,7 @@ impl<'a> Lines<'a> {
         )
     }
 
-    /// Refuses what is left.
+    /// Refuses what is left, if anything is.
     pub(crate) fn end(&self) -> Result<(), BundleFault>
         ensures { result ≡ nothing_left self.now.number self.now.left }
     {

@@ -1,4 +1,4 @@
-//! A directory and a proof, and what lines tell of them.
+//! A directory and a proof, and what lines say of them.
 
 ghost use Rattle.std.specs.Prelude.{◌≡◌, is_ok, true, ℕ, List, Ok, Err, MatchResult, codes};
 ghost use Rattle.hex.specs.Hex.{decode_of, encode_lower};
@@ -15,7 +15,7 @@ use crate::sums::sum_of;
 use std::alloc::Global;
 use std::marker::Model;
 
-/// The digits of bytes, and what a line tells of these. A contract sees the bytes.
+/// The digits of bytes, and what a line says of the bytes. A contract sees the bytes.
 #[derive(Debug, Drop)]
 pub(crate) struct Part<'a> {
     line: usize,
@@ -36,14 +36,14 @@ impl<'a> Model for Part<'a> {
     ghost invariant = { λ p. is_ok (decode_of p.digits.now) ≡ true };
 }
 
-/// Whether the word is the sum of the bytes in digits.
+/// Returns whether the word is the SHA-256 value of the bytes, in digits.
 fn is_sum_of(word: &[u8], bytes: &[u8]) -> bool
     ensures { result ≡ bytes_eq (encode_lower (sha256 bytes.now)) word.now }
 {
     sum_of(bytes).as_slice() == word
 }
 
-/// The bytes that the digits spell.
+/// Returns the bytes that the digits stand for.
 fn bytes_of(alloc: Global, digits: &[u8]) -> Result<Vec<u8>, BundleFault>
     requires { is_ok (decode_of digits.now) ≡ true }
     ensures { MatchResult result (λ bytes. decode_of digits.now ≡ Ok bytes.items) (λ f. f ≡ Memory) }
@@ -56,7 +56,7 @@ fn bytes_of(alloc: Global, digits: &[u8]) -> Result<Vec<u8>, BundleFault>
 }
 
 impl<'a> Part<'a> {
-    /// The bytes, where the line tells their length and their sum. They are hashed once.
+    /// Returns the bytes, if the line says their length and their SHA-256 value. They are hashed once.
     #[tactic(auto, unfolding(crate::specs::Grammar::as_told))]
     pub(crate) fn bytes(&self, alloc: Global) -> Result<Vec<u8>, BundleFault>
         ensures { Gives Memory (λ bytes. bytes.items) result (as_told self.now) }
@@ -72,7 +72,7 @@ impl<'a> Part<'a> {
     }
 }
 
-/// What the next line tells, and the lines behind it.
+/// Returns what the next line says, and the lines behind it.
 fn sum_at<'a>(word: &[u8], at: &Lines<'a>) -> Result<(Told<'a>, Lines<'a>), BundleFault>
     ensures { MatchResult result (λ p. line_at (sum_in word.now) at.now ≡ Ok ((p.0.length, p.0.sum.now), p.1)) (λ f. line_at (sum_in word.now) at.now ≡ Err f) }
 {
@@ -85,7 +85,7 @@ fn sum_at<'a>(word: &[u8], at: &Lines<'a>) -> Result<(Told<'a>, Lines<'a>), Bund
     }
 }
 
-/// The digits of the next line, and the lines behind it.
+/// Returns the digits of the next line, and the lines behind it.
 fn digits_at<'a>(at: &Lines<'a>) -> Result<(&'a [u8], Lines<'a>), BundleFault>
     ensures { MatchResult result (λ p. (bytes : List ℕ) × (decode_of p.0.now ≡ Ok bytes) × (line_at bytes_in at.now ≡ Ok (bytes, p.1))) (λ f. line_at bytes_in at.now ≡ Err f) }
 {
@@ -98,7 +98,7 @@ fn digits_at<'a>(at: &Lines<'a>) -> Result<(&'a [u8], Lines<'a>), BundleFault>
     Ok((line, behind))
 }
 
-/// The directory and the proof, with which the text ends.
+/// Returns the directory and the proof, with which the text ends.
 #[tactic(auto, unfolding(crate::specs::Grammar::parts_at))]
 pub(crate) fn parts_at<'a>(at: &Lines<'a>) -> Result<(Part<'a>, Part<'a>), BundleFault>
     ensures { MatchResult result (λ p. parts_at at.now ≡ Ok (p.0, p.1)) (λ f. parts_at at.now ≡ Err f) }

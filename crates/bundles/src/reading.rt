@@ -1,4 +1,4 @@
-//! Reading a bundle.
+//! How a bundle is read.
 
 ghost use Rattle.std.specs.Prelude.{◌≡◌, Ok, Err, MatchResult};
 ghost use Rattle.outcome.specs.Outcome.{Gives};
@@ -12,7 +12,7 @@ use crate::heads::{Head, head_of};
 use crate::parts::{Part, parts_at};
 use std::alloc::Global;
 
-/// All lines of a text, none of which is refused. It takes no memory.
+/// Returns what the lines of a text say, if none of them is refused. It takes no memory.
 #[tactic(auto, unfolding(crate::specs::Grammar::form_of))]
 fn form_of(text: &[u8]) -> Result<(Head<'_>, Part<'_>, Part<'_>), BundleFault>
     ensures { MatchResult result (λ p. form_of text.now ≡ Ok (p.0, p.1, p.2)) (λ f. form_of text.now ≡ Err f) }
@@ -22,11 +22,16 @@ fn form_of(text: &[u8]) -> Result<(Head<'_>, Part<'_>, Part<'_>), BundleFault>
     Ok((head, directory, proof))
 }
 
-/// The bundle of a text, in one pass over its lines, one over its digits and one over their bytes.
+/// Reads the bundle of a text, in one pass over its lines, one over its digits and one over their bytes.
 ///
-/// The first of these is told: `BadBundle` (106) at the first line that is not spelled as a bundle's, is missing, or stands behind the
-/// last; `OtherLength` (107) and `OtherSum` (108) at the directory's line, and then at the proof's, where the digits have another length
-/// or sum than it tells. `Memory` (99) may come in place of what is behind 106, and of the answer, and never in place of 106.
+/// The call reports the first of these that applies:
+///
+/// - `BadBundle` (106), at the first line that is not written as a bundle's, is missing, or stands behind the last;
+/// - `OtherLength` (107), at the directory's line, if the digits have another length than it says;
+/// - `OtherSum` (108), at the directory's line, if the bytes have another SHA-256 value than it says;
+/// - the same two, at the proof's line.
+///
+/// `Memory` (99) may come in place of what is behind 106, and of the answer. It never comes in place of 106.
 #[tactic(auto, unfolding(crate::specs::Grammar::bundle_of))]
 pub fn read(alloc: Global, text: &[u8]) -> Result<OpenBundle<'_>, BundleFault>
     ensures bundle { Gives Memory (λ b. b) result (bundle_of text.now) }

@@ -1,4 +1,4 @@
-//! Writing a bundle.
+//! How a bundle is written.
 
 ghost use Rattle.std.specs.Prelude.{◌≡◌, ◌<◌, ◌^◌, ◌++◌, IfOk, OnOk, Err, MatchBool, MatchResult, codes, length, string_bytes};
 ghost use Rattle.hex.specs.Hex.{encode_lower};
@@ -19,7 +19,7 @@ use std::alloc::{AllocError, Global};
 /// The byte that ends a line.
 const LINE_FEED: u8 = b'\n';
 
-/// Whether the text is of sentences, each with its end.
+/// Returns whether the text is of sentences, each with its end.
 fn are_sentences(text: &[u8]) -> bool
     ensures { MatchBool result (AreSentences text.now) (AreSentences text.now → ⊥) }
 {
@@ -27,7 +27,7 @@ fn are_sentences(text: &[u8]) -> bool
     rest.is_empty()
 }
 
-/// Whether the number of the bytes is spelled.
+/// Returns whether a bundle can have so many bytes of a directory or of a proof.
 fn is_part(bytes: &[u8]) -> bool
     ensures { MatchBool result (IsPart bytes.now) (IsPart bytes.now → ⊥) }
 {
@@ -35,7 +35,7 @@ fn is_part(bytes: &[u8]) -> bool
     bytes.len() as u64 <= GREATEST
 }
 
-/// Refuses a bundle of which a part is not spelled.
+/// Refuses a bundle of which a part is not as bundles have it.
 fn check(bundle: &Bundle) -> Result<(), WriteFault>
     ensures { MatchResult result (λ _. IsBundle bundle.now) (λ f. (f ≡ fault.BadBundle) × (IsBundle bundle.now → ⊥)) }
 {
@@ -57,21 +57,21 @@ fn check(bundle: &Bundle) -> Result<(), WriteFault>
     Ok(())
 }
 
-/// `exposes ID`, with its end.
+/// Returns `exposes ID`, with its line feed.
 fn exposed_line(alloc: Global, node: u64) -> Result<String, AllocError>
     ensures { IfOk result (λ line. string_bytes line ≡ exposed_text node) }
 {
     format!(in alloc; "exposes {node}\n")
 }
 
-/// A length, between blanks.
+/// Returns a length, between blanks.
 fn length_word(alloc: Global, count: usize) -> Result<String, AllocError>
     ensures { IfOk result (λ word. string_bytes word ≡ length_text count) }
 {
     format!(in alloc; " {count} ")
 }
 
-/// Writes `WORD LENGTH SUM`, with its end.
+/// Writes `WORD LENGTH SUM`, with its line feed.
 fn put_told(alloc: Global, text: &mut Vec<u8>, word: &[u8], bytes: &[u8]) -> Result<(), AllocError>
     ensures { OnOk result (text.new.items ≡ text.old.items ++ word.now ++ length_text (length bytes.now) ++ encode_lower (sha256 bytes.now) ++ codes "\n") }
 {
@@ -112,7 +112,7 @@ fn put_head(alloc: Global, text: &mut Vec<u8>, bundle: &Bundle) -> Result<(), Al
     Ok(())
 }
 
-/// Writes the lines that tell of the directory and of the proof.
+/// Writes the lines that say the length and the SHA-256 value of the directory and of the proof.
 fn put_both_told(alloc: Global, text: &mut Vec<u8>, bundle: &Bundle) -> Result<(), AllocError>
     ensures { OnOk result (text.new.items ≡ text.old.items ++ told_text (codes "directory") bundle.now.directory ++ told_text (codes "proof") bundle.now.proof) }
 {
@@ -121,7 +121,7 @@ fn put_both_told(alloc: Global, text: &mut Vec<u8>, bundle: &Bundle) -> Result<(
     Ok(())
 }
 
-/// Writes the lines of the directory and of the proof.
+/// Writes the lines with the digits of the directory and of the proof.
 fn put_both(text: &mut Vec<u8>, bundle: &Bundle) -> Result<(), AllocError>
     requires { IsBundle bundle.now }
     ensures { OnOk result (text.new.items ≡ text.old.items ++ ended (encode_lower bundle.now.directory) ++ ended (encode_lower bundle.now.proof)) }
@@ -131,7 +131,7 @@ fn put_both(text: &mut Vec<u8>, bundle: &Bundle) -> Result<(), AllocError>
     Ok(())
 }
 
-/// The text of a bundle whose parts are spelled.
+/// Returns the text of a bundle whose parts are as bundles have them.
 fn text_of(alloc: Global, bundle: &Bundle) -> Result<Vec<u8>, AllocError>
     requires { IsBundle bundle.now }
     ensures { IfOk result (λ text. text.items ≡ text_of bundle.now) }
@@ -143,9 +143,9 @@ fn text_of(alloc: Global, bundle: &Bundle) -> Result<Vec<u8>, AllocError>
     Ok(text)
 }
 
-/// The text of a bundle. Each sum is computed once.
+/// Returns the text of a bundle. Each SHA-256 value is computed once.
 ///
-/// `BadBundle` (106) where a part of it is not spelled as bundles have it, and then no memory is asked for; `Memory` (99) where memory
+/// The call reports `BadBundle` (106) if a part is not as [`Bundle`] says, and then asks for no memory. It reports `Memory` (99) if memory
 /// ran out.
 pub fn write(alloc: Global, bundle: &Bundle) -> Result<Vec<u8>, WriteFault>
     ensures text { IfOk result (λ text. IsBundle bundle.now × (text.items ≡ text_of bundle.now)) }

@@ -14,36 +14,40 @@ use Rattle.bundling.specs.Convicting.{RefusesTexts, TextsConvict}
 abbrev pub heading : ℕ → List ℕ → List ℕ
 heading node name = codes "# Node " ++ decimal node ++ codes " is exposed, where it was to follow the program " ++ name ++ codes ".\n"
 
+-- The sentence that says that the node signed two hashes.
 abbrev pub two_hashes : ℕ → List ℕ
 two_hashes seq = codes "# It signed two hashes for entry " ++ decimal seq ++ codes " of its log.\n"
 
+-- The sentence that says that the node signed a hash and a part of its log that contradict each other.
 abbrev pub contradiction : ℕ → List ℕ
 contradiction seq = codes "# The hash that it signed for entry " ++ decimal seq ++ codes " of its log contradicts a part of the log that it signed too.\n"
 
+-- The sentence that says that the node signed a part of its log that no log of a node that follows the program has.
 unfoldable pub no_log : List ℕ
 no_log = codes "# It signed a part of its log that is of no log of a node which follows this program.\n"
 
--- Why, by the form of the proof.
+-- Why the node is exposed, by the form of the proof.
 abbrev pub reason : Parts → List ℕ
 reason (parts.TwoAuths a b) = two_hashes a.seq
 reason (parts.AuthSegment a s) = contradiction a.seq
 reason (parts.Nonconforming s) = no_log
 
--- How it is checked.
+-- How the proof is checked.
 unfoldable pub advice : List ℕ
 advice = codes "# Believe no sentence of this file. Compare the directory's sum and the program's name, which stand below, with what you got by\n# another way than this file, and check the proof by one of these:\n#   bulwynef check FILE\n#   python3 check.py --why FILE\n"
 
+-- The sentences that a bundle gets, without those of the caller.
 abbrev pub sentences_of : ℕ → List ℕ → Parts → List ℕ
 sentences_of node name x = heading node name ++ reason x ++ advice
 
 -- ---- the bundle
 
--- Behind these sentences stand those of the caller.
+-- The bundle that is handed over. The caller's sentences stand behind its own.
 abbrev pub handed : ℕ → Parts → List ℕ → List ℕ → List ℕ → List ℕ → Contents
 handed node x name directory proof more =
     record { sentences = sentences_of node name x ++ more; program = name; node = node; directory = directory; proof = proof }
 
--- The text is that of the bundle.
+-- The text is that of the bundle of a directory and a proof. The proof convicts a node.
 pub record IsMade {S : Type 0} (program : Meaning S) (name directory proof more text : List ℕ) : Type 0 where
   pub node : ℕ
   pub parts : Parts
@@ -51,7 +55,7 @@ pub record IsMade {S : Type 0} (program : Meaning S) (name directory proof more 
   pub spelled : IsBundle (handed node parts name directory proof more)
   pub is : text ≡ text_of (handed node parts name directory proof more)
 
--- Why none is made: the texts convict nobody, or a part is not spelled as bundles have it.
+-- Why no bundle is made: the texts convict nobody, or a part is not as bundles have it.
 abbrev pub RefusesMaking : {S : Type 0} → Meaning S → List ℕ → List ℕ → List ℕ → List ℕ → MakeFault → Type 0
 RefusesMaking program name directory proof more (making.Text f) = RefusesTexts program directory proof f
 RefusesMaking program name directory proof more making.BadBundle =

@@ -14,28 +14,32 @@ use Rattle.bundling.specs.Handing.{IsMade}
 abbrev pub found : ℕ → List ℕ → List ℕ → List ℕ
 found node name directory = codes "exposes " ++ decimal node ++ codes "\nprogram " ++ name ++ codes "\ndirectory " ++ encode_lower (sha256 directory) ++ codes "\n"
 
--- ---- where the bundle says otherwise
+-- ---- what the bundle says otherwise
 
+-- The line about the node, if the bundle names another one.
 abbrev pub other_node : ℕ → ℕ → List ℕ
 other_node node said = if node == said then [] else codes "disagrees: the bundle says that it exposes " ++ decimal said ++ codes "\n"
 
+-- The line about the program, if the bundle names another one.
 abbrev pub other_program : List ℕ → List ℕ → List ℕ
 other_program name said = if bytes_eq name said then [] else codes "disagrees: the bundle names the program " ++ said ++ codes "\n"
 
+-- The line about the directory, if the bundle has another one.
 abbrev pub other_directory : List ℕ → List ℕ → List ℕ
 other_directory directory own = if bytes_eq directory own then [] else codes "disagrees: the bundle has the directory " ++ encode_lower (sha256 own) ++ codes "\n"
 
 -- ---- the judgement
 
+-- All lines that are said of a bundle.
 abbrev pub judgement : ℕ → List ℕ → List ℕ → Contents → List ℕ
 judgement node name directory b = found node name directory ++ other_node node b.node ++ other_program name b.program ++ other_directory directory b.directory
 
--- The bundle names this node and this program, and has this directory: no line disagrees.
+-- Whether the bundle names this node and this program, and has this directory. If so, no line disagrees.
 abbrev pub is_agreed : ℕ → List ℕ → List ℕ → Contents → Bool
 is_agreed node name directory b = (node == b.node) && bytes_eq name b.program && bytes_eq directory b.directory
 
--- The text says of a bundle whom its proof convicts under the program, which has this name, and the directory; and beside it stands whether
--- the bundle says the same.
+-- The text says whom a bundle's proof convicts under the directory and the program, which has this name. `agrees` is whether the bundle
+-- says the same.
 pub record IsJudged {S : Type 0} (program : Meaning S) (name directory : List ℕ) (b : Contents) (text : List ℕ) (agrees : Bool) : Type 0 where
   pub node : ℕ
   pub parts : Parts
@@ -45,7 +49,7 @@ pub record IsJudged {S : Type 0} (program : Meaning S) (name directory : List �
 
 -- ---- laws, which `laws` proves
 
--- What is made is read as a bundle that has these texts, and judged to expose the node that it names; nothing disagrees.
+-- A bundle that is made is read as one that has these texts. It is judged to expose the node that it names, and nothing disagrees.
 abbrev pub MadeBundlesAreConfirmed : Type 0 → Type 0
 MadeBundlesAreConfirmed S =
     (program : Meaning S) (name directory proof more text : List ℕ) (made : IsMade program name directory proof more text)

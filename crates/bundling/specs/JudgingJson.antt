@@ -12,12 +12,12 @@ use Rattle.bundling.specs.Judging.{is_agreed}
 abbrev pub members : ℕ → List ℕ → List ℕ → List ℕ
 members node name directory = codes "\"exposes\":" ++ decimal node ++ codes ",\"program\":\"" ++ name ++ codes "\",\"directory\":\"" ++ encode_lower (sha256 directory) ++ codes "\""
 
--- What is found, and in `bundle` what the bundle says.
+-- What is found. The member `bundle` has what the bundle says.
 abbrev pub document : ℕ → List ℕ → List ℕ → Contents → List ℕ
 document node name directory b = codes "{" ++ members node name directory ++ codes ",\"bundle\":{" ++ members b.node b.program b.directory ++ codes "}}\n"
 
--- The text says of a bundle whom its proof convicts under the program, which has this name, and the directory; and beside it stands whether
--- the bundle says the same.
+-- The text says whom a bundle's proof convicts under the directory and the program, which has this name. `agrees` is whether the bundle
+-- says the same.
 pub record IsJudgedInJson {S : Type 0} (program : Meaning S) (name directory : List ℕ) (b : Contents) (text : List ℕ) (agrees : Bool) : Type 0 where
   pub node : ℕ
   pub parts : Parts

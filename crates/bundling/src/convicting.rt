@@ -9,14 +9,14 @@ use proofs::{Proof, check_proof};
 use replay_verifier::Program;
 use std::alloc::Global;
 
-/// A proof, and whom it convicts.
+/// A proof, and the node that it convicts.
 #[derive(Drop)]
 pub(crate) struct Conviction {
     pub(crate) node: NodeId,
     pub(crate) proof: Proof,
 }
 
-/// Whom the proof that a text is convicts under the directory that another one is.
+/// Returns whom the proof in the second text convicts under the directory in the first text.
 pub(crate) fn convicted<P: Program>(
     alloc: Global,
     program: &P,

@@ -1,4 +1,4 @@
-//! Why no bundle is made, and why texts convict nobody.
+//! The reasons why no bundle is made, and why texts convict nobody.
 
 ghost use Rattle.std.specs.Prelude.{◌≡◌};
 ghost use Rattle.bundling.specs.declared.fault.TextFault.TheVariants as text;
@@ -9,7 +9,8 @@ use proofs::{DecodeFault, ProofFault};
 use std::alloc::AllocError;
 use thiserror::Error;
 
-/// Why the texts of a directory and of a proof convict nobody. Each fault has the number and the name that its crate gives it.
+/// The reason why the texts of a directory and of a proof convict nobody. Each fault has the number and the name that its own crate gives
+/// it.
 #[derive(Clone, Copy, Debug, PartialEq, Eq, Error)]
 pub enum TextFault {
     /// The first text is no directory.
@@ -58,14 +59,14 @@ impl From<AllocError> for TextFault {
     }
 }
 
-/// Why no bundle is made.
+/// The reason why no bundle is made.
 #[derive(Clone, Copy, Debug, PartialEq, Eq, Error)]
 pub enum MakeFault {
     /// The texts convict nobody, or memory ran out.
     #[error("{0}")]
     Text(TextFault),
-    /// 106: a part of the bundle is not spelled as bundles have it.
-    #[error("a part of the bundle is not spelled as bundles have it")]
+    /// 106: a part of the bundle is not as [`Bundle`](bundles::Bundle) says.
+    #[error("a part of the bundle is not as bundles have it")]
     BadBundle,
 }
 

@@ -1,4 +1,4 @@
-//! Judging a bundle.
+//! How a bundle is judged.
 
 ghost use Rattle.std.specs.Prelude.{◌≡◌, IfOk, MatchResult};
 ghost use Rattle.hex.specs.Hex.{encode_lower};
@@ -20,11 +20,11 @@ use std::alloc::{AllocError, Global};
 pub struct Judgement {
     /// The text.
     pub text: Vec<u8>,
-    /// Whether the bundle names the node and the program that were found, and has the directory that was given.
+    /// Whether the bundle names the node that was found and the program that was given, and has the directory that was given.
     pub agrees: bool,
 }
 
-/// Whether the bundle names this node and this program, and has this directory.
+/// Returns whether the bundle names this node and this program, and has this directory.
 pub(crate) fn is_agreed(node: NodeId, name: &[u8], directory: &[u8], bundle: &OpenBundle) -> bool
     ensures { result ≡ is_agreed node name.now directory.now bundle.now }
 {
@@ -32,7 +32,7 @@ pub(crate) fn is_agreed(node: NodeId, name: &[u8], directory: &[u8], bundle: &Op
     u64::from(node.0) == bundle.node && name == bundle.program && directory == own
 }
 
-/// The SHA-256 value of the bytes, in digits.
+/// Returns the SHA-256 value of the bytes, in hexadecimal digits.
 pub(crate) fn sum_of(bytes: &[u8]) -> [u8; 64]
     ensures { result ≡ encode_lower (sha256 bytes.now) }
 {
@@ -43,7 +43,7 @@ pub(crate) fn sum_of(bytes: &[u8]) -> [u8; 64]
     sum
 }
 
-/// Whom the proof convicts, under which program and which directory.
+/// Returns the lines that say whom the proof convicts, under which program and which directory.
 fn found_of(
     alloc: Global,
     node: NodeId,
@@ -65,7 +65,7 @@ fn found_of(
     Ok(lines)
 }
 
-/// The line about the node, where the bundle names another.
+/// Returns the line about the node if the bundle names another one, and otherwise nothing.
 fn other_node_of(alloc: Global, node: NodeId, said: u64) -> Result<Vec<u8>, AllocError>
     ensures { IfOk result (λ line. line.items ≡ other_node node said) }
 {
@@ -80,7 +80,7 @@ fn other_node_of(alloc: Global, node: NodeId, said: u64) -> Result<Vec<u8>, Allo
     Ok(line)
 }
 
-/// The line about the program, where the bundle names another.
+/// Returns the line about the program if the bundle names another one, and otherwise nothing.
 fn other_program_of(alloc: Global, name: &[u8], said: &[u8]) -> Result<Vec<u8>, AllocError>
     ensures { IfOk result (λ line. line.items ≡ other_program name.now said.now) }
 {
@@ -94,7 +94,7 @@ fn other_program_of(alloc: Global, name: &[u8], said: &[u8]) -> Result<Vec<u8>, 
     Ok(line)
 }
 
-/// The line about the directory, where the bundle has another.
+/// Returns the line about the directory if the bundle has another one, and otherwise nothing.
 fn other_directory_of(alloc: Global, directory: &[u8], own: &[u8]) -> Result<Vec<u8>, AllocError>
     ensures { IfOk result (λ line. line.items ≡ other_directory directory.now own.now) }
 {
@@ -109,7 +109,7 @@ fn other_directory_of(alloc: Global, directory: &[u8], own: &[u8]) -> Result<Vec
     Ok(line)
 }
 
-/// All lines.
+/// Returns all lines.
 fn judgement_of(
     alloc: Global,
     node: NodeId,
@@ -131,11 +131,11 @@ fn judgement_of(
     Ok(text)
 }
 
-/// Whom the bundle's proof convicts under the program, which has this name, and the directory: `exposes ID`, `program NAME` and
-/// `directory SUM`, each with a line feed; and a line `disagrees: ..` where the bundle names another node or program, or has another
-/// directory. It agrees where there is no such line.
+/// Returns whom the bundle's proof convicts under the directory and the program, which has this name. The text has the lines `exposes ID`,
+/// `program NAME` and `directory SUM`, each with a line feed. Behind them stands a line `disagrees: ..` for each of these that holds: the
+/// bundle names another node, it names another program, it has another directory. The bundle agrees if there is no such line.
 ///
-/// It is refused where the texts convict nobody, the directory's fault before the proof's. Memory may run out in place of these.
+/// The call is refused if the texts convict nobody. The directory's fault comes before the proof's. Memory may run out in place of these.
 pub fn judge<P: Program>(
     alloc: Global,
     program: &P,

@@ -1,4 +1,4 @@
-//! Judging a bundle, for programs.
+//! How a bundle is judged, for programs.
 
 ghost use Rattle.std.specs.Prelude.{◌≡◌, IfOk, MatchResult};
 ghost use Rattle.bundling.specs.Convicting.{RefusesTexts};
@@ -13,7 +13,7 @@ use bundles::OpenBundle;
 use replay_verifier::Program;
 use std::alloc::{AllocError, Global};
 
-/// Whom a proof convicts, under which program and which directory.
+/// Returns the members of JSON that say whom a proof convicts, under which program and which directory.
 fn members_of(
     alloc: Global,
     node: u64,
@@ -35,7 +35,7 @@ fn members_of(
     Ok(text)
 }
 
-/// What is found, and what the bundle says.
+/// Returns the document that says what is found, and what the bundle says.
 fn document_of(
     alloc: Global,
     node: NodeId,
@@ -56,10 +56,10 @@ fn document_of(
     Ok(text)
 }
 
-/// Whom the bundle's proof convicts under the program, which has this name, and the directory, and what the bundle says of that, as a
-/// document of JSON (RFC 8259) in one line. Names are of `a` to `z`, `0` to `9` and `_`.
+/// Returns whom the bundle's proof convicts under the directory and the program, which has this name, and what the bundle says of that. The
+/// text is one document of JSON (RFC 8259), in one line. Names are of `a` to `z`, `0` to `9` and `_`.
 ///
-/// It is refused where the texts convict nobody, the directory's fault before the proof's. Memory may run out in place of these.
+/// The call is refused if the texts convict nobody. The directory's fault comes before the proof's. Memory may run out in place of these.
 pub fn judge_in_json<P: Program>(
     alloc: Global,
     program: &P,

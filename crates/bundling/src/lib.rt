@@ -1,11 +1,10 @@
-//! Proofs that are handed over: bundles that are made of them, and whom the proof of a bundle convicts (PeerReview, SOSP 2007: evidence of
-//! faults).
+//! Proofs that are handed over in bundles: how a bundle is made, and whom its proof convicts (PeerReview, SOSP 2007: evidence of faults).
 //!
-//! - [`make`] gives the text of a bundle of a directory and a proof, where the proof convicts a node.
-//! - [`judge`] says whom the proof of a bundle convicts under a program and a directory, and where the bundle says otherwise;
+//! - [`make`] returns the text of a bundle of a directory and a proof, if the proof convicts a node.
+//! - [`judge`] says whom the proof of a bundle convicts under a program and a directory, and in what the bundle disagrees.
 //!   [`judge_in_json`] says it to programs.
 //!
-//! No sentence of a bundle is believed, nor the node that it names. [`laws`] has that a bundle which was made says what is found.
+//! These calls believe no sentence of a bundle, and not the node that it names. By [`laws`], a bundle that was made says what is found.
 #![tactic(auto)]
 
 pub use fault::{MakeFault, TextFault};

@@ -1,4 +1,4 @@
-//! Making a bundle.
+//! How a bundle is made.
 
 ghost use Rattle.std.specs.Prelude.{MatchResult};
 ghost use Rattle.bundling.specs.Handing.{IsMade, RefusesMaking};
@@ -10,11 +10,11 @@ use bundles::{Bundle, WriteFault, write};
 use replay_verifier::Program;
 use std::alloc::Global;
 
-/// The text of the bundle of a directory and a proof, of nodes that were to follow the program of this name. Its sentences say who is
-/// exposed, why, and how that is checked; behind them stand those of the caller.
+/// Returns the text of the bundle of a directory and a proof, for nodes that were to follow the program of this name. Its sentences say who
+/// is exposed, why, and how that is checked. The caller's sentences stand behind them.
 ///
-/// It is refused where the texts convict nobody, the directory's fault before the proof's; with `BadBundle` (106) where the name, the
-/// caller's sentences or a length is not spelled as bundles have it. Memory may run out in place of any of these.
+/// The call is refused if the texts convict nobody. The directory's fault comes before the proof's. Then comes `BadBundle` (106), if the
+/// name, the caller's sentences or a length is not as a bundle allows. Memory may run out in place of any of these.
 pub fn make<P: Program>(
     alloc: Global,
     program: &P,

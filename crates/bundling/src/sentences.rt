@@ -7,14 +7,14 @@ use authenticators::NodeId;
 use proofs::Parts;
 use std::alloc::{AllocError, Global};
 
-/// A number in decimal digits.
+/// Returns a number in decimal digits.
 pub(crate) fn decimal_of(alloc: Global, number: u64) -> Result<String, AllocError>
     ensures { IfOk result (λ word. string_bytes word ≡ decimal number) }
 {
     format!(in alloc; "{number}")
 }
 
-/// Who is exposed, under which program.
+/// Returns the sentence that says who is exposed, under which program.
 fn heading_of(alloc: Global, node: NodeId, name: &[u8]) -> Result<Vec<u8>, AllocError>
     ensures { IfOk result (λ line. line.items ≡ heading node name.now) }
 {
@@ -28,7 +28,7 @@ fn heading_of(alloc: Global, node: NodeId, name: &[u8]) -> Result<Vec<u8>, Alloc
     Ok(line)
 }
 
-/// The node signed two hashes.
+/// Returns the sentence that says that the node signed two hashes.
 fn two_hashes_of(alloc: Global, seq: u64) -> Result<Vec<u8>, AllocError>
     ensures { IfOk result (λ line. line.items ≡ two_hashes seq) }
 {
@@ -40,7 +40,7 @@ fn two_hashes_of(alloc: Global, seq: u64) -> Result<Vec<u8>, AllocError>
     Ok(line)
 }
 
-/// The node signed a hash and a part of its log that do not go together.
+/// Returns the sentence that says that the node signed a hash and a part of its log that contradict each other.
 fn contradiction_of(alloc: Global, seq: u64) -> Result<Vec<u8>, AllocError>
     ensures { IfOk result (λ line. line.items ≡ contradiction seq) }
 {
@@ -52,7 +52,7 @@ fn contradiction_of(alloc: Global, seq: u64) -> Result<Vec<u8>, AllocError>
     Ok(line)
 }
 
-/// The node signed what is of no log that it may have.
+/// Returns the sentence that says that the node signed a part of its log that no log of a node that follows the program has.
 #[tactic(auto, unfolding(crate::specs::Handing::no_log))]
 fn no_log_of(alloc: Global) -> Result<Vec<u8>, AllocError>
     ensures { IfOk result (λ line. line.items ≡ no_log) }
@@ -64,7 +64,7 @@ fn no_log_of(alloc: Global) -> Result<Vec<u8>, AllocError>
     Ok(line)
 }
 
-/// Why the node is exposed.
+/// Returns why the node is exposed.
 fn reason_of(alloc: Global, parts: &Parts) -> Result<Vec<u8>, AllocError>
     ensures { IfOk result (λ line. line.items ≡ reason parts.now) }
 {
@@ -75,7 +75,7 @@ fn reason_of(alloc: Global, parts: &Parts) -> Result<Vec<u8>, AllocError>
     }
 }
 
-/// How the proof is checked.
+/// Returns how the proof is checked.
 #[tactic(auto, unfolding(crate::specs::Handing::advice))]
 fn advice_of(alloc: Global) -> Result<Vec<u8>, AllocError>
     ensures { IfOk result (λ lines. lines.items ≡ advice) }
@@ -87,7 +87,7 @@ fn advice_of(alloc: Global) -> Result<Vec<u8>, AllocError>
     Ok(lines)
 }
 
-/// All sentences, those of the caller last.
+/// Returns all sentences. Those of the caller stand last.
 pub(crate) fn sentences(
     alloc: Global,
     node: NodeId,

@@ -5,7 +5,7 @@ use Rattle.commands.specs.declared.task.Task.{Task}
 use Rattle.commands.specs.declared.task.Task.TheVariants.{Check, Merge, Prove, Run, Status}
 use Rattle.command_words.specs.CommandLine.{AsksFor, flag_in, word_faults}
 
--- A command that wants no other word; `run` has one worker then.
+-- A command that needs no other word. `run` has one worker then.
 abbrev pub IsPlainName : Text → Task → Type 0
 IsPlainName name Status = name ≡ codes "status"
 IsPlainName name Merge = name ≡ codes "merge"
@@ -18,12 +18,12 @@ abbrev pub IsPlainLine : List Text → Task → Bool → Type 0
 IsPlainLine words task flagged =
     (first : Text) × (name : Text) × IsPlainName name task × (((words ≡ first ∷ name ∷ []) × (flagged ≡ false)) ⊎ ((words ≡ first ∷ name ∷ codes "--relay" ∷ []) × (flagged ≡ true)))
 
--- What clap finds of a flag that is there, or not.
+-- What clap finds of a flag that is there, or that is not.
 abbrev pub flag_text : Bool → Text
 flag_text true = codes "true"
 flag_text false = codes "false"
 
--- The words of a program of this name, with this flag or none, have no fault and ask for the task, with the flag or without.
+-- The words of a program of this name, with this flag or none, have no fault. They ask for the task, with the flag or without it.
 pub record IsTaken (program : Text) (flag : Option Text) (words : List Text) (task : Task) (flagged : Bool) : Type 0 where
   pub faults : word_faults program flag words ≡ []
   pub asks : AsksFor program flag words task
@@ -35,6 +35,6 @@ pub record IsTaken (program : Text) (flag : Option Text) (words : List Text) (ta
 abbrev pub PlainLinesAreTaken : Type 0
 PlainLinesAreTaken = (program : Text) (words : List Text) (task : Task) → IsPlainLine words task false → IsTaken program None words task false
 
--- A program with the flag takes each plain line.
+-- A program with the flag `--relay` takes each plain line, whatever the program's name.
 abbrev pub FlaggedLinesAreTaken : Type 0
 FlaggedLinesAreTaken = (program : Text) (words : List Text) (task : Task) (flagged : Bool) → IsPlainLine words task flagged → IsTaken program (Some (codes "relay")) words task flagged

@@ -1,4 +1,4 @@
-//! The words of the command line, read by `clap`.
+//! The words of the command line. `clap` reads them.
 
 ghost use Rattle.std.specs.Prelude.{◌≡◌, ◌≢◌, codes, false, true, IfOk, IfSome, None, Some, map};
 ghost use Rattle.std.specs.String.{string_bytes};
@@ -17,7 +17,7 @@ use parallel_checking::MOST_WORKERS;
 use std::alloc::{AllocError, Global};
 use std::io;
 
-/// A flag of a program's own, which each of its commands has: by it the nodes run another program.
+/// A flag of a program's own, which each of its commands takes. With it, the nodes run another program.
 #[derive(Clone, Copy, Debug)]
 pub struct Flag<'a> {
     /// Its name, without the dashes.
@@ -41,11 +41,11 @@ pub enum Asked {
     Run(Request),
     /// Memory ran out while the words were read.
     Refused(Fault),
-    /// A fault of the words, or a request for help: clap's text is on standard error.
+    /// The words have a fault, or they ask for help. Clap's text, or the error of reading the words, went to standard error.
     Other,
 }
 
-/// Reads the words of the command line, of a program of this name, which has this flag or none.
+/// Reads the words of the command line of the program with this name, which has this flag or none.
 pub fn read_words(rt: &HostRuntime, program: &str, flag: Option<Flag>) -> Asked
     requires simple { is_simple_and_free (program_of program.now (flag_name flag)) ≡ true }
     ensures { (f : Fault) → result ≡ Refused f → f ≡ Memory }
@@ -77,7 +77,7 @@ fn words_of(rt: &HostRuntime) -> io::Result<Vec<String>> {
     Ok(words)
 }
 
-/// The flag, as an argument.
+/// Returns the flag, as an argument.
 fn flag_arg<'a>(alloc: Global, flag: Flag<'a>) -> Arg<'a>
     ensures rule { rule_of result ≡ flag_rule flag.entry.name.now }
     ensures local { result.global ≡ false }
@@ -88,7 +88,7 @@ fn flag_arg<'a>(alloc: Global, flag: Flag<'a>) -> Arg<'a>
         .help(flag.help)
 }
 
-/// The command with the flag, where there is one.
+/// Returns the command with the flag, if there is one.
 fn with_flag<'a>(
     alloc: Global,
     command: Command<'a>,
@@ -102,7 +102,7 @@ fn with_flag<'a>(
     }
 }
 
-/// The number of a node.
+/// Returns the argument with the number of a node.
 fn node<'a>(alloc: Global) -> Arg<'a>
     ensures rule { rule_of result ≡ node }
     ensures local { result.global ≡ false }
@@ -113,10 +113,10 @@ fn node<'a>(alloc: Global) -> Arg<'a>
         .help("The number of the node, in decimal digits")
 }
 
-/// The text of the option's help names it.
+/// The help of the option names this number.
 const _: () = prove!(MOST_WORKERS == 8);
 
-/// How many workers check.
+/// Returns the option that says how many workers check.
 fn workers<'a>(alloc: Global) -> Arg<'a>
     ensures rule { rule_of result ≡ workers }
     ensures local { result.global ≡ false }
@@ -129,7 +129,7 @@ fn workers<'a>(alloc: Global) -> Arg<'a>
         .help("How many workers check the items: 1 to 8")
 }
 
-/// The program's command, without those beneath it.
+/// Returns the program's command, without those beneath it.
 fn alone<'a>(alloc: Global, program: &'a str) -> Command<'a>
     ensures { app_of result ≡ alone program.entry.now }
 {
@@ -141,7 +141,7 @@ fn alone<'a>(alloc: Global, program: &'a str) -> Command<'a>
         .arg_required_else_help(true)
 }
 
-/// A command with the flag alone.
+/// Returns a command with the flag alone.
 fn plain<'a>(
     alloc: Global,
     flag: Option<Flag<'a>>,
@@ -153,7 +153,7 @@ fn plain<'a>(
     with_flag(alloc, Command::new(alloc, name).about(about), flag)
 }
 
-/// The command `prove`.
+/// Returns the command `prove`.
 fn prove<'a>(alloc: Global, flag: Option<Flag<'a>>) -> Result<Command<'a>, AllocError>
     ensures { IfOk result (λ c. app_of c ≡ prove (flag_name flag.entry)) }
 {
@@ -163,7 +163,7 @@ fn prove<'a>(alloc: Global, flag: Option<Flag<'a>>) -> Result<Command<'a>, Alloc
     with_flag(alloc, command, flag)
 }
 
-/// The command `run`.
+/// Returns the command `run`.
 fn run<'a>(alloc: Global, flag: Option<Flag<'a>>) -> Result<Command<'a>, AllocError>
     ensures { IfOk result (λ c. app_of c ≡ run (flag_name flag.entry)) }
 {
@@ -175,7 +175,7 @@ fn run<'a>(alloc: Global, flag: Option<Flag<'a>>) -> Result<Command<'a>, AllocEr
     with_flag(alloc, command, flag)
 }
 
-/// The program's command.
+/// Returns the program's command.
 fn command<'a>(
     alloc: Global,
     program: &'a str,
@@ -209,7 +209,7 @@ fn command<'a>(
         .subcommand(run(alloc, flag)?)
 }
 
-/// The command of the name; none where it is unknown or its number is missing, which clap has refused.
+/// Returns the task of a command's name. Returns `None` if the name is unknown or its number is missing. Clap has refused both before.
 fn task_of(name: &str, options: &ArgMatches<'_>) -> Option<Task>
     ensures named { IfSome result (Names name.now (rows_of (found_of options.now))) }
     ensures only { (t : Task) → Names name.now (rows_of (found_of options.now)) t → result ≡ Some t }
@@ -230,7 +230,7 @@ fn task_of(name: &str, options: &ArgMatches<'_>) -> Option<Task>
     }
 }
 
-/// Whether the flag is among the command's words.
+/// Returns whether the flag is among the command's words.
 fn is_flagged(options: &ArgMatches<'_>, flag: Option<Flag>) -> bool
     ensures on { flag_of (flag_name flag.entry) (rows_of (found_of options.now)) ≡ Some (codes "true") → result ≡ true }
     ensures off { flag_of (flag_name flag.entry) (rows_of (found_of options.now)) ≡ Some (codes "false") → result ≡ false }
@@ -241,7 +241,7 @@ fn is_flagged(options: &ArgMatches<'_>, flag: Option<Flag>) -> bool
     }
 }
 
-/// What the words ask for, where clap takes them; none where they name no command, which clap has refused.
+/// Returns what the words ask for, if clap takes them. Returns `None` if they name no command, which clap has refused before.
 fn parsed(
     alloc: Global,
     program: &str,
@@ -250,7 +250,7 @@ fn parsed(
 ) -> Result<Option<Request>, Error>
     requires simple { is_simple_and_free (program_of program.now (flag_name flag)) ≡ true }
     ensures faults { FailsBy (word_faults program.now (flag_name flag.entry) (map string_bytes words.now)) result }
-    // The task is the one that clap finds, and the flag is taken where clap finds it.
+    // The task is the one that clap finds, and the flag is taken if clap finds it.
     ensures task { IfOk result (λ r. IfSome r (λ q. AsksFor program.now (flag_name flag.entry) (map string_bytes words.now) q.task)) }
     ensures flagged { IfOk result (λ r. IfSome r (λ q. flag_in program.now (flag_name flag.entry) (map string_bytes words.now) ≡ Some (codes "true") → q.flagged ≡ true)) }
     ensures plain { IfOk result (λ r. IfSome r (λ q. flag_in program.now (flag_name flag.entry) (map string_bytes words.now) ≡ Some (codes "false") → q.flagged ≡ false)) }

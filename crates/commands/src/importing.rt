@@ -1,4 +1,4 @@
-//! Reading the text of a set in pieces, from the digits that spell it.
+//! Reads the encoding of a set in pieces, from the digits that spell it.
 
 ghost use Rattle.std.specs.Prelude.{◌≡◌, ◌≤◌, ◌++◌, ◌*◌, [], IfErr, IfOk, IsOk, List, Ok, OnErr, OnOk, drop, length, take, ℕ};
 ghost use Rattle.hex.specs.Hex.{decode_of};
@@ -61,7 +61,7 @@ fn feed_digits<P: Program>(
     Ok(())
 }
 
-/// Feeds the bytes that so many digits at the front spell, to an importer that was fed nothing, and takes the digits off.
+/// Feeds an importer the bytes that the first `count` digits spell, and takes these digits off. The importer was fed nothing before.
 fn feed_line<P: Program>(
     importer: &mut Importer<P>,
     program: &P,
@@ -86,7 +86,7 @@ fn feed_line<P: Program>(
     Ok(())
 }
 
-/// An importer under a copy of the directory.
+/// Returns an importer under a copy of the directory.
 fn new_importer<P: Program>(alloc: Global, directory: &Directory) -> Result<Importer<P>, Memory>
     ensures { IfOk result (λ i. i ≡ record { directory = directory.now; fed = Ok [] }) }
 {
@@ -97,8 +97,8 @@ fn new_importer<P: Program>(alloc: Global, directory: &Directory) -> Result<Impo
     }
 }
 
-/// Reads the text of a set, which so many digits at the front of the lines spell, in pieces, and adds its items to the store: all, or none.
-/// The digits are taken off.
+/// Reads the encoding of a set, which the first `count` digits of the lines spell, in pieces. It adds all items to the store, or none, and
+/// takes the digits off.
 pub(crate) fn import<P: Program, S: Evidence<P>>(
     alloc: Global,
     program: &P,

@@ -1,4 +1,4 @@
-//! The entries in the picture.
+//! The boxes of entries in the picture.
 
 use crate::choosing::Drawn;
 use crate::describing::{entry_name, kind_of, sentence_name, write_line};
@@ -13,7 +13,7 @@ use page_text::{Attribute, Page, Sign as Signs, Tag};
 use sentences::Voice;
 use std::alloc::AllocError;
 
-/// The class of an entry's kind.
+/// Returns the class of an entry's kind, or `bare` if the kind is not known.
 pub fn kind_class(rows: &Rows, one: &Drawn) -> &'static str {
     match one.detail(rows) {
         None => "bare",
@@ -28,7 +28,8 @@ pub fn kind_class(rows: &Rows, one: &Drawn) -> &'static str {
     }
 }
 
-/// The class that says from what an entry is known.
+/// Returns the class that says from what an entry is known: `logged` if it stands in a segment, `absent` if it is not known, and else
+/// `signed`.
 pub fn source_class(rows: &Rows, one: &Drawn) -> &'static str {
     match one.cell(rows) {
         None => "absent",
@@ -37,7 +38,7 @@ pub fn source_class(rows: &Rows, one: &Drawn) -> &'static str {
     }
 }
 
-/// The word on an entry.
+/// Returns the word on an entry.
 fn word(rows: &Rows, one: &Drawn) -> &'static str {
     if one.detail(rows).is_some() {
         kind_of(rows, one)
@@ -48,7 +49,7 @@ fn word(rows: &Rows, one: &Drawn) -> &'static str {
     }
 }
 
-/// How round an entry's corners are: a segment's are sharp.
+/// Returns how round an entry's corners are. Those of a segment's entry are sharp.
 fn rounding(rows: &Rows, one: &Drawn) -> u64 {
     match one.cell(rows) {
         Some(cell) if cell.is_logged => 3,
@@ -152,7 +153,7 @@ fn draw_entry<V: Voice>(
     page.write(&[Close(Tag::G)])
 }
 
-/// Begins a link to a sentence, which is no stop of the tab key: the table has the same link.
+/// Begins a link to a sentence. The tab key does not stop at it, since the table has the same link.
 fn begin_link(page: &mut Page, sentence: SentenceId) -> Result<(), AllocError> {
     page.write(&[Open(Tag::A)])?;
     attribute(page, Attribute::Tabindex, "-1")?;
@@ -161,7 +162,8 @@ fn begin_link(page: &mut Page, sentence: SentenceId) -> Result<(), AllocError> {
     page.write(&[End, Inside])
 }
 
-/// Writes an entry, in a link to the sentence that marks it where one does.
+/// Writes an entry. If a sentence marks it, the entry stands in a link to that sentence. If entries before it are left out, the sign of a
+/// gap comes first.
 pub fn draw_linked<V: Voice>(
     page: &mut Page,
     view: &View<'_, V>,

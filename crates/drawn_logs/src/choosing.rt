@@ -1,4 +1,4 @@
-//! What of the rows is drawn.
+//! The choice of what is drawn of the rows.
 
 use crate::marks::{Marks, SentenceId};
 use crate::ranking::chosen_of;
@@ -8,16 +8,16 @@ use sentences::Explanation;
 use std::alloc::{AllocError, Global};
 use std::collections::BTreeMap;
 
-/// A row with more entries is cut.
+/// A row with more known entries is cut.
 const MOST_CELLS: usize = 40;
 
-/// So many entries a row has at most.
+/// The greatest number of entries of a row.
 const MOST_DRAWN: usize = 48;
 
-/// How many entries stand on each side of what is spoken of, and at either end, in a row that is cut.
+/// How many entries are drawn on each side of what is spoken of, and at either end, if a row is cut.
 const NEIGHBOURS: usize = 2;
 
-/// How many entries are drawn under one number.
+/// The greatest number of entries that are drawn under one number.
 const MOST_ALIKE: u64 = 8;
 
 /// An entry that is drawn.
@@ -25,9 +25,9 @@ const MOST_ALIKE: u64 = 8;
 pub struct Drawn {
     /// The row's place, from 0.
     pub row: usize,
-    /// The node whose log it is of.
+    /// The node whose log has the entry.
     pub node: NodeId,
-    /// Its number.
+    /// The entry's number.
     pub seq: u64,
     /// How many entries of this number are drawn before it.
     pub alike: u64,
@@ -35,27 +35,27 @@ pub struct Drawn {
     pub sentence: Option<SentenceId>,
     /// Whether entries before it are left out.
     pub is_behind_gap: bool,
-    /// Its place among the known entries of its node. Of an entry that has none a sentence speaks, and nothing is known.
+    /// Its place among the known entries of its node. If it has none, a sentence speaks of it and nothing of it is known.
     at: Option<usize>,
 }
 
 impl Drawn {
-    /// The entry, where it is known.
+    /// Returns the entry, if it is known.
     pub fn cell(&self, rows: &Rows) -> Option<Cell> {
         rows.cell(self.node, self.at?)
     }
 
-    /// What it says, where that is known.
+    /// Returns what the entry says, if that is known.
     pub fn detail(&self, rows: &Rows) -> Option<Detail> {
         rows.detail(&self.cell(rows)?)
     }
 
-    /// The entry that it quotes, where it does.
+    /// Returns the place of the entry that it quotes, if it quotes one genuinely.
     pub fn quoted_place(&self, rows: &Rows) -> Option<Place> {
         rows.quoted_place(&self.cell(rows)?)
     }
 
-    /// Whether it is known.
+    /// Returns whether it is known.
     fn is_known(&self) -> bool {
         self.at.is_some()
     }
@@ -72,23 +72,23 @@ pub struct PictureRow {
     pub drawn: usize,
     /// Where its entries begin among all that are drawn.
     from: usize,
-    /// How many they are, with those of which nothing is known.
+    /// How many entries the row has, with those of which nothing is known.
     count: usize,
 }
 
 impl PictureRow {
-    /// Whether nothing is drawn in it.
+    /// Returns whether the row has no entry.
     pub fn is_empty(&self) -> bool {
         self.count == 0
     }
 }
 
-/// What is drawn: the entries row by row, by number.
+/// What is drawn: the entries, row by row, and by number in each row.
 #[derive(Debug, Drop)]
 pub struct Choice {
-    /// Of how many nodes nothing is drawn, since nothing stands against them and no entry of them quotes a marked one.
+    /// How many nodes have no row because nothing stands against them, and they neither have nor quote a marked entry.
     pub quiet: u64,
-    /// Of how many further nodes nothing is drawn, since a picture has no more rows.
+    /// How many further nodes have no row because a picture has no more rows.
     pub further: u64,
     /// The rows, ascending by node.
     pub rows: Vec<PictureRow>,
@@ -96,7 +96,7 @@ pub struct Choice {
     pub cells: Vec<Drawn>,
 }
 
-/// Whether a sentence speaks of the entry, or of what it quotes.
+/// Returns whether a sentence speaks of the entry, or of what it quotes.
 pub(crate) fn is_spoken_of(rows: &Rows, cell: &Cell, marks: &Marks) -> bool {
     if marks.sentence(cell.place.node, cell.place.seq).is_some() {
         return true;
@@ -107,7 +107,7 @@ pub(crate) fn is_spoken_of(rows: &Rows, cell: &Cell, marks: &Marks) -> bool {
     }
 }
 
-/// Whether entry `i` is at an end, or beside one that is spoken of.
+/// Returns whether entry `i` is at an end, or beside one that is spoken of.
 fn is_near(spoken: &[bool], i: usize) -> bool {
     let left = spoken.len().saturating_sub(i);
     if i < NEIGHBOURS || left <= NEIGHBOURS {
@@ -117,7 +117,7 @@ fn is_near(spoken: &[bool], i: usize) -> bool {
     from.iter().take(2 * NEIGHBOURS + 1).any(|one| *one)
 }
 
-/// Which entries of a node are spoken of.
+/// Returns for each entry of a node whether it is spoken of.
 fn spoken_of(
     alloc: Global,
     rows: &Rows,
@@ -131,7 +131,7 @@ fn spoken_of(
     Ok(spoken)
 }
 
-/// Entry `at` of a node as it is drawn, but for its place among those of its number.
+/// Returns entry `at` of a node as it is drawn, without its place among those of its number.
 fn as_drawn(row: usize, at: usize, cell: &Cell, marks: &Marks, is_behind_gap: bool) -> Drawn {
     Drawn {
         row,
@@ -144,7 +144,7 @@ fn as_drawn(row: usize, at: usize, cell: &Cell, marks: &Marks, is_behind_gap: bo
     }
 }
 
-/// The entries of a node that are drawn: all of a short row, and of a longer one those that are near.
+/// Returns the entries of a node that are drawn: all of a short row, and of a longer one those that are near.
 fn known_of(
     alloc: Global,
     rows: &Rows,
@@ -202,7 +202,7 @@ fn add_where(to: &mut Vec<Drawn>, from: &[Drawn], is_marked: bool) -> Result<(),
     Ok(())
 }
 
-/// The entries by number, and under one number the marked ones first.
+/// Returns the entries by number. Under one number the marked ones come first.
 fn in_order(alloc: Global, kept: &[Drawn]) -> Result<Vec<Drawn>, AllocError> {
     let mut ordered = Vec::with_capacity(alloc, kept.len())?;
     add_where(&mut ordered, kept, true)?;
@@ -232,12 +232,13 @@ fn numbered(alloc: Global, kept: &[Drawn]) -> Result<Vec<Drawn>, AllocError> {
     Ok(numbered)
 }
 
-/// How many entries are marked.
+/// Returns how many entries are marked.
 fn marked_among(kept: &[Drawn]) -> usize {
     kept.iter().filter(|one| one.sentence.is_some()).count()
 }
 
-/// The entries of a row, where it has no more than it may: of more the first that are marked, and then the first of the others.
+/// Returns the entries of a row, as many as it may have. If there are more, the first marked ones are taken, and then the first of the
+/// others.
 fn within(alloc: Global, kept: Vec<Drawn>) -> Result<Vec<Drawn>, AllocError> {
     if kept.len() <= MOST_DRAWN {
         return Ok(kept);
@@ -264,14 +265,14 @@ fn within(alloc: Global, kept: Vec<Drawn>) -> Result<Vec<Drawn>, AllocError> {
     Ok(within)
 }
 
-/// The entry, behind a gap where there is one.
+/// Returns the entry, behind a gap if there is one.
 fn behind(one: &Drawn, is_behind_gap: bool) -> Drawn {
     let mut one = *one;
     one.is_behind_gap = one.is_behind_gap || is_behind_gap;
     one
 }
 
-/// The entries of a row.
+/// Returns the entries of a row.
 fn row_cells(
     alloc: Global,
     rows: &Rows,
@@ -310,13 +311,13 @@ impl Choice {
         Ok(())
     }
 
-    /// The entries of a row.
+    /// Returns the entries of a row.
     pub fn cells_of(&self, row: &PictureRow) -> &[Drawn] {
         let behind = self.cells.get(row.from..).unwrap_or(&[]);
         behind.get(..row.count).unwrap_or(behind)
     }
 
-    /// Whether an entry of the node with this number is drawn.
+    /// Returns whether an entry of the node with this number is drawn.
     pub fn draws(&self, node: NodeId, seq: u64) -> bool {
         match self.row_of(node) {
             Some(row) => self.cells_of(row).iter().any(|one| one.seq == seq),
@@ -324,16 +325,20 @@ impl Choice {
         }
     }
 
-    /// The row of a node.
+    /// Returns the row of a node.
     pub fn row_of(&self, node: NodeId) -> Option<&PictureRow> {
         let at = self.rows.binary_search_by_key(&node, |row| row.node).ok()?;
         self.rows.get(at)
     }
 }
 
-/// What is drawn of the rows. A row of more than 40 entries is cut to what the sentences speak of, with its neighbours and the row's
-/// ends, 48 at most; of more than 12 nodes those have rows against which something stands, and those that quote a marked entry, 12 at
-/// most.
+/// Returns what is drawn of the rows.
+///
+/// - A row of more than 40 known entries is cut to those that the sentences speak of, with two neighbours on each side, and two at each
+///   end.
+/// - Under one number at most 8 entries are drawn, and in one row at most 48.
+/// - If there are more than 12 nodes, a node has a row only if something stands against it, or if it has or quotes a marked entry. There
+///   are 12 rows at most.
 pub fn choice_of(
     alloc: Global,
     explanation: &Explanation,

@@ -1,4 +1,4 @@
-//! What is said of an entry, and the names by which links find it.
+//! What is said of an entry, and the names by which links find entries and sentences.
 
 use crate::choosing::Drawn;
 use crate::marks::SentenceId;
@@ -12,7 +12,8 @@ use page_text::Piece::{Digits, Number, Text};
 use sentences::Voice;
 use std::alloc::AllocError;
 
-/// Writes the name of an entry in the picture: of the first that is drawn under its number, or of a further one.
+/// Writes the name of an entry in the picture, such as `entry-3-7`. `alike` is the number of entries with this number that are drawn before
+/// it. If it is above 0, the name ends with it, as in `entry-3-7-1`.
 pub fn entry_name(page: &mut Page, node: NodeId, seq: u64, alike: u64) -> Result<(), AllocError> {
     page.write(&[
         Text(b"entry-"),
@@ -26,7 +27,7 @@ pub fn entry_name(page: &mut Page, node: NodeId, seq: u64, alike: u64) -> Result
     Ok(())
 }
 
-/// Writes the name of a sentence.
+/// Writes the name of a sentence, such as `node-3-sentence-1`.
 pub fn sentence_name(page: &mut Page, id: SentenceId) -> Result<(), AllocError> {
     page.write(&[
         Text(b"node-"),
@@ -36,7 +37,7 @@ pub fn sentence_name(page: &mut Page, id: SentenceId) -> Result<(), AllocError> 
     ])
 }
 
-/// The name of a kind.
+/// Returns the name of a kind.
 fn kind_name(kind: u8) -> &'static str {
     match kind {
         INIT => "INIT",
@@ -48,7 +49,7 @@ fn kind_name(kind: u8) -> &'static str {
     }
 }
 
-/// The name of an entry's kind, where it is known.
+/// Returns the name of an entry's kind, or `not known`.
 pub fn kind_of(rows: &Rows, one: &Drawn) -> &'static str {
     match one.detail(rows) {
         Some(detail) => kind_name(detail.kind),
@@ -56,7 +57,7 @@ pub fn kind_of(rows: &Rows, one: &Drawn) -> &'static str {
     }
 }
 
-/// From what an entry is known.
+/// Returns from what an entry is known: `segment`, `message` or `statement`.
 pub fn source_of(rows: &Rows, cell: &Cell) -> &'static str {
     if cell.is_logged {
         "segment"
@@ -67,7 +68,7 @@ pub fn source_of(rows: &Rows, cell: &Cell) -> &'static str {
     }
 }
 
-/// Writes what an entry says, behind the word for its kind.
+/// Writes what an entry says, without the word for its kind. If that is not known, it writes so.
 pub fn write_content<V: Voice>(
     page: &mut Page,
     view: &View<'_, V>,

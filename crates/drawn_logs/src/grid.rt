@@ -1,4 +1,4 @@
-//! In which column and which lane each entry stands.
+//! The column and the lane in which each entry stands.
 
 use crate::choosing::{Choice, Drawn};
 use authenticators::NodeId;
@@ -7,7 +7,7 @@ use log_chain::Hash;
 use std::alloc::{AllocError, Global};
 use std::collections::BTreeMap;
 
-/// How often the columns are gone over, so that what quotes stands right of what it quotes.
+/// How often the columns are gone over at most. They are gone over so that an entry that quotes stands to the right of what it quotes.
 const MOST_SWEEPS: u32 = 64;
 
 /// The end of a node's log at an entry.
@@ -17,7 +17,7 @@ struct LogEnd {
     hash: Hash,
 }
 
-/// Of each entry that is drawn its column, its lane within the row, and the entries that it stands behind and that it quotes.
+/// The columns and the lanes of the entries that are drawn, and the entries that they stand behind and that they quote.
 #[derive(Debug, Drop)]
 pub struct Grid {
     columns: Vec<u64>,
@@ -26,12 +26,12 @@ pub struct Grid {
     quoted_entries: Vec<Option<usize>>,
 }
 
-/// The value at a place, or 0.
+/// Returns the value at a place, or 0 if there is none.
 fn at(numbers: &[u64], i: usize) -> u64 {
     numbers.get(i).copied().unwrap_or(0)
 }
 
-/// Where each of the known entries stands among those that are drawn.
+/// Returns the place of each known entry among those that are drawn.
 fn places_of(
     alloc: Global,
     rows: &Rows,
@@ -46,7 +46,7 @@ fn places_of(
     Ok(places)
 }
 
-/// For each entry the one that it quotes, where that is drawn.
+/// Returns for each entry the one that it quotes, if that is drawn.
 fn quoted_entries_of(
     alloc: Global,
     rows: &Rows,
@@ -64,7 +64,7 @@ fn quoted_entries_of(
     Ok(quoted)
 }
 
-/// The hash before an entry in its log, where it is known.
+/// Returns the hash before an entry in its log, if it is known.
 fn prev_of(rows: &Rows, one: &Drawn) -> Option<Hash> {
     match one.detail(rows) {
         Some(detail) => Some(detail.prev),
@@ -72,7 +72,7 @@ fn prev_of(rows: &Rows, one: &Drawn) -> Option<Hash> {
     }
 }
 
-/// The entry that an entry stands behind, among those whose hashes these are.
+/// Returns the entry that an entry stands behind, among those whose hashes these are.
 fn behind_which(rows: &Rows, one: &Drawn, ends: &BTreeMap<LogEnd, usize>) -> Option<usize> {
     let hash = prev_of(rows, one)?;
     let end = LogEnd {
@@ -82,7 +82,7 @@ fn behind_which(rows: &Rows, one: &Drawn, ends: &BTreeMap<LogEnd, usize>) -> Opt
     ends.get(&end).copied()
 }
 
-/// For each entry the one that it stands behind in its node's log, where that is drawn.
+/// Returns for each entry the one that it stands behind in its node's log, if that is drawn.
 fn before_of(
     alloc: Global,
     rows: &Rows,
@@ -103,12 +103,12 @@ fn before_of(
     Ok(before)
 }
 
-/// Whether two entries stand in one column, one above the other.
+/// Returns whether two entries stand in one column, one above the other.
 fn are_stacked(a: &Drawn, b: &Drawn) -> bool {
     a.row == b.row && a.seq == b.seq
 }
 
-/// The first column that an entry can have beside the one on its left.
+/// Returns the first column that an entry can have beside the one on its left.
 fn column_behind(left: Option<&Drawn>, column: u64, one: &Drawn) -> u64 {
     match left {
         Some(left) if are_stacked(left, one) => column,
@@ -119,7 +119,7 @@ fn column_behind(left: Option<&Drawn>, column: u64, one: &Drawn) -> u64 {
     }
 }
 
-/// Moves each entry behind the one on its left and behind what it quotes, and answers whether one was moved.
+/// Moves each entry to the right of the one on its left and of what it quotes. Returns whether an entry was moved.
 fn sweep(cells: &[Drawn], quoted: &[Option<usize>], columns: &mut Vec<u64>) -> bool {
     let mut moved = false;
     let mut left = None;
@@ -156,7 +156,7 @@ fn level(cells: &[Drawn], columns: &mut Vec<u64>) {
     }
 }
 
-/// The column of each entry.
+/// Returns the column of each entry.
 fn columns_of(
     alloc: Global,
     cells: &[Drawn],
@@ -172,7 +172,7 @@ fn columns_of(
     Ok(columns)
 }
 
-/// The first of a few lanes, from this one on, in which none of the last entries stands.
+/// Returns the first of a few lanes, from this one on, in which none of the last entries stands.
 fn free_lane(taken: &[u64], wanted: u64) -> u64 {
     let mut lane = wanted;
     for _ in 0..taken.len() {
@@ -184,7 +184,7 @@ fn free_lane(taken: &[u64], wanted: u64) -> u64 {
     lane
 }
 
-/// The lane of each entry: that of the entry that it stands behind, where it is free.
+/// Returns the lane of each entry: that of the entry that it stands behind, if it is free, and else the next free one.
 fn lanes_of(
     alloc: Global,
     cells: &[Drawn],
@@ -208,7 +208,7 @@ fn lanes_of(
 }
 
 impl Grid {
-    /// Where each entry stands.
+    /// Returns the columns and the lanes of the entries of a choice.
     pub fn new(alloc: Global, rows: &Rows, choice: &Choice) -> Result<Grid, AllocError> {
         let cells = choice.cells.as_slice();
         let before = before_of(alloc, rows, cells)?;
@@ -223,27 +223,27 @@ impl Grid {
         })
     }
 
-    /// The column of entry `i`, from 0.
+    /// Returns the column of entry `i`, from 0.
     pub(crate) fn column(&self, i: usize) -> u64 {
         at(&self.columns, i)
     }
 
-    /// The lane of entry `i` within its row, from 0.
+    /// Returns the lane of entry `i` within its row, from 0.
     pub(crate) fn lane(&self, i: usize) -> u64 {
         at(&self.lanes, i)
     }
 
-    /// The entry that entry `i` stands behind.
+    /// Returns the place of the entry that entry `i` stands behind in its node's log, if that is drawn.
     pub fn before(&self, i: usize) -> Option<usize> {
         self.before.get(i).copied().unwrap_or(None)
     }
 
-    /// The entry that entry `i` quotes.
+    /// Returns the place of the entry that entry `i` quotes, if that is drawn.
     pub fn quoted_entry(&self, i: usize) -> Option<usize> {
         self.quoted_entries.get(i).copied().unwrap_or(None)
     }
 
-    /// How many columns there are.
+    /// Returns how many columns there are.
     pub(crate) fn width(&self) -> u64 {
         self.columns
             .iter()
@@ -252,7 +252,7 @@ impl Grid {
             .map_or(0, |last| last.saturating_add(1))
     }
 
-    /// How many lanes each of so many rows has.
+    /// Returns how many lanes each row has.
     pub(crate) fn lanes_by_row(
         &self,
         alloc: Global,

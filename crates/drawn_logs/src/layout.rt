@@ -1,16 +1,16 @@
-//! Where each entry and each row lies in the picture.
+//! The places of entries and rows in the picture, in pixels.
 
 use crate::choosing::Choice;
 use crate::grid::Grid;
 use std::alloc::{AllocError, Global};
 
-/// Where the first column begins.
+/// The left edge of the first column.
 pub const LEFT: u64 = 104;
 
-/// How far the columns stand from each other.
+/// The distance from one column to the next.
 pub(crate) const COLUMN: u64 = 102;
 
-/// How far the lanes of a row stand from each other.
+/// The distance from one lane of a row to the next.
 const LANE: u64 = 58;
 
 /// The room above and below the entries of a row.
@@ -31,13 +31,13 @@ const LEAST_COLUMNS: u64 = 4;
 /// A point, in pixels from the upper left corner of the picture.
 #[derive(Clone, Copy, Debug)]
 pub struct Point {
-    /// To the right.
+    /// The distance to the right.
     pub x: u64,
-    /// Downwards.
+    /// The distance downwards.
     pub y: u64,
 }
 
-/// Where a row lies.
+/// The place of a row.
 #[derive(Clone, Copy, Debug)]
 pub struct Band {
     /// Its upper edge.
@@ -46,19 +46,19 @@ pub struct Band {
     pub height: u64,
 }
 
-/// The upper left corner of each entry, where each row lies, and how large the whole is.
+/// The upper left corner of each entry, the place of each row, and the size of the whole.
 #[derive(Debug, Drop)]
 pub struct Layout {
     corners: Vec<Point>,
-    /// Where each row lies.
+    /// The place of each row.
     pub bands: Vec<Band>,
-    /// How wide the whole is.
+    /// The width of the whole.
     pub width: u64,
-    /// How high it is.
+    /// The height of the whole.
     pub height: u64,
 }
 
-/// Where the rows lie that have so many lanes.
+/// Returns where rows with these numbers of lanes lie.
 fn bands_of(alloc: Global, lanes: &[u64]) -> Result<Vec<Band>, AllocError> {
     let mut bands = Vec::new(alloc);
     let mut top: u64 = 0;
@@ -71,7 +71,7 @@ fn bands_of(alloc: Global, lanes: &[u64]) -> Result<Vec<Band>, AllocError> {
     Ok(bands)
 }
 
-/// Where the last row ends.
+/// Returns where the last row ends.
 fn end_of(bands: &[Band]) -> u64 {
     match bands.last() {
         Some(band) => band.top.saturating_add(band.height),
@@ -79,7 +79,7 @@ fn end_of(bands: &[Band]) -> u64 {
     }
 }
 
-/// The upper left corner of an entry of this column and lane, in a row that lies there.
+/// Returns the upper left corner of an entry in this column and lane, and in a row that lies there.
 fn corner(column: u64, lane: u64, band: Option<&Band>) -> Point {
     let top = match band {
         Some(band) => band.top,
@@ -95,7 +95,7 @@ fn corner(column: u64, lane: u64, band: Option<&Band>) -> Point {
 }
 
 impl Layout {
-    /// Where all of them lie.
+    /// Returns the places of all entries and rows of a choice.
     pub fn new(alloc: Global, choice: &Choice, grid: &Grid) -> Result<Layout, AllocError> {
         let lanes = grid.lanes_by_row(alloc, choice)?;
         let bands = bands_of(alloc, &lanes)?;
@@ -112,7 +112,7 @@ impl Layout {
         })
     }
 
-    /// The upper left corner of entry `i`.
+    /// Returns the upper left corner of entry `i`, or (0, 0) if there is no such entry.
     pub fn corner(&self, i: usize) -> Point {
         match self.corners.get(i) {
             Some(corner) => *corner,

@@ -1,10 +1,11 @@
 //! Which entries of the known logs a picture shows, and where each of them lies.
 //!
 //! - [`Marks`] has the entries of which sentences speak.
-//! - [`wanted_of`] tells whose logs are needed, and [`choice_of`] chooses: of a small store every row, of a larger one those of nodes
-//!   against which something stands and those that quote a marked entry; of a long row a window around the marked entries.
-//! - A [`View`] is what is drawn, with what is known and how payloads are said. [`draw_linked`] draws an entry, [`draw_chain`] and
-//!   [`draw_arrow`] what leads to it; [`write_content`] says what it says. [`markup`] writes elements in short.
+//! - [`wanted_of`] returns whose logs are needed.
+//! - [`choice_of`] chooses what is drawn. In a small picture every node has a row. In a larger one those nodes have a row against which
+//!   something stands, and those that have or quote a marked entry. Of a long row only a window around the marked entries is drawn.
+//! - A [`View`] is what is drawn, with what is known and how payloads are said. [`draw_linked`] draws an entry. [`draw_chain`] and
+//!   [`draw_arrow`] draw what leads to it. [`write_content`] writes what it says. [`markup`] has short functions that write elements.
 //! - [`Grid`] puts the chosen entries into columns and lanes, and [`Layout`] gives each of them its corner.
 #![tactic(auto)]
 

@@ -13,12 +13,12 @@ fn begin_path(page: &mut Page, class: &str) -> Result<(), AllocError> {
     page.write(&[Set(Attribute::D)])
 }
 
-/// Halfway between two numbers.
+/// Returns what is halfway between two numbers.
 fn middle(a: u64, b: u64) -> u64 {
     a / 2 + b / 2
 }
 
-/// Writes the line from an entry to the one behind it in its log.
+/// Writes the line from an entry to the one behind it in its log. The points are the upper left corners of both.
 pub fn draw_chain(page: &mut Page, from: Point, to: Point) -> Result<(), AllocError> {
     let x = from.x.saturating_add(WIDTH);
     let y = from.y.saturating_add(HEIGHT / 2);
@@ -48,7 +48,7 @@ pub fn draw_chain(page: &mut Page, from: Point, to: Point) -> Result<(), AllocEr
     ])
 }
 
-/// Writes an arrow's line, from a point to the right, along a lane, and to above or below its end, and its head.
+/// Writes the line and the head of an arrow. The line goes from a point to the right, along a lane, and to above or below its end.
 fn draw_way(
     page: &mut Page,
     from: Point,
@@ -87,7 +87,8 @@ fn draw_way(
     ])
 }
 
-/// Writes the arrow from a SEND entry to the entry that quotes it. Arrows have one of five ways through a lane.
+/// Writes the arrow from a SEND entry to the entry that quotes it. The points are the upper left corners of both. `number` chooses one of
+/// five ways through a lane.
 pub fn draw_arrow(page: &mut Page, from: Point, to: Point, number: u64) -> Result<(), AllocError> {
     let way = number % 5;
     let right = from.x.saturating_add(WIDTH);

@@ -1,4 +1,4 @@
-//! Which entries the sentences speak of.
+//! The entries that sentences speak of.
 
 use authenticators::NodeId;
 use known_logs::{Numbered, Place};
@@ -6,7 +6,7 @@ use sentences::{Explanation, NamedHash, NodeExplanation, Sentence};
 use std::alloc::{AllocError, Global};
 use std::collections::{BTreeMap, BTreeSet};
 
-/// A sentence: the number of the node that it is told of, and its own among that node's, from 1.
+/// A sentence: the number of the node that it is about, and its own number among that node's sentences, from 1.
 #[derive(Clone, Copy, Debug)]
 pub struct SentenceId {
     /// The node's number.
@@ -15,7 +15,7 @@ pub struct SentenceId {
     pub number: u64,
 }
 
-/// Of each number under which entries are marked the first sentence that marks it, and the hashes that sentences name.
+/// For each number under which entries are marked, the first sentence that marks it; and the hashes that sentences name.
 #[derive(Debug, Drop)]
 pub struct Marks {
     by_node: BTreeMap<u32, BTreeMap<u64, SentenceId>>,
@@ -24,7 +24,7 @@ pub struct Marks {
 }
 
 impl Marks {
-    /// The marks of an explanation.
+    /// Returns the marks of an explanation.
     pub fn of_explanation(alloc: Global, explanation: &Explanation) -> Result<Marks, AllocError> {
         let mut marks = Marks {
             by_node: BTreeMap::new(alloc),
@@ -77,7 +77,7 @@ impl Marks {
         Ok(())
     }
 
-    /// The sentence that marks an entry: where sentences name hashes of its number, its hash is one of these.
+    /// Returns the sentence that marks an entry. If sentences name hashes of its number, its hash must be one of these.
     pub(crate) fn sentence_of(&self, place: Place) -> Option<SentenceId> {
         let by_number = self.sentence(place.node, place.seq)?;
         let number = Numbered {
@@ -90,7 +90,7 @@ impl Marks {
         Some(by_number)
     }
 
-    /// The numbers under which entries are marked.
+    /// Returns the numbers under which entries are marked.
     pub(crate) fn numbers(&self, alloc: Global) -> Result<BTreeSet<Numbered>, AllocError> {
         let mut numbers = BTreeSet::new(alloc);
         for (node, entries) in self.by_node.iter() {
@@ -99,12 +99,12 @@ impl Marks {
         Ok(numbers)
     }
 
-    /// The marked entries of a node, by number.
+    /// Returns the marked entries of a node, by number.
     pub(crate) fn of(&self, node: NodeId) -> Option<&BTreeMap<u64, SentenceId>> {
         self.by_node.get(&node.0)
     }
 
-    /// The sentence that marks an entry.
+    /// Returns the sentence that marks the number of an entry.
     pub(crate) fn sentence(&self, node: NodeId, seq: u64) -> Option<SentenceId> {
         self.of(node)?.get(&seq).copied()
     }

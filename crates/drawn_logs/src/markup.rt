@@ -1,4 +1,4 @@
-//! Elements in short.
+//! Short functions that write elements.
 
 ghost use Rattle.std.specs.Prelude.{◌≡◌, ◌++◌, ℕ, List, OnOk};
 
@@ -52,7 +52,7 @@ pub fn text(page: &mut Page, text: &str) -> Result<(), AllocError> {
     page.write(&[Text(text.as_bytes())])
 }
 
-/// Writes a number with the word for one, or the word for more.
+/// Writes a number with the word for one, or the word for any other number.
 pub fn count(
     page: &mut Page,
     count: u64,

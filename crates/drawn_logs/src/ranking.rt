@@ -1,4 +1,4 @@
-//! Which nodes have a row, and whose logs are needed for that.
+//! The choice of the nodes that have a row, and of those whose logs are needed for that.
 
 use crate::choosing::is_spoken_of;
 use crate::marks::Marks;
@@ -9,14 +9,14 @@ use sentences::Explanation;
 use std::alloc::{AllocError, Global};
 use std::collections::BTreeSet;
 
-/// So many rows a picture has at most. With more nodes, those have none against which nothing stands, and of which no entry quotes a marked
-/// one.
+/// The greatest number of rows of a picture. If there are more nodes, a node has no row if nothing stands against it and it neither has nor
+/// quotes a marked entry.
 const MOST_ROWS: usize = 12;
 
 /// The rank of nodes against which nothing stands, and which have or quote a marked entry.
 const INVOLVED: u8 = 2;
 
-/// The nodes that are told of, or of whose logs something is known, in ascending order.
+/// Returns the nodes that are explained, or of whose logs something is known, in ascending order.
 fn nodes_of(
     alloc: Global,
     explanation: &Explanation,
@@ -32,14 +32,14 @@ fn nodes_of(
     Ok(nodes)
 }
 
-/// What is said of the node, where it is told of.
+/// Returns what is said of the node, if it is explained.
 fn indication_of(explanation: &Explanation, node: NodeId) -> Option<Indication> {
     let nodes = explanation.nodes.as_slice();
     let at = nodes.binary_search_by_key(&node, |told| told.node).ok()?;
     Some(nodes.get(at)?.indication)
 }
 
-/// Whether an entry of the node is marked, or quotes a marked one.
+/// Returns whether an entry of the node is marked, or quotes a marked one.
 fn is_involved(rows: &Rows, node: NodeId, marks: &Marks) -> bool {
     if marks.of(node).is_some() || rows.quotes_named(node) {
         return true;
@@ -48,8 +48,8 @@ fn is_involved(rows: &Rows, node: NodeId, marks: &Marks) -> bool {
     cells.iter().any(|cell| is_spoken_of(rows, cell, marks))
 }
 
-/// How soon a node has a row of which this is said, where it is told of, and which has or quotes a marked entry or not: exposed ones first,
-/// then suspected ones, then those that have or quote one; none of the others.
+/// Returns how soon a node has a row, by what is said of it and by whether it has or quotes a marked entry. Exposed nodes come first, then
+/// suspected ones, then those that have or quote a marked entry. Others have no rank.
 fn rank(indication: Option<Indication>, is_involved: bool) -> Option<u8> {
     match indication {
         Some(Indication::Exposed) => Some(0),
@@ -59,13 +59,13 @@ fn rank(indication: Option<Indication>, is_involved: bool) -> Option<u8> {
     }
 }
 
-/// The rank of a node.
+/// Returns the rank of a node.
 fn rank_of(explanation: &Explanation, rows: &Rows, node: NodeId, marks: &Marks) -> Option<u8> {
     let is_involved = is_involved(rows, node, marks);
     rank(indication_of(explanation, node), is_involved)
 }
 
-/// The nodes that have a rank before any log is known, with it.
+/// Returns the nodes that have a rank before any log is known, with it.
 fn ranked_of(
     alloc: Global,
     explanation: &Explanation,
@@ -81,8 +81,10 @@ fn ranked_of(
     Ok(ranked)
 }
 
-/// Whose logs a picture of the explanation needs: of a few nodes all. Else those of nodes that have a row whatever is quoted, and of so many
-/// more, which quote a marked entry, as can have a row beside the nodes at fault.
+/// Returns whose logs a picture of the explanation needs. Of up to 12 nodes it needs all.
+///
+/// Of more nodes, it needs the logs of at most 12 nodes against which something stands, or that have a marked entry. It also needs the logs
+/// of nodes that quote a marked entry, as many as can have a row beside the nodes against which something stands.
 pub fn wanted_of(alloc: Global, explanation: &Explanation) -> Result<Wanted, AllocError> {
     if explanation.nodes.len() <= MOST_ROWS {
         return Ok(Wanted::all(alloc));
@@ -105,7 +107,7 @@ pub(crate) struct Chosen {
     pub(crate) further: u64,
 }
 
-/// The nodes that have a row, of a few all.
+/// Returns the nodes that have a row. Of a few nodes, all have one.
 pub(crate) fn chosen_of(
     alloc: Global,
     explanation: &Explanation,
@@ -135,7 +137,7 @@ pub(crate) fn chosen_of(
     })
 }
 
-/// The nodes that come first.
+/// Returns the nodes that come first.
 fn first_of(alloc: Global, mut ranked: Vec<(u8, u32)>) -> Result<BTreeSet<u32>, AllocError> {
     ranked.sort()?;
     let mut chosen = BTreeSet::new(alloc);

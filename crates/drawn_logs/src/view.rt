@@ -1,4 +1,4 @@
-//! What a page is made of: what is known, what of it is drawn, and how payloads are said.
+//! What a page is made of: what is known, what of it is drawn, and the voice that says payloads.
 
 use crate::choosing::{Choice, Drawn};
 use known_logs::{Detail, Rows};
@@ -10,7 +10,7 @@ use std::alloc::{AllocError, Global};
 pub struct View<'a, V> {
     /// The allocator.
     pub alloc: Global,
-    /// How payloads are said.
+    /// The voice that says payloads.
     pub voice: &'a V,
     /// What is known.
     pub rows: &'a Rows,
@@ -19,7 +19,7 @@ pub struct View<'a, V> {
 }
 
 impl<'a, V: Voice> View<'a, V> {
-    /// What an entry says, where it is known, behind the word for its kind.
+    /// Returns what an entry says, without the word for its kind, if that is known.
     pub(crate) fn content_of(&self, one: &Drawn) -> Result<Option<String>, AllocError> {
         match one.detail(self.rows) {
             Some(detail) => Ok(Some(self.words_of(&detail)?)),
@@ -27,7 +27,7 @@ impl<'a, V: Voice> View<'a, V> {
         }
     }
 
-    /// What an entry says, behind the word for its kind.
+    /// Returns what an entry says, without the word for its kind.
     fn words_of(&self, detail: &Detail) -> Result<String, AllocError> {
         let content = Content {
             said: detail.said,

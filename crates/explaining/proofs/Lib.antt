@@ -1,3 +1,0 @@
-mod Endings
-mod Gathered
-mod Lines

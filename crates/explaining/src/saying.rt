@@ -1,4 +1,4 @@
-//! What is written of what was read.
+//! The texts that are written of what was read.
 
 ghost use Rattle.std.specs.Prelude.{◌≡◌, ℕ, Err, IfOk, MatchResult, false, true};
 ghost use Rattle.page_text.specs.Pages.{IsPage};
@@ -7,7 +7,7 @@ ghost use Rattle.explanation_pages.specs.Shown.{IsPageOf};
 ghost use Rattle.explanations.specs.Whys.{ExplainsParts, IsExplained};
 ghost use Rattle.explaining.specs.Explained.{ExplainsProof, PagesProof, PagesStore, TellsProof};
 
-use crate::engine::Followed;
+use crate::followed::Followed;
 use authenticators::Directory;
 use evidence::Evidence;
 use explanation_pages::{page_of, page_of_listing, rows_of, rows_of_proof, wanted_of};
@@ -20,7 +20,7 @@ use replay_verifier::Program;
 use sentences::{Listing, listing_lines};
 use std::alloc::{AllocError, Global};
 
-/// What a store says, as a page.
+/// Returns what a store says, as a page.
 fn store_page<P: Program, S: Evidence<P>, V: Voice>(
     alloc: Global,
     followed: &Followed<'_, P, V>,
@@ -41,7 +41,8 @@ fn store_page<P: Program, S: Evidence<P>, V: Voice>(
     Ok(page)
 }
 
-/// What a store says under a basis: a text, or a page. It is refused memory alone.
+/// Returns what a store says under a basis: a page if `is_page` is true, and else a text. `Memory` if the program, or a growth, was refused
+/// memory.
 pub fn store_text<P: Program, S: Evidence<P>, V: Voice>(
     alloc: Global,
     followed: &Followed<'_, P, V>,
@@ -63,19 +64,19 @@ pub fn store_text<P: Program, S: Evidence<P>, V: Voice>(
 /// A proof that was read, under a directory.
 #[derive(Clone, Copy)]
 pub struct ReadProof<'a> {
-    /// Under what it is judged.
+    /// The basis under which it is judged.
     pub basis: &'a Basis,
     /// The directory.
     pub directory: &'a Directory,
-    /// The directory's text.
+    /// The directory's encoding.
     pub directory_text: &'a [u8],
     /// The proof.
     pub proof: &'a Proof,
-    /// The proof's text.
+    /// The proof's encoding.
     pub proof_text: &'a [u8],
 }
 
-/// What is told of a proof, as a page, which has the texts of the directory and of the proof.
+/// Returns what is said of a proof, as a page. The page has the encodings of the directory and of the proof.
 fn proof_page<V: Voice>(
     alloc: Global,
     voice: &V,
@@ -97,7 +98,7 @@ fn proof_page<V: Voice>(
     Ok(page)
 }
 
-/// What is told of a conviction: a text, or a page.
+/// Returns what is said of a conviction: a text, or a page.
 fn conviction_text<V: Voice>(
     alloc: Global,
     voice: &V,
@@ -117,7 +118,8 @@ fn conviction_text<V: Voice>(
     Ok(text)
 }
 
-/// Whom a proof convicts, and why: a text, or a page. It is refused as checking the proof is.
+/// Returns whom a proof convicts, and why: a page if `is_page` is true, and else a text. If the proof is refused, the error is that of
+/// checking it, or `Memory` (99).
 pub fn proof_text<P: Program, V: Voice>(
     alloc: Global,
     followed: &Followed<'_, P, V>,
@@ -136,7 +138,7 @@ pub fn proof_text<P: Program, V: Voice>(
     Ok(text)
 }
 
-/// What a directory lists: a text, or a page. No contract speaks of the text.
+/// Returns what a directory lists: a page if `is_page` is true, and else a text. No contract says what the text is.
 pub fn listing_text(alloc: Global, is_page: bool, listing: &Listing) -> Result<Vec<u8>, AllocError>
     ensures { IfOk result (λ text. is_page ≡ true → IsPage text.items) }
 {

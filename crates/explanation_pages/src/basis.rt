@@ -1,4 +1,4 @@
-//! What was judged and under what, at the front of a page.
+//! The front of a page: what was judged, and under what.
 
 ghost use Rattle.std.specs.Prelude.{◌≡◌, ◌++◌, IfOk, OnOk, codes, string_bytes};
 ghost use Rattle.explanation_pages.specs.Shown.{basis_list, digest_text, digits_text, front_text, heading_name, heading_text, judged_name, term_text, terms_text, title_text};
@@ -9,7 +9,7 @@ use page_text::{Attribute, Page, Tag};
 use sentences::{Basis, Input, groups_of};
 use std::alloc::{AllocError, Global};
 
-/// The page's heading, by what was judged.
+/// Returns the page's heading, by what was judged.
 fn heading_of(input: Input) -> &'static str
     ensures { result.now ≡ heading_name input }
 {
@@ -19,7 +19,7 @@ fn heading_of(input: Input) -> &'static str
     }
 }
 
-/// The page's title.
+/// Returns the page's title.
 pub(crate) fn title_of(alloc: Global, basis: &Basis, summary: &str) -> Result<String, AllocError>
     ensures { IfOk result (λ title. string_bytes title ≡ title_text basis.now summary.now) }
 {
@@ -79,7 +79,7 @@ fn write_term<'a>(page: &mut Page, name: &'a str, value: &'a str) -> Result<(), 
     Ok(())
 }
 
-/// Writes digits behind the name of what they are the digits of.
+/// Writes digits after the name of what they are the digits of.
 #[tactic(auto, unfolding(page_text::specs::Pages::written, page_text::specs::Names::tag_name))]
 fn write_digits<'a>(page: &mut Page, name: &'a str, digits: &'a [u8]) -> Result<(), AllocError>
     ensures { OnOk result (page.new ≡ page.old ++ digits_text name.now digits.now) }
@@ -101,7 +101,7 @@ fn write_digits<'a>(page: &mut Page, name: &'a str, digits: &'a [u8]) -> Result<
     Ok(())
 }
 
-/// Writes a digest in groups of four digits, behind the name of what has it.
+/// Writes a digest in groups of four digits, after the name of what has it.
 pub(crate) fn write_digest(
     alloc: Global,
     page: &mut Page,
@@ -116,7 +116,7 @@ pub(crate) fn write_digest(
     Ok(())
 }
 
-/// The name of what was judged.
+/// Returns the name of what was judged.
 fn judged_name(input: Input) -> &'static str
     ensures { result.now ≡ judged_name input }
 {
@@ -138,7 +138,7 @@ fn write_terms(alloc: Global, page: &mut Page, basis: &Basis) -> Result<(), Allo
     Ok(())
 }
 
-/// Begins the list of what it is said under.
+/// Begins the list of what the verdict is given under.
 #[tactic(auto, unfolding(page_text::specs::Pages::written, page_text::specs::Names::tag_name, page_text::specs::Names::attribute_name, page_text::specs::Escaping::spelled, page_text::specs::Escaping::seen))]
 fn begin_terms(page: &mut Page) -> Result<(), AllocError>
     ensures { OnOk result (page.new ≡ page.old ++ codes "<dl class=\"basis\">\n") }
@@ -163,7 +163,7 @@ fn end_terms(page: &mut Page) -> Result<(), AllocError>
     Ok(())
 }
 
-/// Writes under what it is said.
+/// Writes what the verdict is given under.
 fn write_basis(alloc: Global, page: &mut Page, basis: &Basis) -> Result<(), AllocError>
     ensures { OnOk result (page.new ≡ page.old ++ basis_list basis.now) }
 {
@@ -173,7 +173,7 @@ fn write_basis(alloc: Global, page: &mut Page, basis: &Basis) -> Result<(), Allo
     Ok(())
 }
 
-/// Writes what was judged, the line about the whole, and under what it is said.
+/// Writes what was judged, the line about the whole, and what the verdict is given under.
 pub(crate) fn write_front(
     alloc: Global,
     page: &mut Page,

@@ -19,14 +19,14 @@ use page_text::{Attribute, Page, Tag};
 use sentences::{Basis, Explanation, NodeExplanation, Voice};
 use std::alloc::{AllocError, Global};
 
-/// What is drawn of a row that is cut.
+/// The words for what is drawn of a row that is cut.
 const CUT: &[u8] =
     b" drawn: of a long log both ends, and those of which the sentences speak with their neighbours; at most 8 of a number, and 48 of a log.";
 
-/// So many rows that are cut are told one by one.
+/// The greatest number of cut rows that are named one by one.
 const MOST_TOLD: u64 = 4;
 
-/// Whether a row is cut.
+/// Returns whether a row is cut.
 fn is_cut(row: &PictureRow) -> bool {
     row.drawn < row.known
 }
@@ -50,7 +50,7 @@ fn write_cut(page: &mut Page, row: &PictureRow) -> Result<(), AllocError> {
     )
 }
 
-/// Writes which rows are cut: of many, how many.
+/// Writes which rows are cut. If there are many, it writes only how many.
 fn write_cuts(page: &mut Page, rows: &[PictureRow]) -> Result<(), AllocError> {
     let cut = rows.iter().filter(|row| is_cut(row)).count() as u64;
     if cut > MOST_TOLD {
@@ -70,7 +70,7 @@ fn write_cuts(page: &mut Page, rows: &[PictureRow]) -> Result<(), AllocError> {
     Ok(())
 }
 
-/// Writes why so many nodes have no row.
+/// Writes why this number of nodes has no row.
 fn write_why(page: &mut Page, why: &'static str, nodes: u64) -> Result<(), AllocError> {
     if nodes == 0 {
         return Ok(());
@@ -82,7 +82,7 @@ fn write_why(page: &mut Page, why: &'static str, nodes: u64) -> Result<(), Alloc
     )
 }
 
-/// Writes that nodes have no row.
+/// Writes how many nodes have no row, and why.
 fn write_left_out(page: &mut Page, choice: &Choice) -> Result<(), AllocError> {
     let quiet =
         "Not drawn, since nothing stands against them and no entry of them quotes a marked one: the logs of ";
@@ -106,7 +106,7 @@ fn write_drawing<V: Voice>(page: &mut Page, view: &View<'_, V>) -> Result<(), Al
     write_cuts(page, &view.choice.rows)
 }
 
-/// Writes the picture, where there is something to draw, and how many nodes are not drawn.
+/// Writes the picture, if there is something to draw, and how many nodes are not drawn.
 fn write_picture<V: Voice>(page: &mut Page, view: &View<'_, V>) -> Result<(), AllocError> {
     begin_section(page, "picture-heading", "The logs")?;
     if !view.choice.rows.is_empty() {
@@ -116,7 +116,7 @@ fn write_picture<V: Voice>(page: &mut Page, view: &View<'_, V>) -> Result<(), Al
     end(page, Tag::Section)
 }
 
-/// What stands between the front of a page and the list of all nodes: links, the picture, what is told of each node, and the lines.
+/// Returns what stands between the front of a page and the list of all nodes: links, the picture, what is said of each node, and the lines.
 fn middle_of<V: Voice>(
     view: &View<'_, V>,
     nodes: &[NodeExplanation],
@@ -130,7 +130,7 @@ fn middle_of<V: Voice>(
     Ok(part)
 }
 
-/// The page, with this between its front and the list of all nodes.
+/// Returns the page, with `middle` between its front and the list of all nodes.
 fn page_around(
     alloc: Global,
     basis: &Basis,
@@ -151,8 +151,11 @@ fn page_around(
     Ok(text)
 }
 
-/// The page of what is told under a basis: HTML with its style and its picture in it. Payloads are said by the voice. The lines, each of
-/// bytes, stand in it folded away, in hexadecimal digits.
+/// Returns the page of an explanation under a basis: HTML with its style and its picture in it. Payloads are said by the voice. `rows` has
+/// what the picture shows of the nodes' logs. The lines, each given as bytes, stand in the page in hexadecimal digits, folded away.
+///
+/// The page runs nothing and loads nothing. It is made of elements and attributes of a closed set, and of texts that are escaped and stand
+/// in no tag. It begins with the line about the whole and the basis, and it lists each node with what is said of it.
 pub fn page_of<V: Voice>(
     alloc: Global,
     voice: &V,
@@ -161,8 +164,7 @@ pub fn page_of<V: Voice>(
     rows: &Rows,
     lines: &[&[u8]],
 ) -> Result<Vec<u8>, AllocError>
-    // It runs nothing and loads nothing; it is elements and attributes of a closed set, and texts that are escaped and stand in no tag.
-    // It begins with the line about the whole and the basis, and it lists each node with what is said of it.
+    // The result is a page, and shows the basis and what is said of each node.
     ensures { IfOk result (λ page. IsPageOf basis.now explanation.now page.items) }
 {
     let marks = Marks::of_explanation(alloc, explanation)?;

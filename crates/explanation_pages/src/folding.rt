@@ -1,4 +1,4 @@
-//! How much of a page stands open. The rest is folded, so that a large page is printed on few sheets.
+//! How much of a page stands open. The rest is folded, so that few sheets are needed to print a large page.
 
 ghost use Rattle.std.specs.Prelude.{◌≡◌, ◌≤◌, length};
 
@@ -6,22 +6,22 @@ use drawn_logs::Choice;
 use evidence_set::Indication;
 use sentences::{NodeExplanation, Sentence};
 
-/// So many nodes at fault stand open.
+/// The greatest number of nodes at fault that stand open.
 const MOST_NODES: u64 = 6;
 
-/// So many sentences of a node stand open.
+/// The greatest number of sentences of a node that stand open.
 const MOST_SENTENCES: usize = 12;
 
-/// With more entries drawn, the tables are folded.
+/// The tables are folded if more entries are drawn.
 const MOST_ENTRIES: usize = 60;
 
-/// How many nodes are of the indication.
+/// Returns how many nodes are of the indication.
 pub(crate) fn count_of(nodes: &[NodeExplanation], indication: Indication) -> u64 {
     let of_it = nodes.iter().filter(|told| told.indication == indication);
     of_it.count() as u64
 }
 
-/// How many nodes of the indication stand open: of exposed ones first, then of suspected ones, and of trusted ones none.
+/// Returns how many nodes of the indication stand open. Exposed nodes come first, then suspected ones. No trusted node stands open.
 pub(crate) fn open_of(nodes: &[NodeExplanation], indication: Indication) -> u64
     ensures most { result ≤ MOST_NODES }
     ensures trusted { indication ≡ Indication.Trusted → result ≡ 0 }
@@ -36,7 +36,7 @@ pub(crate) fn open_of(nodes: &[NodeExplanation], indication: Indication) -> u64
     }
 }
 
-/// The name of what is folded of the indication.
+/// Returns the name of what is folded of the indication.
 pub(crate) fn fold_name(indication: Indication) -> &'static str {
     match indication {
         Indication::Exposed => "further-exposed",
@@ -45,7 +45,7 @@ pub(crate) fn fold_name(indication: Indication) -> &'static str {
     }
 }
 
-/// The words for the nodes that are folded of the indication.
+/// Returns the words for the nodes that are folded of the indication.
 pub(crate) fn fold_words(indication: Indication) -> &'static str {
     match indication {
         Indication::Exposed => "further exposed",
@@ -54,14 +54,14 @@ pub(crate) fn fold_words(indication: Indication) -> &'static str {
     }
 }
 
-/// The sentences that stand open, and those that are folded.
+/// Returns the sentences that stand open, and those that are folded.
 pub(crate) fn parted(sentences: &[Sentence]) -> (&[Sentence], &[Sentence])
     ensures { length result.0.now ≤ MOST_SENTENCES }
 {
     sentences.split_at(sentences.len().min(MOST_SENTENCES))
 }
 
-/// Whether the tables stand open.
+/// Returns whether the tables stand open.
 pub(crate) fn are_tables_open(choice: &Choice) -> bool {
     choice.cells.len() <= MOST_ENTRIES
 }

@@ -11,7 +11,7 @@ use page_text::{Attribute, Page, Piece, Sign, Tag};
 use sentences::NodeExplanation;
 use std::alloc::AllocError;
 
-/// The word for what is said of a node.
+/// Returns the word for what is said of a node.
 pub(crate) fn word(indication: Indication) -> &'static str
     ensures { result.now ≡ name_of indication }
 {
@@ -22,7 +22,7 @@ pub(crate) fn word(indication: Indication) -> &'static str
     }
 }
 
-/// The sign beside the word.
+/// Returns the sign beside the word.
 fn sign(indication: Indication) -> Piece<'static> {
     match indication {
         Indication::Trusted => Piece::Sign(Sign::Check),
@@ -31,7 +31,7 @@ fn sign(indication: Indication) -> Piece<'static> {
     }
 }
 
-/// Writes the sign beside the word, which only eyes need.
+/// Writes the sign beside the word, which is there for the eye only.
 pub(crate) fn write_sign(page: &mut Page, indication: Indication) -> Result<(), AllocError> {
     page.write(&[
         Open(Tag::Span),
@@ -103,7 +103,7 @@ fn write_chips_of(
     write_fold_chip(page, nodes, indication)
 }
 
-/// Writes the link to the nodes of the indication that are folded, where there are some.
+/// Writes the link to the nodes of the indication that are folded, if there are any.
 fn write_fold_chip(
     page: &mut Page,
     nodes: &[NodeExplanation],
@@ -123,7 +123,8 @@ fn write_fold_chip(
     page.write(&[Close(Tag::A), Close(Tag::Li), Line])
 }
 
-/// Writes the links to the nodes, exposed ones first, then suspected ones, and one to all that are folded of each; and begins the main part.
+/// Writes the links to the nodes: exposed ones first, then suspected ones, and for each indication one link to all that are folded. It then
+/// begins the main part.
 pub(crate) fn write_chips(page: &mut Page, nodes: &[NodeExplanation]) -> Result<(), AllocError> {
     page.write(&[
         Open(Tag::Nav),

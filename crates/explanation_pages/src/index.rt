@@ -1,4 +1,4 @@
-//! All nodes, each with what is said of it.
+//! The list of all nodes, each with what is said of it.
 
 ghost use Rattle.std.specs.Prelude.{◌≡◌, ◌++◌, ℕ, List, codes, OnOk};
 ghost use Rattle.explanation_pages.specs.Shown.{entries_text, entry_text, link_text, said_text};
@@ -74,7 +74,7 @@ fn write_entries(page: &mut Page, nodes: &[NodeExplanation]) -> Result<(), Alloc
     Ok(())
 }
 
-/// Begins the list of all nodes, which are so many, folded to one line.
+/// Begins the list of all nodes, folded to one line with their number.
 fn begin_list(page: &mut Page, count: usize) -> Result<(), AllocError>
     ensures { OnOk result ((more : List ℕ) × (page.new ≡ page.old ++ more)) }
 {
@@ -94,7 +94,7 @@ fn begin_list(page: &mut Page, count: usize) -> Result<(), AllocError>
     Ok(())
 }
 
-/// Begins the section of all nodes, which are so many.
+/// Begins the section of all nodes, with their number.
 fn begin_index(page: &mut Page, count: usize) -> Result<(), AllocError>
     ensures { OnOk result ((more : List ℕ) × (page.new ≡ page.old ++ more)) }
 {

@@ -1,4 +1,4 @@
-//! The legend: what the picture has, and nothing else.
+//! The legend explains what the picture has, and nothing else.
 
 use drawn_logs::markup::{attribute, begin, end, measure, text};
 use drawn_logs::{Drawn, Grid, View, kind_class, source_class};
@@ -18,17 +18,17 @@ const KINDS: [(&str, &str); 6] = [
     ("other", "an unknown kind"),
 ];
 
-/// Whether an entry is of the kind with this class.
+/// Returns whether an entry is of the kind with this class.
 fn has_kind(rows: &Rows, cells: &[Drawn], class: &str) -> bool {
     cells.iter().any(|one| kind_class(rows, one) == class)
 }
 
-/// Whether an entry is known from what this class says.
+/// Returns whether an entry is known from the source that this class names.
 fn has_source(rows: &Rows, cells: &[Drawn], class: &str) -> bool {
     cells.iter().any(|one| source_class(rows, one) == class)
 }
 
-/// Whether an entry quotes another that is drawn.
+/// Returns whether an entry quotes another that is drawn.
 fn has_arrow(cells: &[Drawn], grid: &Grid) -> bool {
     cells
         .iter()
@@ -36,7 +36,7 @@ fn has_arrow(cells: &[Drawn], grid: &Grid) -> bool {
         .any(|(i, _)| grid.quoted_entry(i).is_some())
 }
 
-/// Whether an entry stands behind another that is drawn.
+/// Returns whether an entry stands behind another that is drawn.
 fn has_chain(cells: &[Drawn], grid: &Grid) -> bool {
     cells
         .iter()

@@ -43,7 +43,7 @@ fn write_head(
     begin_main(page)
 }
 
-/// The page of what a directory lists: its own SHA-256, and that of each key of each node.
+/// Returns the page of what a directory lists: the directory's SHA-256, and that of each key of each node.
 pub fn page_of_listing(alloc: Global, listing: &Listing) -> Result<Vec<u8>, AllocError>
     ensures { IfOk result (λ page. IsPage page.items) }
 {

@@ -1,4 +1,4 @@
-//! The picture: a row for each node, its entries by number, and arrows from what was sent to what quotes it.
+//! The picture has a row for each node with its entries by number, and arrows from what was sent to what quotes it.
 
 use drawn_logs::markup::{attribute, begin, measure, part, text};
 use drawn_logs::{
@@ -10,10 +10,10 @@ use page_text::{Attribute, Page, Tag};
 use sentences::Voice;
 use std::alloc::AllocError;
 
-/// How far the rows go on beyond the picture, for a window that is wider.
+/// How far the rows go on to the right of the picture, for a window that is wider.
 const FAR: u64 = 4000;
 
-/// How wide the names of the rows are that stay in sight: they end before the first column.
+/// The width of the rows' names that stay in sight. They end before the first column.
 const NAMES: u64 = LEFT - 8;
 
 /// Writes what is beneath the entries: the lines of logs, and arrows.
@@ -47,7 +47,7 @@ fn draw_entries<V: Voice>(
     Ok(())
 }
 
-/// Writes a text of a class at a place.
+/// Begins a text of a class at a place.
 fn begin_label(page: &mut Page, class: &str, x: u64, y: u64) -> Result<(), AllocError> {
     page.write(&[Open(Tag::Text)])?;
     attribute(page, Attribute::Class, class)?;
@@ -83,7 +83,7 @@ fn draw_nothing(page: &mut Page, row: &PictureRow, band: &Band) -> Result<(), Al
     page.write(&[Text(b"nothing of its log is here"), Close(Tag::Text), Line])
 }
 
-/// Writes the rows' grounds and names, so wide.
+/// Writes the rows' grounds and names, with this width.
 fn draw_rows(
     page: &mut Page,
     rows: &[PictureRow],
@@ -120,7 +120,7 @@ fn begin_svg(page: &mut Page, width: u64, height: u64) -> Result<(), AllocError>
     attribute(page, Attribute::PreserveAspectRatio, "xMinYMin meet")
 }
 
-/// Writes the names of the rows once more, which stay in sight where the picture is wider than the window.
+/// Writes the names of the rows once more. These stay in sight if the picture is wider than the window.
 fn draw_names(page: &mut Page, choice: &Choice, layout: &Layout) -> Result<(), AllocError> {
     begin_svg(page, NAMES, layout.height)?;
     attribute(page, Attribute::Class, "names")?;
@@ -158,7 +158,7 @@ fn begin_picture(page: &mut Page, layout: &Layout) -> Result<(), AllocError> {
     page.write(&[Close(Tag::Desc), Line])
 }
 
-/// Where the first marked entry begins, or else the picture.
+/// Returns where the first marked entry begins, or else where the picture begins.
 fn start_of(cells: &[Drawn], layout: &Layout) -> u64 {
     let marked = cells.iter().position(|one| one.sentence.is_some());
     match marked {
@@ -167,7 +167,7 @@ fn start_of(cells: &[Drawn], layout: &Layout) -> u64 {
     }
 }
 
-/// Writes where a narrow window opens the picture: at the first marked entry.
+/// Writes the place at which a narrow window opens the picture: the first marked entry.
 fn write_start(page: &mut Page, x: u64) -> Result<(), AllocError> {
     begin(page, Tag::Div, "start")?;
     begin_svg(page, x, 1)?;
@@ -177,7 +177,7 @@ fn write_start(page: &mut Page, x: u64) -> Result<(), AllocError> {
     page.write(&[Close(Tag::Div), Line])
 }
 
-/// Writes the picture. Its right edge shows that there is more, where there is.
+/// Writes the picture. Its right edge shows if there is more.
 pub(crate) fn draw<V: Voice>(
     page: &mut Page,
     view: &View<'_, V>,

@@ -1,4 +1,4 @@
-//! The sections of the nodes: what is told of each, and the table of its entries.
+//! The sections of the nodes: what is said of each, and the table of its entries.
 
 use crate::folding::{count_of, fold_name, fold_words, open_of, parted};
 use crate::head::{word, write_sign};
@@ -14,7 +14,7 @@ use std::alloc::{AllocError, Global};
 use std::collections::BTreeSet;
 use std::ops::Range;
 
-/// Writes a link to a marked entry, where it is drawn.
+/// Writes a link to a marked entry, if it is drawn.
 fn write_mark(page: &mut Page, choice: &Choice, mark: &Mark) -> Result<(), AllocError> {
     if !choice.draws(mark.node, mark.seq) {
         return Ok(());
@@ -69,7 +69,7 @@ fn write_list(
     end(page, Tag::Ul)
 }
 
-/// Writes a node's sentences: of many the first ones, and the others folded to one line with their count.
+/// Writes a node's sentences. Of many it writes the first ones, and folds the others to one line with their count.
 fn write_sentences(
     page: &mut Page,
     choice: &Choice,
@@ -150,7 +150,7 @@ fn write_heading(
     end(page, Tag::H2)
 }
 
-/// Writes the table of a node, where it has a row.
+/// Writes the table of a node, if it has a row.
 fn write_row<V: Voice>(
     page: &mut Page,
     view: &View<'_, V>,
@@ -162,7 +162,7 @@ fn write_row<V: Voice>(
     end(page, Tag::Section)
 }
 
-/// Writes the section of a node that is told of.
+/// Writes the section of a node that is explained.
 fn write_node<V: Voice>(
     page: &mut Page,
     view: &View<'_, V>,
@@ -173,7 +173,7 @@ fn write_node<V: Voice>(
     write_row(page, view, told.node)
 }
 
-/// Writes the sections of the nodes of the indication that have these numbers among them, from 0.
+/// Writes the sections of those nodes of the indication that have these numbers among them. Numbers count from 0.
 fn write_some<V: Voice>(
     page: &mut Page,
     view: &View<'_, V>,
@@ -193,7 +193,7 @@ fn write_some<V: Voice>(
     Ok(())
 }
 
-/// Writes the sections of the nodes of the indication: the first of them, and the others folded to one line with their count.
+/// Writes the sections of the nodes of the indication. It writes the first of them, and folds the others to one line with their count.
 fn write_all_of<V: Voice>(
     page: &mut Page,
     view: &View<'_, V>,
@@ -220,7 +220,7 @@ fn write_all_of<V: Voice>(
     end(page, Tag::Details)
 }
 
-/// The numbers of the nodes that are told of.
+/// Returns the numbers of the nodes that are explained.
 fn numbers_of(alloc: Global, nodes: &[NodeExplanation]) -> Result<BTreeSet<u32>, AllocError> {
     let mut numbers = BTreeSet::new(alloc);
     for told in nodes {

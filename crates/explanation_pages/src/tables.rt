@@ -1,4 +1,4 @@
-//! The entries in tables, for whoever can't see the picture.
+//! The entries in tables, for readers who cannot see the picture.
 
 use crate::folding::are_tables_open;
 use drawn_logs::markup::{attribute, begin, count, element, end, part, text};
@@ -13,15 +13,15 @@ use page_text::{Attribute, Page, Tag};
 use sentences::Voice;
 use std::alloc::AllocError;
 
-/// So many bytes of a hash are shown first, where no two hashes of a table begin alike.
+/// How many bytes of a hash are shown first, if no two hashes of a table begin alike.
 const SHORT: usize = 8;
 
-/// Whether two hashes are two, and begin alike.
+/// Returns whether two hashes differ and begin alike.
 fn are_alike(one: Hash, other: Hash) -> bool {
     one != other && one.0.get(..SHORT) == other.0.get(..SHORT)
 }
 
-/// Whether a hash begins as another one of these entries does.
+/// Returns whether a hash begins as another one of these entries does.
 fn is_alike(rows: &Rows, cells: &[Drawn], hash: Hash) -> bool {
     cells.iter().any(|one| match one.cell(rows) {
         Some(cell) => are_alike(cell.place.hash, hash),
@@ -99,7 +99,7 @@ fn write_mark(page: &mut Page, one: &Drawn) -> Result<(), AllocError> {
     page.write(&[Close(Tag::Td)])
 }
 
-/// Writes the cell with the number, which leads to the picture and is no stop of the tab key.
+/// Writes the cell with the number, which links to the picture. The tab key does not stop at it.
 fn write_number(page: &mut Page, one: &Drawn) -> Result<(), AllocError> {
     page.write(&[
         Open(Tag::Th),
@@ -172,7 +172,7 @@ fn write_column(page: &mut Page, name: &'static str) -> Result<(), AllocError> {
     ])
 }
 
-/// Writes the table's beginning: it is one stop of the tab key, and has a name.
+/// Writes the table's beginning. The table is one stop of the tab key, and has a name.
 fn write_head(page: &mut Page, row: &PictureRow) -> Result<(), AllocError> {
     begin(page, Tag::Details, "whole")?;
     element(page, Tag::Summary, &[Text(b"Whole hashes")])?;
@@ -209,7 +209,7 @@ fn write_head(page: &mut Page, row: &PictureRow) -> Result<(), AllocError> {
     ])
 }
 
-/// Writes the table of a row, where something of it is drawn.
+/// Writes the table of a row, if something of it is drawn.
 pub(crate) fn write_table<V: Voice>(
     page: &mut Page,
     view: &View<'_, V>,

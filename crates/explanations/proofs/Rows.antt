@@ -1,8 +1,9 @@
 -- Rows, one for each node.
-use Rattle.std.proofs.Common.{◌≡◌, ◌∙◌, ◌<◌, ◌+◌, ℕ, zero, suc, List, [], ◌∷◌, ◌++◌, length, cond, get_or, refl, string_bytes, subst, sym, ap, take, arith}
+use Rattle.std.proofs.Common.{◌≡◌, ◌∙◌, ◌<◌, ◌+◌, ℕ, zero, suc, true, false, List, [], ◌∷◌, ◌++◌, length, cond, get_or, refl, string_bytes, subst, sym, ap, take, arith}
 use Rattle.std.specs.Prelude.{◌↔◌, count_by, map, IsTrue}
 use Rattle.std.specs.List.{All, AllByRecursion, Contains}
 use Rattle.std.specs.List.Sorted.{IsStrictlyIncreasing}
+use Rattle.std.proofs.lemmas.Bool.{true≢false}
 use Rattle.std.proofs.lemmas.List.{take_more}
 use Rattle.std.proofs.lemmas.List.Elements.{All-cons, All-nil}
 use Rattle.std.proofs.lemmas.List.Sums.{sum_by-cons}
@@ -14,13 +15,14 @@ use Rattle.evidence_set.specs.declared.indication.Indication.TheVariants.{Expose
 use Rattle.evidence_set.specs.Indications.{IsIndication}
 use Rattle.evidence_set.specs.ItemSets.{Items, count}
 use Rattle.evidence.specs.Contents.{Contents}
+use Rattle.localities.specs.Known.{IsKnown}
 use Rattle.replay_verifier.specs.Meaning.{Meaning}
 use Rattle.explanations.specs.declared.why.NodeWhy.{NodeWhy}
 use Rattle.explanations.specs.declared.why.Why.{Why}
 use Rattle.explanations.specs.declared.why.Why.TheVariants as why
 use Rattle.proofs.specs.declared.proof.Parts.{Parts}
 use Rattle.proofs.specs.Convicting.{Convicts}
-use Rattle.explanations.specs.Whys.{AreIndications, AreWhys, IsGrounded, IsWhy, MarksTrusted, Speaks, indication_of, row_of, told_of}
+use Rattle.explanations.specs.Whys.{AreIndications, AreWhys, IsGrounded, IsWhy, MarksUnknown, Speaks, indication_of, is_unknown, row_of, told_of}
 use Rattle.explanations.specs.Leads.{TellsParts}
 use Rattle.explanations.specs.Headings.{IsHeading, heading_words, is_same, is_told}
 use Rattle.explanations.specs.within.Telling.{AreTold, IsTold, TellsWhy, is_row}
@@ -154,6 +156,7 @@ grounds : {S : Type 0} (ds : Listing) (program : Meaning S) (E : Items) (node : 
 grounds ds program E node (why.Exposed q xs) n speaks is says = λ _. (q.parts, subst (λ (m : ℕ). Convicts ds program m q.parts) (sym (ap (λ (p : ℕ × Indication). p.0) is)) speaks.0, says)
 grounds ds program E node (why.Suspected xs) n speaks is says = λ e. absurd (suspected n.indication (ap (λ (p : ℕ × Indication). p.1) is) e)
 grounds ds program E node why.Trusted n speaks is says = λ e. absurd (trusted n.indication (ap (λ (p : ℕ × Indication). p.1) is) e)
+grounds ds program E node why.Unknown n speaks is says = λ e. absurd (trusted n.indication (ap (λ (p : ℕ × Indication). p.1) is) e)
 
 grounded : {S : Type 0} (ds : Listing) (program : Meaning S) (E : Items) (rows : List NodeWhy) (told : List NodeExplanation)
     → AllByRecursion (λ row. IsWhy ds program E row.node row.why) rows → AreTold rows told → AllByRecursion (IsGrounded ds program) told
@@ -167,18 +170,39 @@ all_grounded program s rows told w h =
     by_place (IsGrounded s.directory program) told
     (grounded s.directory program s.items rows told (by_recursion (λ row. IsWhy s.directory program s.items row.node row.why) rows w.right) h)
 
--- each is marked by its indication
-marked : (rows : List NodeWhy) (told : List NodeExplanation) → AreTold rows told → AllByRecursion MarksTrusted told
-marked [] [] h = tt
-marked [] (n ∷ told) h = absurd h
-marked (r ∷ rows) [] h = absurd h
-marked (r ∷ rows) (n ∷ told) h = (h.0.marked, marked rows told h.1)
+-- a node is marked by its reason
+suspected_trusted : (i : Indication) → i ≡ Suspected → i ≡ Trusted → ⊥
+suspected_trusted i s e = let both : Suspected ≡ Trusted = sym s ∙ e in absurd cc
 
-pub all_marked : (rows : List NodeWhy) (told : List NodeExplanation) → AreTold rows told → All MarksTrusted told
-all_marked rows told h = by_place MarksTrusted told (marked rows told h)
+unmarked : (ds : Listing) (E : Items) (n : NodeExplanation) → n.has_no_item ≡ false → ((n.indication ≡ Trusted) × (¬ (IsKnown ds E n.node)) → ⊥) → MarksUnknown ds E n
+unmarked ds E n off never = (λ on. absurd (true≢false (sym on ∙ off)), λ both. absurd (never both))
 
-pub one_marked : (n : NodeExplanation) (now : List NodeExplanation) → now ≡ n ∷ [] → MarksTrusted n → All MarksTrusted now
-one_marked n now e h = subst (λ (ns : List NodeExplanation). All MarksTrusted ns) (sym e) (All-cons MarksTrusted n [] h (All-nil MarksTrusted))
+marks : {S : Type 0} (ds : Listing) (program : Meaning S) (E : Items) (node : ℕ) (w : Why) (n : NodeExplanation)
+    → Speaks ds program E node w → told_of n ≡ (node, indication_of w) → n.has_no_item ≡ is_unknown w → MarksUnknown ds E n
+marks ds program E node (why.Exposed q xs) n speaks is mark = unmarked ds E n mark (λ both. trusted n.indication both.0 (ap (λ (p : ℕ × Indication). p.1) is))
+marks ds program E node (why.Suspected xs) n speaks is mark = unmarked ds E n mark (λ both. suspected_trusted n.indication (ap (λ (p : ℕ × Indication). p.1) is) both.0)
+marks ds program E node why.Trusted n speaks is mark =
+    unmarked ds E n mark (λ both. both.1 (subst (λ (m : ℕ). IsKnown ds E m) (sym (ap (λ (p : ℕ × Indication). p.0) is)) speaks))
+marks ds program E node why.Unknown n speaks is mark = (
+  λ _. (ap (λ (p : ℕ × Indication). p.1) is, λ known. speaks (subst (λ (m : ℕ). IsKnown ds E m) (ap (λ (p : ℕ × Indication). p.0) is) known)),
+  λ _. mark,
+)
+
+marked : {S : Type 0} (ds : Listing) (program : Meaning S) (E : Items) (rows : List NodeWhy) (told : List NodeExplanation)
+    → AllByRecursion (λ row. IsWhy ds program E row.node row.why) rows → AreTold rows told → AllByRecursion (MarksUnknown ds E) told
+marked ds program E [] [] right h = tt
+marked ds program E [] (n ∷ told) right h = absurd h
+marked ds program E (r ∷ rows) [] right h = absurd h
+marked ds program E (r ∷ rows) (n ∷ told) right h = (marks ds program E r.node r.why n right.0.speaks h.0.same h.0.marked, marked ds program E rows told right.1 h.1)
+
+pub all_marked : {S : Type 0} (program : Meaning S) (s : Contents) (rows : List NodeWhy) (told : List NodeExplanation) → AreWhys program s rows → AreTold rows told → All (MarksUnknown s.directory s.items) told
+all_marked program s rows told w h =
+    by_place (MarksUnknown s.directory s.items) told
+    (marked s.directory program s.items rows told (by_recursion (λ row. IsWhy s.directory program s.items row.node row.why) rows w.right) h)
+
+pub one_unmarked : (n : NodeExplanation) (now : List NodeExplanation) → now ≡ n ∷ [] → n.has_no_item ≡ false → All (λ m. m.has_no_item ≡ false) now
+one_unmarked n now e h =
+    subst (λ (ns : List NodeExplanation). All (λ m. m.has_no_item ≡ false) ns) (sym e) (All-cons (λ m. m.has_no_item ≡ false) n [] h (All-nil (λ m. m.has_no_item ≡ false)))
 
 -- what is told of one node
 pub one_node : (x : Parts) (n : NodeExplanation) (now : List NodeExplanation) → now ≡ n ∷ [] → TellsParts x n.sentences.items → All (λ m. TellsParts x m.sentences.items) now

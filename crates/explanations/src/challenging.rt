@@ -12,7 +12,7 @@ fn say_audit(lines: &mut Lines, place: u64, challenge: &AuditChallenge) -> Resul
     }
 }
 
-/// The same, where the log is asked for from another entry on.
+/// Says the same, if the challenge asks for the log from another entry on.
 fn say_range(
     lines: &mut Lines,
     place: u64,
@@ -35,7 +35,7 @@ fn say_range(
     lines.say(answer)
 }
 
-/// The same, where the log is asked for from its beginning on.
+/// Says the same, if the challenge asks for the log from its beginning on.
 fn say_front(lines: &mut Lines, place: u64, challenge: &AuditChallenge) -> Result<(), Memory> {
     let alloc = lines.alloc();
     let node = challenge.node;
@@ -90,7 +90,7 @@ fn say_challenge<V: Voice>(
     }
 }
 
-/// Says of each open challenge what it asks for, and what would answer it. Beside them stand the places of their items.
+/// Says of each open challenge what it asks for, and what would answer it. `places` has the places of their items, in the same order.
 pub(crate) fn say_challenges<V: Voice>(
     lines: &mut Lines,
     voice: &V,

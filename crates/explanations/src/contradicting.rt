@@ -1,4 +1,4 @@
-//! Statements that are not of one log, in sentences.
+//! Statements and segments that are not of one log, in sentences.
 
 ghost use Rattle.std.specs.Prelude.{◌≡◌, ◌⊎◌, IfOk, string_bytes};
 ghost use Rattle.explanations.specs.Leads.{Begins, IsDenied, IsSaidTwice, hash_words, number_words, signed_words, twice_words, two_hashes_words};
@@ -13,14 +13,14 @@ use outcome::Memory;
 use sentences::{Lines, Logged, Sentence, Site, Sites, Voice};
 use std::alloc::{AllocError, Global};
 
-/// A hash, in words.
+/// Returns a hash, in words.
 fn hash_front(alloc: Global, hash: Hash) -> Result<String, AllocError>
     ensures { IfOk result (λ text. string_bytes text ≡ hash_words hash) }
 {
     format!(in alloc; "Hash {hash}:")
 }
 
-/// The sentence that names a hash of the node, and where it is signed.
+/// Returns the sentence that names a hash of the node, and where it is signed.
 fn hash_sentence(
     alloc: Global,
     node: NodeId,
@@ -38,21 +38,21 @@ fn hash_sentence(
     Ok(sentence)
 }
 
-/// That a node signed two hashes, in words.
+/// Returns the words that say that a node signed two hashes.
 fn twice_front(alloc: Global, node: NodeId) -> Result<String, AllocError>
     ensures { IfOk result (λ text. string_bytes text ≡ twice_words node) }
 {
     format!(in alloc; "Node {node} signed two hashes for entry ")
 }
 
-/// The number of an entry of its log, in words.
+/// Returns the number of an entry of its log, in words.
 fn number_of_log(alloc: Global, seq: u64) -> Result<String, AllocError>
     ensures { IfOk result (λ text. string_bytes text ≡ number_words seq) }
 {
     format!(in alloc; "{seq} of its log.")
 }
 
-/// That a node signed two hashes for one entry, in words.
+/// Returns the words that say that a node signed two hashes for one entry.
 fn two_hashes_front(alloc: Global, node: NodeId, seq: u64) -> Result<String, AllocError>
     ensures { IfOk result (λ text. string_bytes text ≡ two_hashes_words node seq) }
 {
@@ -62,7 +62,7 @@ fn two_hashes_front(alloc: Global, node: NodeId, seq: u64) -> Result<String, All
     Ok(text)
 }
 
-/// The sentence that the node signed two hashes for one entry.
+/// Returns the sentence that says that the node signed two hashes for one entry.
 fn two_hashes_sentence(alloc: Global, node: NodeId, seq: u64) -> Result<Sentence, Memory>
     ensures { IfOk result (λ s. Begins s (two_hashes_words node seq)) }
 {
@@ -73,7 +73,7 @@ fn two_hashes_sentence(alloc: Global, node: NodeId, seq: u64) -> Result<Sentence
     Ok(sentence)
 }
 
-/// Which two hashes a node signed for one entry, and where, in this order.
+/// Returns the sentences that say which two hashes a node signed for one entry, and where, in this order.
 fn two_hashes_in_order(
     alloc: Global,
     one: &Authenticator,
@@ -90,7 +90,7 @@ fn two_hashes_in_order(
     Ok(lead)
 }
 
-/// Which two hashes a node signed for one entry, and where: first the one that stands first.
+/// Returns the sentences that say which two hashes a node signed for one entry, and where. The hash that stands first comes first.
 pub(crate) fn two_hashes_lead(
     alloc: Global,
     one: &Authenticator,
@@ -128,7 +128,7 @@ pub(crate) enum Denial {
     },
 }
 
-/// How a statement with this number contradicts the segment, where it does.
+/// Returns how a statement with this number contradicts the segment, if it does.
 pub(crate) fn denial_of(seq: u64, segment: &Segment) -> Denial {
     let entries = segment.entries.as_slice();
     let first = match entries {
@@ -148,7 +148,7 @@ pub(crate) fn denial_of(seq: u64, segment: &Segment) -> Denial {
     }
 }
 
-/// How a statement contradicts a segment, in the words behind its number.
+/// Returns how a statement contradicts a segment, in the words behind its number.
 fn denial_words(alloc: Global, denial: Denial) -> Result<String, AllocError> {
     match denial {
         Denial::LeftOut => format!(in alloc; "that its own log leaves out."),
@@ -162,7 +162,7 @@ fn denial_words(alloc: Global, denial: Denial) -> Result<String, AllocError> {
     }
 }
 
-/// That a node signed a hash, in words.
+/// Returns the words that say that a node signed a hash.
 fn signed_front(alloc: Global, node: NodeId, seq: u64) -> Result<String, AllocError>
     ensures { IfOk result (λ text. string_bytes text ≡ signed_words node seq) }
 {
@@ -172,7 +172,7 @@ fn signed_front(alloc: Global, node: NodeId, seq: u64) -> Result<String, AllocEr
     Ok(text)
 }
 
-/// The sentence that a statement of the node contradicts its log so.
+/// Returns the sentence that says that a statement of the node contradicts its log so.
 fn denial_sentence(
     alloc: Global,
     node: NodeId,
@@ -188,7 +188,7 @@ fn denial_sentence(
     Ok(sentence)
 }
 
-/// How a statement and a segment of its node contradict each other, and where they stand.
+/// Returns the sentences that say how a statement and a segment of its node contradict each other, and where they stand.
 pub(crate) fn denial_lead(
     alloc: Global,
     auth: &Authenticator,

@@ -1,4 +1,4 @@
-//! What is told of a proof.
+//! What is said of a proof.
 
 ghost use Rattle.std.specs.Prelude.{◌≡◌, ◌∷◌, [], Err, IfOk, Ok, Some, ℕ, string_bytes};
 ghost use Rattle.outcome.specs.Outcome.{Gives};
@@ -19,16 +19,16 @@ use replay_verifier::{Program, replay};
 use sentences::{Explanation, NodeExplanation, Role, Site, Voice};
 use std::alloc::{AllocError, Global};
 
-/// Whom a proof convicts, and what is told of it.
+/// The node that a proof convicts, and what is said of it.
 #[derive(Debug, Drop)]
 pub struct Conviction {
     /// The node that it convicts.
     pub node: NodeId,
-    /// What is told: of that node alone, which is exposed.
+    /// What is said of that node alone, which is exposed.
     pub explanation: Explanation,
 }
 
-/// Places a statement in this part of the proof.
+/// Notes that a statement stands in this part of the proof.
 fn place_statement(sought: &mut Option<Found>, place: u64) -> Result<(), Memory> {
     if let Some(found) = sought {
         found.sites.push(Site::part(place, Role::Statement))?;
@@ -36,7 +36,7 @@ fn place_statement(sought: &mut Option<Found>, place: u64) -> Result<(), Memory>
     Ok(())
 }
 
-/// Where a proof's parts stand, and what is found of them.
+/// Returns where a proof's parts stand, and what is found of them.
 fn grounds_of<P: Program>(
     alloc: Global,
     program: &P,
@@ -70,7 +70,7 @@ fn grounds_of<P: Program>(
     Ok(grounds)
 }
 
-/// The parts of a proof, in words.
+/// Returns the parts of a proof, in words.
 fn words_of(parts: &Parts) -> &'static str
     ensures { result.now ≡ parts_words parts.now }
 {
@@ -81,7 +81,7 @@ fn words_of(parts: &Parts) -> &'static str
     }
 }
 
-/// The line about a proof of these parts: whom it convicts, and the parts.
+/// Returns the line about a proof of these parts: whom it convicts, and the parts.
 fn heading_of(alloc: Global, node: NodeId, parts: &Parts) -> Result<String, AllocError>
     ensures { IfOk result (λ text. string_bytes text ≡ proof_words node parts.now) }
 {
@@ -91,7 +91,7 @@ fn heading_of(alloc: Global, node: NodeId, parts: &Parts) -> Result<String, Allo
     Ok(text)
 }
 
-/// One node.
+/// Returns a list of one node.
 fn one(alloc: Global, told: NodeExplanation) -> Result<Vec<NodeExplanation>, Memory>
     ensures { IfOk result (λ nodes. nodes.items ≡ told ∷ []) }
 {
@@ -100,7 +100,7 @@ fn one(alloc: Global, told: NodeExplanation) -> Result<Vec<NodeExplanation>, Mem
     Ok(nodes)
 }
 
-/// What is told of a proof that convicts the node.
+/// Returns what is said of a proof that convicts the node.
 fn explanation_of<P: Program, V: Voice>(
     alloc: Global,
     program: &P,
@@ -129,8 +129,8 @@ fn explanation_of<P: Program, V: Voice>(
     Ok(Explanation { heading, nodes })
 }
 
-/// Whom a proof convicts, as [`check_proof`] tells, and what is told of it, with payloads said by the voice; or why it is refused, as
-/// there.
+/// Returns which node a proof convicts, as [`check_proof`] does, and what is said of that node, with payloads said by the voice. If the
+/// proof is refused, the error is that of [`check_proof`], or `Memory` (99).
 pub fn explain_proof<P: Program, V: Voice>(
     alloc: Global,
     program: &P,
@@ -138,11 +138,11 @@ pub fn explain_proof<P: Program, V: Voice>(
     directory: &Directory,
     proof: &Proof,
 ) -> Result<Conviction, ProofFault>
-    // Whom it convicts, or why it is refused.
+    // The result is the node that the proof convicts, or why it is refused.
     ensures told { Tells directory.now P.means proof.now.parts (convicted_of result) }
-    // Where it convicts a node, that node is told, unless memory runs out.
+    // If the proof convicts a node, the result is that node, unless memory runs out.
     ensures only { (node : ℕ) → Convicts directory.now P.means node proof.now.parts → Gives fault.Memory (λ c. c.node) result (Ok node) }
-    // What is told of the parts before a segment's signature is told, whether there is memory or not.
+    // A fault that shows before a segment's signature is verified is reported, whether there is memory or not.
     ensures early { (e : TheFault) → early_fault_of directory.now proof.now.parts ≡ Some e → result ≡ Err e }
     // The explanation is of that node, which is exposed, and of the proof's parts.
     ensures explanation { IfOk result (λ c. ExplainsParts c.node proof.now.parts c.explanation) }

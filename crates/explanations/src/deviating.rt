@@ -17,7 +17,7 @@ use replay_verifier::{Program, Reason, Receipt, Stand, Verdict, stand_behind};
 use sentences::{Kind, Lines, Logged, Sending, Sentence, Shown, Sites, Voice};
 use std::alloc::{AllocError, Global};
 
-/// A reason in words.
+/// Returns a reason in words.
 fn words_of(reason: Reason) -> &'static str {
     match reason {
         Reason::SeqOrder => "its number is not above the one before",
@@ -36,13 +36,13 @@ fn words_of(reason: Reason) -> &'static str {
     }
 }
 
-/// The hash of the entry behind so many others of the segment.
+/// Returns the hash of the entry behind `at` others of the segment.
 pub(crate) fn hash_behind(segment: &Segment, at: usize) -> Option<Hash> {
     let front = segment.entries.as_slice().get(..=at)?;
     Some(chain_end(segment.prev, front))
 }
 
-/// A sentence of the entry behind so many others of the segment.
+/// Returns a sentence about the entry behind `at` others of the segment.
 fn entry_sentence(
     alloc: Global,
     segment: &Segment,
@@ -59,7 +59,7 @@ fn entry_sentence(
     Ok(sentence)
 }
 
-/// Where the segment deviates, and why, in the words behind the node's.
+/// Returns where the segment deviates, and why, in the words behind the node's.
 fn place_words(alloc: Global, entry: &Entry, reason: Reason) -> Result<String, AllocError> {
     let seq = entry.seq;
     let kind = Kind(entry.kind);
@@ -71,7 +71,7 @@ fn place_words(alloc: Global, entry: &Entry, reason: Reason) -> Result<String, A
 /// A place of a segment: behind how many entries, at which one, and why it deviates there.
 type Place<'a> = (usize, &'a Entry, Reason);
 
-/// The words behind those that a node deviates.
+/// Returns the words behind those that say that a node deviates.
 fn rest_of_words(alloc: Global, deviation: Option<Place<'_>>) -> Result<String, AllocError> {
     match deviation {
         Some((_, entry, reason)) => place_words(alloc, entry, reason),
@@ -79,14 +79,14 @@ fn rest_of_words(alloc: Global, deviation: Option<Place<'_>>) -> Result<String, 
     }
 }
 
-/// That a node deviates from its program, in words.
+/// Returns the words that say that a node deviates from its program.
 fn deviates_front(alloc: Global, node: NodeId) -> Result<String, AllocError>
     ensures { IfOk result (λ text. string_bytes text ≡ deviates_words node) }
 {
     format!(in alloc; "Node {node} deviates from its program")
 }
 
-/// A sentence of the place at which a segment deviates.
+/// Returns a sentence about the place at which a segment deviates.
 fn sentence_at(
     alloc: Global,
     segment: &Segment,
@@ -102,7 +102,7 @@ fn sentence_at(
     Ok(sentence)
 }
 
-/// The sentence where the segment deviates, and why.
+/// Returns the sentence that says where the segment deviates, and why.
 fn place_sentence(
     alloc: Global,
     segment: &Segment,
@@ -117,7 +117,7 @@ fn place_sentence(
     Ok(sentence)
 }
 
-/// The first number of entries; 0 where there is none.
+/// Returns the number of the first entry, or 0 if there is none.
 fn first_of(entries: &[Entry]) -> u64
     ensures { result ≡ first_seq entries.now }
 {
@@ -127,7 +127,7 @@ fn first_of(entries: &[Entry]) -> u64
     }
 }
 
-/// The last number of a segment; 0 where it has no entry.
+/// Returns the number of a segment's last entry, or 0 if it has none.
 fn last_of(segment: &Segment) -> u64
     ensures { result ≡ last_seq segment.now.entries }
 {
@@ -137,7 +137,7 @@ fn last_of(segment: &Segment) -> u64
     }
 }
 
-/// From where to where a segment goes, in words.
+/// Returns the words that say from where to where a segment goes.
 fn segment_front(alloc: Global, segment: &Segment) -> Result<String, AllocError>
     ensures { IfOk result (λ text. string_bytes text ≡ segment_words segment.now) }
 {
@@ -149,7 +149,7 @@ fn segment_front(alloc: Global, segment: &Segment) -> Result<String, AllocError>
     Ok(text)
 }
 
-/// The sentence where the segment stands.
+/// Returns the sentence that says where the segment stands.
 pub(crate) fn segment_sentence(
     alloc: Global,
     segment: &Segment,
@@ -165,7 +165,7 @@ pub(crate) fn segment_sentence(
     Ok(sentence)
 }
 
-/// Says which message the program sends there, where it sends one.
+/// Says which message the program sends there, if it sends one.
 fn say_awaited<V: Voice, S>(
     lines: &mut Lines,
     voice: &V,
@@ -186,7 +186,7 @@ fn say_awaited<V: Voice, S>(
     }
 }
 
-/// Says in which state the program is there, where a CHECKPOINT has another one.
+/// Says in which state the program is there, if a CHECKPOINT has another one.
 fn say_state<P: Program>(
     lines: &mut Lines,
     program: &P,
@@ -202,7 +202,7 @@ fn say_state<P: Program>(
     lines.say(text)
 }
 
-/// The sender and the send number of a message that an entry quotes.
+/// Returns the sender and the send number of a message that an entry quotes.
 fn quoted_number(entry: &Entry) -> Option<(u32, u64)> {
     match Receipt::read(entry.content.as_slice()) {
         Some(receipt) => Some((receipt.from.0, receipt.seq)),
@@ -210,7 +210,7 @@ fn quoted_number(entry: &Entry) -> Option<(u32, u64)> {
     }
 }
 
-/// Where among these the entry stands that quotes a message of the same sender and number.
+/// Returns the place among these entries of the one that quotes a message with the same sender and number.
 fn same_quote(entries: &[Entry], entry: &Entry) -> Option<usize> {
     let number = quoted_number(entry)?;
     for (at, earlier) in entries.iter().enumerate() {
@@ -221,7 +221,7 @@ fn same_quote(entries: &[Entry], entry: &Entry) -> Option<usize> {
     None
 }
 
-/// Where the entry before this one stands that it does not agree with, where the reason speaks of one.
+/// Returns the place of the earlier entry that this one does not agree with, if the reason speaks of one.
 fn rival(earlier: &[Entry], entry: &Entry, reason: Reason) -> Option<usize> {
     match reason {
         Reason::SeqOrder => earlier.len().checked_sub(1),
@@ -230,7 +230,7 @@ fn rival(earlier: &[Entry], entry: &Entry, reason: Reason) -> Option<usize> {
     }
 }
 
-/// Says which entry before this one it does not agree with, where there is one.
+/// Says which earlier entry this one does not agree with, if there is one.
 fn say_rival<V: Voice>(
     lines: &mut Lines,
     voice: &V,
@@ -259,7 +259,7 @@ fn say_logged<V: Voice>(lines: &mut Lines, voice: &V, entry: &Entry) -> Result<(
     lines.say(text)
 }
 
-/// Where the log of the segment stands behind the entries before the one at which it deviates; none at its first entry.
+/// Returns where the log of the segment stands behind the entries before the one at which it deviates. Returns `None` at its first entry.
 fn stand_there<P: Program>(
     alloc: Global,
     program: &P,
@@ -290,7 +290,7 @@ fn say_before<P: Program, V: Voice>(
     say_state(lines, under.program, &stand, reason)
 }
 
-/// Where the segment deviates, by its verdict: behind how many entries, at which one, and why.
+/// Returns where the segment deviates, by its verdict: behind how many entries, at which one, and why.
 fn deviation_of<'a>(segment: &'a Segment, found: &FoundSegment) -> Option<Place<'a>> {
     let Some(Verdict::Deviates { at, reason }) = found.verdict else {
         return None;
@@ -299,7 +299,7 @@ fn deviation_of<'a>(segment: &'a Segment, found: &FoundSegment) -> Option<Place<
     Some((at, entry, reason))
 }
 
-/// Where a segment deviates and why, and where it stands.
+/// Returns the sentences that say where a segment deviates and why, and where it stands.
 pub(crate) fn deviation_lead(
     alloc: Global,
     segment: &Segment,

@@ -7,14 +7,14 @@ use sentences::{Count, Lines, Site};
 use std::alloc::Global;
 use std::fmt;
 
-/// So many items are told at most.
+/// The greatest number of items that are named.
 const MOST_ITEMS: usize = 12;
 
 /// Items in order.
 #[derive(Clone, Copy)]
 struct Items<'a>(&'a [u64]);
 
-/// Writes an item behind others.
+/// Writes an item after others.
 fn write_item<W: fmt::Write>(first: bool, item: u64, f: &mut fmt::Formatter<W>) -> fmt::Result {
     if !first {
         f.write_str(", ")?;
@@ -22,7 +22,7 @@ fn write_item<W: fmt::Write>(first: bool, item: u64, f: &mut fmt::Formatter<W>) 
     write!(f, "item {item}")
 }
 
-/// Writes how many items are not told.
+/// Writes how many items are not named.
 fn write_others<W: fmt::Write>(len: usize, f: &mut fmt::Formatter<W>) -> fmt::Result {
     if len <= MOST_ITEMS {
         return Ok(());
@@ -31,7 +31,7 @@ fn write_others<W: fmt::Write>(len: usize, f: &mut fmt::Formatter<W>) -> fmt::Re
     write!(f, ", and {others} more")
 }
 
-/// `item 2, item 5`: the first twelve, and how many there are more.
+/// Writes the first twelve items, such as `item 2, item 5`, and then how many more there are.
 impl<'a> fmt::Display for Items<'a> {
     fn fmt<W: fmt::Write>(&self, f: &mut fmt::Formatter<W>) -> fmt::Result {
         let mut first = true;
@@ -43,19 +43,19 @@ impl<'a> fmt::Display for Items<'a> {
     }
 }
 
-/// Whether the item is one of these places.
+/// Returns whether the item is one of these places.
 fn is_at(sites: &[Site], item: u64) -> bool {
     sites.iter().any(|site| site.place == item)
 }
 
-/// Whether a part of the proof stands in the item.
+/// Returns whether a part of the proof stands in the item.
 fn is_told(grounds: &Grounds, item: u64) -> bool {
     let first = is_at(sites_of(&grounds.first), item);
     let second = is_at(sites_of(&grounds.second), item);
     first || second || is_at(&grounds.segment.sites, item)
 }
 
-/// The items that convict the node, beside those of the parts of its proof.
+/// Returns the items that convict the node, beside those of the parts of its proof.
 fn further_items(alloc: Global, found: &NodePlaces) -> Result<Vec<u64>, Memory> {
     let mut further = Vec::new(alloc);
     let Some(held) = &found.held else {
@@ -69,7 +69,7 @@ fn further_items(alloc: Global, found: &NodePlaces) -> Result<Vec<u64>, Memory> 
     Ok(further)
 }
 
-/// Says how many further items convict the node, where there are some.
+/// Says how many further items convict the node, if there are any.
 pub(crate) fn say_further(lines: &mut Lines, found: &NodePlaces) -> Result<(), Memory> {
     let alloc = lines.alloc();
     let further = further_items(alloc, found)?;

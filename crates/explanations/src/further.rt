@@ -21,7 +21,7 @@ struct Stretch {
     last: u64,
     /// The hash before its first entry.
     prev: Hash,
-    /// How many entries of other segments stand before its own, and of it too.
+    /// How many entries of other segments stand before its own; and that number with its own added.
     from: usize,
     to: usize,
 }
@@ -38,12 +38,12 @@ pub(crate) struct Held {
     deviating: Vec<u64>,
 }
 
-/// The first of all hashes, and the last.
+/// The first of all hashes in order.
 const LEAST: Hash = Hash([0; 32]);
 
 const GREATEST: Hash = Hash([255; 32]);
 
-/// Where a hash of a number begins and ends among others in order. Items have numbers between.
+/// Returns where a hash of a number begins and ends among others in order. Numbers of items lie between.
 fn at(seq: u64, hash: Hash) -> (Stated, Stated) {
     let begin = Stated { seq, hash, item: 0 };
     let end = Stated {
@@ -54,32 +54,32 @@ fn at(seq: u64, hash: Hash) -> (Stated, Stated) {
     (begin, end)
 }
 
-/// How many of those in order are before this one.
+/// Returns how many of these, which are in order, come before this one.
 fn before(sorted: &[Stated], one: Stated) -> u64 {
     match sorted.binary_search(&one) {
         Ok(count) | Err(count) => count as u64,
     }
 }
 
-/// How many of those in order have the number and the hash.
+/// Returns how many of these, which are in order, have the number and the hash.
 fn count_of(sorted: &[Stated], seq: u64, hash: Hash) -> u64 {
     let (begin, end) = at(seq, hash);
     before(sorted, end).saturating_sub(before(sorted, begin))
 }
 
-/// How many of those in order have a number from this one to that one.
+/// Returns how many of these, which are in order, have a number from `first` to `last`.
 fn count_within(sorted: &[Stated], first: u64, last: u64) -> u64 {
     let (begin, _) = at(first, LEAST);
     let (_, end) = at(last, GREATEST);
     before(sorted, end).saturating_sub(before(sorted, begin))
 }
 
-/// Whether some of those in order has the number and another hash.
+/// Returns whether one of these, which are in order, has the number and another hash.
 fn has_other(sorted: &[Stated], seq: u64, hash: Hash) -> bool {
     count_within(sorted, seq, seq) > count_of(sorted, seq, hash)
 }
 
-/// Whether numbers rise.
+/// Returns whether the numbers rise.
 fn are_rising(entries: &[Stated]) -> bool {
     let mut last: Option<u64> = None;
     for entry in entries {
@@ -102,11 +102,11 @@ struct Orders {
     ends: Vec<Stated>,
     /// Their entries.
     entries: Vec<Stated>,
-    /// The greatest first number of those that begin the log; none where there is none.
+    /// The greatest first number of segments that begin the log; `None` if there is none.
     begun: Option<u64>,
 }
 
-/// The entry before a segment, and one of no hash at its last number.
+/// Returns an entry with the hash before a segment at its first number, and one with the least hash at its last number.
 fn sides_of(one: &Stretch) -> (Stated, Stated) {
     let item = one.item;
     let start = Stated {
@@ -123,7 +123,7 @@ fn sides_of(one: &Stretch) -> (Stated, Stated) {
 }
 
 impl Orders {
-    /// The orders of these.
+    /// Returns the orders of these segments.
     fn of(alloc: Global, held: &Held) -> Result<Orders, Memory> {
         let mut orders = Orders {
             starts: Vec::new(alloc),
@@ -145,14 +145,14 @@ impl Orders {
         Ok(orders)
     }
 
-    /// How many segments have entries up to this number and from it on.
+    /// Returns how many segments have entries up to this number and from it on.
     fn count_around(&self, seq: u64) -> u64 {
         let begun = count_within(&self.starts, 0, seq);
         let (end, _) = at(seq, LEAST);
         begun.saturating_sub(before(&self.ends, end))
     }
 
-    /// Whether some segment contradicts a statement of the number and the hash.
+    /// Returns whether some segment contradicts a statement of the number and the hash.
     fn deny(&self, seq: u64, hash: Hash) -> bool {
         if self.count_around(seq) > count_of(&self.entries, seq, hash) {
             return true;
@@ -177,7 +177,7 @@ struct Statements {
 }
 
 impl Statements {
-    /// The orders of these.
+    /// Returns these statements in order.
     fn of(alloc: Global, held: &Held) -> Result<Statements, Memory> {
         let mut all = Vec::from_slice(alloc, &held.statements)?;
         all.sort()?;
@@ -189,7 +189,7 @@ impl Statements {
         Ok(Statements { all, each })
     }
 
-    /// How many of the entries are stated.
+    /// Returns how many of the entries are stated.
     fn count_in(&self, entries: &[Stated]) -> u64 {
         let mut count: u64 = 0;
         for entry in entries {
@@ -200,7 +200,7 @@ impl Statements {
         count
     }
 
-    /// Whether some statement contradicts the segment, which has these entries.
+    /// Returns whether some statement contradicts the segment, which has these entries.
     fn deny(&self, one: &Stretch, entries: &[Stated]) -> bool {
         if count_within(&self.each, one.first, one.last) > self.count_in(entries) {
             return true;
@@ -215,7 +215,7 @@ impl Statements {
 }
 
 impl Held {
-    /// Nothing. It takes no memory.
+    /// Returns a value that holds nothing. It takes no memory.
     pub(crate) fn new(alloc: Global) -> Held {
         Held {
             statements: Vec::new(alloc),
@@ -272,7 +272,7 @@ impl Held {
         Ok(())
     }
 
-    /// The items of the statements that contradict another one, or a segment.
+    /// Returns the items of the statements that contradict another one, or a segment.
     fn denying(&self, alloc: Global) -> Result<Vec<u64>, Memory> {
         let orders = Orders::of(alloc, self)?;
         let statements = Statements::of(alloc, self)?;
@@ -285,7 +285,7 @@ impl Held {
         Ok(items)
     }
 
-    /// The items of the segments that a statement contradicts.
+    /// Returns the items of the segments that a statement contradicts.
     fn denied(&self, alloc: Global) -> Result<Vec<u64>, Memory> {
         let statements = Statements::of(alloc, self)?;
         let mut items = Vec::new(alloc);
@@ -298,8 +298,8 @@ impl Held {
         Ok(items)
     }
 
-    /// The items that convict the node: those with a statement that contradicts another one or a segment, and the segments that a
-    /// statement contradicts, or that deviate. They ascend, each once. It takes the time of sorting what there is.
+    /// Returns the items that convict the node: those with a statement that contradicts another one or a segment, and the segments that a
+    /// statement contradicts or that deviate. They ascend, each once. The time is that of sorting what there is.
     pub(crate) fn convicting(&self, alloc: Global) -> Result<Vec<u64>, Memory> {
         let mut items = self.denying(alloc)?;
         items.append(&mut self.denied(alloc)?)?;

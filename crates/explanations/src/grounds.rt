@@ -1,4 +1,4 @@
-//! What a proof's parts are in an input: where they stand, and what was found of them.
+//! What is known of a proof's parts in an input: where they stand, and what was found of them.
 
 use authenticators::Authenticator;
 use item_forms::Hash;
@@ -17,7 +17,7 @@ pub(crate) struct Found {
 }
 
 impl Found {
-    /// Notes that a statement stands in the item, where it is this one.
+    /// Notes that a statement stands in the item, if it is this one.
     fn note(&mut self, seq: u64, hash: Hash, item: u64, role: &Role) -> Result<(), Memory> {
         if self.seq != seq || self.hash != hash {
             return Ok(());
@@ -27,7 +27,7 @@ impl Found {
     }
 }
 
-/// Where a convicting statement stands; nowhere where none is sought.
+/// Returns where a convicting statement stands. There are no places if none is sought.
 pub(crate) fn sites_of(found: &Option<Found>) -> &[Site] {
     match found {
         Some(found) => found.sites.as_slice(),
@@ -35,7 +35,7 @@ pub(crate) fn sites_of(found: &Option<Found>) -> &[Site] {
     }
 }
 
-/// The first of these places: 0 where none is known.
+/// Returns the first of these places, or 0 if none is known.
 pub(crate) fn first_place_of(sites: &[Site]) -> u64 {
     match sites {
         [first, ..] => first.place,
@@ -58,7 +58,7 @@ pub(crate) struct Grounds {
     pub(crate) segment: FoundSegment,
 }
 
-/// A statement of which no place is known yet. It takes no memory.
+/// Returns a statement of which no place is known yet. It takes no memory.
 fn sought(alloc: Global, authenticator: &Authenticator) -> Found {
     Found {
         seq: authenticator.seq,
@@ -68,7 +68,7 @@ fn sought(alloc: Global, authenticator: &Authenticator) -> Found {
 }
 
 impl Grounds {
-    /// Nothing is sought.
+    /// Returns grounds in which nothing is sought.
     pub(crate) fn none(alloc: Global) -> Grounds {
         Grounds {
             first: None,
@@ -80,7 +80,7 @@ impl Grounds {
         }
     }
 
-    /// The parts of the proof are sought. It takes no memory.
+    /// Returns grounds in which the parts of the proof are sought. It takes no memory.
     pub(crate) fn of_proof(alloc: Global, proof: &Proof) -> Grounds {
         let mut grounds = Grounds::none(alloc);
         match proof.parts() {
@@ -94,7 +94,7 @@ impl Grounds {
         grounds
     }
 
-    /// Notes that a statement of the node stands in the item, where it is sought.
+    /// Notes that a statement of the node stands in the item, if it is sought.
     pub(crate) fn note(
         &mut self,
         seq: u64,
@@ -107,7 +107,7 @@ impl Grounds {
     }
 }
 
-/// Notes that a statement stands in the item, where it is the sought one.
+/// Notes that a statement stands in the item, if it is the sought one.
 fn note_in(
     sought: &mut Option<Found>,
     seq: u64,

@@ -11,7 +11,7 @@ use evidence_set::Indication;
 use sentences::FormCounts;
 use std::alloc::{AllocError, Global};
 
-/// Whether two indications are the same one.
+/// Returns whether two indications are the same one.
 fn is_same(one: Indication, other: Indication) -> bool
     ensures { result ≡ is_same one other }
 {
@@ -23,28 +23,28 @@ fn is_same(one: Indication, other: Indication) -> bool
     }
 }
 
-/// Whether a node is of the indication.
+/// Returns whether a node is of the indication.
 fn is_row(indication: Indication, row: &NodeWhy<'_>) -> bool
     ensures { result ≡ is_row indication row.now }
 {
     is_same(indication, row.why.indication())
 }
 
-/// How many nodes are of the indication.
+/// Returns how many nodes are of the indication.
 fn count_of(whys: &[NodeWhy<'_>], indication: Indication) -> usize
     ensures { result ≡ count_by (is_row indication) whys.now }
 {
     whys.iter().filter(|row| is_row(indication, row)).count()
 }
 
-/// The word for one, or the word for more.
+/// Returns the word for one, or the word for any other number.
 fn word_of(count: u64, one: &'static str, more: &'static str) -> &'static str
     ensures { result.now ≡ (if count == 1 then one.now else more.now) }
 {
     if count == 1 { one } else { more }
 }
 
-/// A number of things, with the word for one and the word for more.
+/// Returns a number of things in words, with the word for one and the word for any other number.
 fn counted(
     alloc: Global,
     count: u64,
@@ -58,7 +58,7 @@ fn counted(
     Ok(text)
 }
 
-/// So many are trusted, suspected and exposed.
+/// Returns the words that say how many nodes are trusted, suspected and exposed.
 fn indications_of(
     alloc: Global,
     trusted: usize,
@@ -75,7 +75,7 @@ fn indications_of(
     Ok(text)
 }
 
-/// So many nodes, by indication, and so many items.
+/// Returns the words that say how many nodes there are, by indication, and how many items.
 fn words_of(
     alloc: Global,
     nodes: usize,
@@ -91,7 +91,7 @@ fn words_of(
     Ok(text)
 }
 
-/// The nodes by indication, and how many items there are.
+/// Returns the words for the nodes by indication, and for the number of items.
 fn front_of(alloc: Global, whys: &[NodeWhy<'_>], items: u64) -> Result<String, AllocError>
     ensures { IfOk result (λ text. string_bytes text ≡ heading_words (length whys.now) (count_by (is_row Trusted) whys.now) (count_by (is_row Suspected) whys.now) (count_by (is_row Exposed) whys.now) items) }
 {
@@ -103,7 +103,7 @@ fn front_of(alloc: Global, whys: &[NodeWhy<'_>], items: u64) -> Result<String, A
     Ok(text)
 }
 
-/// The line about a store: its nodes by indication, and its items by form.
+/// Returns the line about a store: its nodes by indication, and its items by form.
 pub(crate) fn heading_of(
     alloc: Global,
     whys: &[NodeWhy<'_>],

@@ -1,4 +1,4 @@
-//! Texts and sentences one behind the other.
+//! Texts and sentences, joined one behind the other.
 
 ghost use Rattle.std.specs.Prelude.{◌≡◌, ◌++◌, ◌∷◌, [], List, IfOk, string_bytes};
 ghost use Rattle.sentences.specs.declared.explanation.Sentence.{Sentence as TheSentence};
@@ -7,7 +7,7 @@ use outcome::Memory;
 use sentences::{Lines, Sentence};
 use std::alloc::{AllocError, Global};
 
-/// A text, and another one behind it.
+/// Returns a text with another one behind it.
 pub(crate) fn joined(front: String, rest: &String) -> Result<String, AllocError>
     ensures { IfOk result (λ text. string_bytes text ≡ string_bytes front ++ string_bytes rest.now) }
 {
@@ -16,7 +16,7 @@ pub(crate) fn joined(front: String, rest: &String) -> Result<String, AllocError>
     Ok(text)
 }
 
-/// Two sentences.
+/// Returns a list of two sentences.
 pub(crate) fn two(alloc: Global, first: Sentence, second: Sentence) -> Result<Vec<Sentence>, Memory>
     ensures { IfOk result (λ all. all.items ≡ first ∷ second ∷ []) }
 {
@@ -26,7 +26,7 @@ pub(crate) fn two(alloc: Global, first: Sentence, second: Sentence) -> Result<Ve
     Ok(all)
 }
 
-/// Three sentences.
+/// Returns a list of three sentences.
 pub(crate) fn three(
     alloc: Global,
     first: Sentence,
@@ -42,7 +42,7 @@ pub(crate) fn three(
     Ok(all)
 }
 
-/// The sentences, and more behind them.
+/// Returns the sentences with more behind them.
 pub(crate) fn followed_by(first: Vec<Sentence>, more: Lines) -> Result<Vec<Sentence>, Memory>
     ensures { IfOk result (λ all. (rest : List TheSentence) × (all.items ≡ first.items ++ rest)) }
 {

@@ -1,11 +1,11 @@
-//! What a store of evidence, or a proof, says of nodes and why (PeerReview, SOSP 2007: failure indications), as an [`Explanation`].
+//! What a store or a proof says of nodes, and why, as an [`Explanation`] (PeerReview, SOSP 2007: failure indications).
 //!
-//! - [`why_of`] tells of a node why the store says of it what it says: the proof that convicts it, and the challenges that are open;
-//!   [`whys_of`] the same of each node. `specs/Whys.antt` says what that is.
-//! - [`explain_store`] tells of each node what the store says of it, with where the items stand that say so. One pass over the items
-//!   finds that; the entries before a deviation are replayed, for what the program awaits there.
-//! - [`explained_text`] is the text of the same.
-//! - [`explain_proof`] tells whom a proof convicts, and the same of its parts.
+//! - [`why_of`] returns why the store says of a node what it says: the proof that convicts the node, and the challenges that are open.
+//!   [`whys_of`] returns the same for each node. `specs/Whys.antt` defines what is returned.
+//! - [`explain_store`] says of each node what the store says of it, and where the items stand that say so. It finds this in one pass over
+//!   the items. It replays the entries before a deviation, to find what the program awaits there.
+//! - [`explained_text`] returns the text of the same.
+//! - [`explain_proof`] says which node a proof convicts, and the same of the proof's parts.
 #![tactic(auto)]
 
 pub use authenticators::{Directory, NodeId};

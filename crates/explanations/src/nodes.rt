@@ -9,7 +9,7 @@ use authenticators::{Directory, NodeId};
 use outcome::Memory;
 use std::alloc::Global;
 
-/// The directory's nodes, ascending by their numbers.
+/// Returns the directory's nodes, ascending by their numbers.
 pub(crate) fn ascending_nodes(alloc: Global, directory: &Directory) -> Result<Vec<NodeId>, Memory>
     ensures ascending { IfOk result (λ nodes. IsStrictlyIncreasing nodes.items) }
     ensures complete { IfOk result (λ nodes. (node : ℕ) → Contains nodes.items node ↔ IsTrue (is_listed directory.now node)) }

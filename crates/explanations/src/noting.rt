@@ -12,7 +12,7 @@ use replay_verifier::Program;
 use sentences::{FormCounts, Role};
 use std::alloc::Global;
 
-/// The items' statements are noted, each with its node, where the directory lists that.
+/// Notes the items' statements, each with its node, if the directory lists the node.
 impl Walker for Places {
     fn wants(&self, _node: NodeId) -> bool {
         false
@@ -41,7 +41,7 @@ impl Walker for Places {
 }
 
 impl Places {
-    /// Nothing is found yet.
+    /// Returns places in which nothing is found yet.
     fn new(alloc: Global, whys: &[NodeWhy<'_>]) -> Result<Places, Memory> {
         let mut nodes = Vec::with_capacity(alloc, whys.len())?;
         for row in whys {
@@ -54,7 +54,7 @@ impl Places {
         })
     }
 
-    /// What is found of the node.
+    /// Returns what is found of the node.
     fn row_of(&mut self, node: NodeId) -> Option<&mut NodePlaces> {
         let at = self.nodes.binary_search_by_key(&node, |row| row.node).ok()?;
         self.nodes.get_mut(at)
@@ -118,13 +118,13 @@ impl Places {
     }
 }
 
-/// Why the node is what it is, where it is listed.
+/// Returns why the node is what it is, if it is listed.
 fn why_of<'a, 'b>(whys: &'a [NodeWhy<'b>], node: NodeId) -> Option<&'a NodeWhy<'b>> {
     let at = whys.binary_search_by_key(&node, |row| row.node).ok()?;
     whys.get(at)
 }
 
-/// Notes the item behind so many others: its place, from 1, is one more.
+/// Notes the item behind `behind` others. Its place is one more, since places count from 1.
 fn note_at<P: Program, S: Evidence<P>>(
     alloc: Global,
     store: &S,
@@ -140,8 +140,8 @@ fn note_at<P: Program, S: Evidence<P>>(
     places.note_item(whys, &checked)
 }
 
-/// What is found of a store's items, in one pass in which each is copied and let go. Of an item that keeps what checking found
-/// nothing is hashed or verified.
+/// Returns what is found of a store's items. It makes one pass, in which each item is copied and freed. If an item keeps what checking
+/// found, nothing of it is hashed or verified.
 pub(crate) fn places_of<P: Program, S: Evidence<P>>(
     alloc: Global,
     store: &S,

@@ -28,13 +28,13 @@ pub(crate) struct NodePlaces {
     pub(crate) statements: u64,
     /// How many challenges against the node there are.
     pub(crate) challenges: u64,
-    /// Its segments.
+    /// The node's segments that have entries.
     pub(crate) segments: Vec<Span>,
     /// What is found of the parts of the proof that convicts it.
     pub(crate) grounds: Grounds,
     /// The items of the open challenges against it, in order.
     pub(crate) unanswered: Vec<u64>,
-    /// What the items have of it, where it is exposed.
+    /// What the items have of the node, if it is exposed.
     pub(crate) held: Option<Held>,
 }
 
@@ -60,7 +60,7 @@ pub(crate) fn count_form(counts: &mut FormCounts, form: Form<'_>) {
 }
 
 impl NodePlaces {
-    /// Nothing is found yet.
+    /// Returns places of a node of which nothing is found yet.
     pub(crate) fn new(alloc: Global, row: &NodeWhy<'_>) -> NodePlaces {
         let (grounds, held) = match &row.why {
             Why::Exposed(proof, _) => (Grounds::of_proof(alloc, proof), Some(Held::new(alloc))),
@@ -75,11 +75,6 @@ impl NodePlaces {
             unanswered: Vec::new(alloc),
             held,
         }
-    }
-
-    /// Whether no item is of the node.
-    pub(crate) fn has_no_item(&self) -> bool {
-        self.segments.is_empty() && self.statements == 0 && self.challenges == 0
     }
 
     /// Notes a statement of the node.
@@ -99,7 +94,7 @@ impl NodePlaces {
         self.grounds.note(seq, hash, item, role)
     }
 
-    /// Notes a challenge against the node, which is an open one where it is the next of these.
+    /// Notes a challenge against the node. It is open if it is the next one of those in `why`.
     pub(crate) fn note_challenge(
         &mut self,
         why: &Why<'_>,
@@ -160,7 +155,7 @@ impl NodePlaces {
     }
 }
 
-/// The segment of the proof that convicts the node, where it has one.
+/// Returns the segment of the proof that convicts the node, if it has one.
 fn convicting_segment<'a>(why: &'a Why<'_>) -> Option<&'a Segment> {
     match why {
         Why::Exposed(proof, _) => match proof.parts() {

@@ -1,6 +1,6 @@
-//! What is told of a store.
+//! What is said of a store.
 
-ghost use Rattle.std.specs.Prelude.{◌≡◌, IfOk, true};
+ghost use Rattle.std.specs.Prelude.{◌≡◌, IfOk};
 ghost use Rattle.explanations.specs.Leads.{TellsParts};
 ghost use Rattle.explanations.specs.Whys.{ExplainsSet, IsExplained};
 ghost use Rattle.explanations.specs.within.Telling.{AreTold, IsTold, TellsWhy};
@@ -14,12 +14,11 @@ use crate::heading::heading_of;
 use crate::joining::followed_by;
 use crate::noting::places_of;
 use crate::places::NodePlaces;
-use crate::trusting::say_trust;
+use crate::trusting::{say_trust, say_unknown};
 use crate::under::Under;
 use crate::why::{NodeWhy, Why, whys_of};
 use authenticators::NodeId;
 use evidence::Evidence;
-use evidence_set::Indication;
 use item_forms::Item;
 use outcome::Memory;
 use proofs::{Parts, Proof};
@@ -27,7 +26,7 @@ use replay_verifier::Program;
 use sentences::{Basis, Explanation, Lines, NodeExplanation, Sentence, Voice, verdict_text};
 use std::alloc::Global;
 
-/// The first sentences of what the parts of a proof show.
+/// Returns the first sentences of what the parts of a proof show.
 fn parts_lead(alloc: Global, parts: &Parts, grounds: &Grounds) -> Result<Vec<Sentence>, Memory>
     ensures { IfOk result (λ lead. TellsParts parts.now lead.items) }
 {
@@ -47,7 +46,7 @@ fn parts_lead(alloc: Global, parts: &Parts, grounds: &Grounds) -> Result<Vec<Sen
     }
 }
 
-/// Says what else there is to a proof: what the segment has where the statement says otherwise, or what the program does.
+/// Says what else a proof has: what the segment has instead of the statement, or what the program does.
 fn say_more_of_proof<P: Program, V: Voice>(
     lines: &mut Lines,
     under: &Under<'_, P, V>,
@@ -61,7 +60,7 @@ fn say_more_of_proof<P: Program, V: Voice>(
     }
 }
 
-/// The sentences of what a proof shows.
+/// Returns the sentences of what a proof shows.
 pub(crate) fn proof_sentences<P: Program, V: Voice>(
     alloc: Global,
     under: &Under<'_, P, V>,
@@ -77,7 +76,7 @@ pub(crate) fn proof_sentences<P: Program, V: Voice>(
     Ok(all)
 }
 
-/// The sentences about an exposed node: its proof, and what else speaks against it.
+/// Returns the sentences about an exposed node: its proof, and what else speaks against it.
 fn exposed_sentences<P: Program, V: Voice>(
     alloc: Global,
     under: &Under<'_, P, V>,
@@ -95,7 +94,7 @@ fn exposed_sentences<P: Program, V: Voice>(
     Ok(all)
 }
 
-/// The sentences about a suspected node.
+/// Returns the sentences about a suspected node.
 fn suspected_sentences<V: Voice>(
     alloc: Global,
     voice: &V,
@@ -107,18 +106,21 @@ fn suspected_sentences<V: Voice>(
     Ok(lines.into_sentences())
 }
 
-/// The sentences about a node that is trusted.
-fn trusted_sentences(
-    alloc: Global,
-    node: NodeId,
-    found: &NodePlaces,
-) -> Result<Vec<Sentence>, Memory> {
+/// Returns the sentences about a node that is trusted, and of which something is known.
+fn trusted_sentences(alloc: Global, found: &NodePlaces) -> Result<Vec<Sentence>, Memory> {
     let mut lines = Lines::new(alloc);
-    say_trust(&mut lines, node, found)?;
+    say_trust(&mut lines, found)?;
     Ok(lines.into_sentences())
 }
 
-/// The sentences about a node.
+/// Returns the sentence about a node of which nothing is known.
+fn unknown_sentences(alloc: Global, node: NodeId) -> Result<Vec<Sentence>, Memory> {
+    let mut lines = Lines::new(alloc);
+    say_unknown(&mut lines, node)?;
+    Ok(lines.into_sentences())
+}
+
+/// Returns the sentences about a node.
 fn sentences_of<P: Program, V: Voice>(
     alloc: Global,
     under: &Under<'_, P, V>,
@@ -137,23 +139,17 @@ fn sentences_of<P: Program, V: Voice>(
             Ok(all)
         }
         Why::Trusted => {
-            let all = trusted_sentences(alloc, row.node, found)?;
+            let all = trusted_sentences(alloc, found)?;
+            Ok(all)
+        }
+        Why::Unknown => {
+            let all = unknown_sentences(alloc, row.node)?;
             Ok(all)
         }
     }
 }
 
-/// Whether the node is told as one of which there is no item.
-fn has_no_item(indication: Indication, found: &NodePlaces) -> bool
-    ensures { result ≡ true → indication ≡ Indication.Trusted }
-{
-    match indication {
-        Indication::Trusted => found.has_no_item(),
-        Indication::Suspected | Indication::Exposed => false,
-    }
-}
-
-/// What is told of a node.
+/// Returns what is said of a node.
 fn explanation_of<P: Program, V: Voice>(
     alloc: Global,
     under: &Under<'_, P, V>,
@@ -163,16 +159,15 @@ fn explanation_of<P: Program, V: Voice>(
     ensures { IfOk result (λ n. IsTold row.now n) }
 {
     let sentences = sentences_of(alloc, under, row, found)?;
-    let indication = row.why.indication();
     Ok(NodeExplanation {
         node: row.node,
-        indication,
-        has_no_item: has_no_item(indication, found),
+        indication: row.why.indication(),
+        has_no_item: row.why.is_unknown(),
         sentences,
     })
 }
 
-/// What is told of all nodes, in their order.
+/// Returns what is said of all nodes, in their order.
 fn explanations_of<P: Program, V: Voice>(
     alloc: Global,
     under: &Under<'_, P, V>,
@@ -191,9 +186,10 @@ fn explanations_of<P: Program, V: Voice>(
     Ok(nodes)
 }
 
-/// What a store says of the nodes of its directory, and why: in one pass over its items, in which nothing is verified or hashed that
-/// was before; and where a segment exposes a node, the entries before its deviation are replayed. Payloads are said by the voice.
-/// `Memory` where the program, or a growth, was refused memory.
+/// Returns what a store says of the nodes of its directory, and why. Payloads are said by the voice.
+///
+/// It makes one pass over the items. It verifies and hashes nothing of what was verified and hashed before. If a segment exposes a node, it
+/// replays the entries before the deviation. `Memory` if the program, or a growth, was refused memory.
 pub fn explain_store<P: Program, S: Evidence<P>, V: Voice>(
     alloc: Global,
     program: &P,
@@ -214,7 +210,8 @@ pub fn explain_store<P: Program, S: Evidence<P>, V: Voice>(
     Ok(Explanation { heading, nodes })
 }
 
-/// The text of what a store says under a basis: the basis' lines, one about the whole, and for each node its line and its sentences.
+/// Returns the text of what a store says under a basis: the lines of the basis, one line about the whole, and for each node its line and
+/// its sentences.
 pub fn explained_text<P: Program, S: Evidence<P>, V: Voice>(
     alloc: Global,
     program: &P,

@@ -6,14 +6,14 @@ use outcome::Memory;
 use sentences::{Count, Lines};
 use std::fmt;
 
-/// So many segments are told at most.
+/// The greatest number of segments that are named.
 const MOST_SPANS: usize = 12;
 
 /// Segments in order.
 #[derive(Clone, Copy)]
 struct Spans<'a>(&'a [Span]);
 
-/// Writes a segment behind others.
+/// Writes a segment after others.
 fn write_span<W: fmt::Write>(first: bool, span: Span, f: &mut fmt::Formatter<W>) -> fmt::Result {
     if !first {
         f.write_str(", ")?;
@@ -22,7 +22,7 @@ fn write_span<W: fmt::Write>(first: bool, span: Span, f: &mut fmt::Formatter<W>)
     write!(f, "entries {first} to {last} (item {item})")
 }
 
-/// Writes how many segments are not told.
+/// Writes how many segments are not named.
 fn write_others<W: fmt::Write>(len: usize, f: &mut fmt::Formatter<W>) -> fmt::Result {
     if len <= MOST_SPANS {
         return Ok(());
@@ -31,7 +31,7 @@ fn write_others<W: fmt::Write>(len: usize, f: &mut fmt::Formatter<W>) -> fmt::Re
     write!(f, ", and {others} more")
 }
 
-/// `entries 1 to 5 (item 1), entries 4 to 9 (item 3)`: the first twelve, and how many there are more.
+/// Writes the first twelve segments, such as `entries 1 to 5 (item 1), entries 4 to 9 (item 3)`, and then how many more there are.
 impl<'a> fmt::Display for Spans<'a> {
     fn fmt<W: fmt::Write>(&self, f: &mut fmt::Formatter<W>) -> fmt::Result {
         let mut first = true;
@@ -54,7 +54,7 @@ fn say_spans(lines: &mut Lines, spans: &[Span]) -> Result<(), Memory> {
     lines.say(text)
 }
 
-/// Says at how many places statements stand: one that stands at two is counted twice.
+/// Says at how many places statements stand. A statement that stands at two places is counted twice.
 fn say_statements(lines: &mut Lines, found: &NodePlaces) -> Result<(), Memory> {
     if found.statements == 0 {
         return Ok(());
@@ -82,12 +82,14 @@ fn say_answered(lines: &mut Lines, found: &NodePlaces) -> Result<(), Memory> {
     lines.say(text)
 }
 
-/// Says what there is of the node, or that there is nothing.
-pub(crate) fn say_trust(lines: &mut Lines, node: NodeId, found: &NodePlaces) -> Result<(), Memory> {
-    if found.has_no_item() {
-        let text = format!(in lines.alloc(); "No item is of node {node}.")?;
-        return lines.say(text);
-    }
+/// Says that there is nothing of the node.
+pub(crate) fn say_unknown(lines: &mut Lines, node: NodeId) -> Result<(), Memory> {
+    let text = format!(in lines.alloc(); "No item is of node {node}.")?;
+    lines.say(text)
+}
+
+/// Says what there is of the node.
+pub(crate) fn say_trust(lines: &mut Lines, found: &NodePlaces) -> Result<(), Memory> {
     say_spans(lines, &found.segments)?;
     say_statements(lines, found)?;
     say_answered(lines, found)

@@ -1,8 +1,8 @@
-//! Under what is told.
+//! What explanations are given under.
 
 use authenticators::Directory;
 
-/// Under what is told: the program that the nodes are to follow, how its payloads are said, and whose keys are whose.
+/// What an explanation is given under: the program that the nodes must follow, the voice that says its payloads, and the directory.
 #[derive(Drop)]
 pub(crate) struct Under<'a, P, V> {
     pub(crate) program: &'a P,

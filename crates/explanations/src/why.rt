@@ -1,9 +1,9 @@
-//! Why a node is what it is.
+//! The reason why a node is what it is.
 
 ghost use Rattle.std.specs.Prelude.{◌≡◌, ◌↔◌, IfOk, Err, false};
 ghost use Rattle.authenticators.specs.Directory.{is_listed};
 ghost use Rattle.evidence.specs.declared.fault.AskFault.TheVariants as ask;
-ghost use Rattle.explanations.specs.Whys.{AreWhys, IsWhy, indication_of};
+ghost use Rattle.explanations.specs.Whys.{AreWhys, IsWhy, indication_of, is_unknown};
 
 use crate::nodes::ascending_nodes;
 use authenticators::NodeId;
@@ -18,12 +18,15 @@ use std::alloc::Global;
 /// Why a node is what it is.
 #[derive(Debug, Drop)]
 pub enum Why<'a> {
-    /// It is exposed: this proof convicts it, and these challenges against it are not answered. They are as those of a suspected node.
+    /// The node is exposed. This proof convicts it, and these challenges against it are not answered. The challenges are as those of a
+    /// suspected node.
     Exposed(Proof, Vec<&'a Item>),
-    /// It is suspected: these challenges against it are not answered. They are lent from the store, and ascend by their spellings.
+    /// The node is suspected. These challenges against it are not answered. They are lent from the store, and ascend by their encodings.
     Suspected(Vec<&'a Item>),
-    /// It is trusted: nothing speaks against it.
+    /// The node is trusted. The items say something of it, and nothing speaks against it.
     Trusted,
+    /// The node is trusted, since the items say nothing of it.
+    Unknown,
 }
 
 /// A node, and why it is what it is.
@@ -36,19 +39,29 @@ pub struct NodeWhy<'a> {
 }
 
 impl<'a> Why<'a> {
-    /// What it is.
+    /// Returns what the node is for this reason.
     pub fn indication(&self) -> Indication
         ensures { result ≡ indication_of self.now }
     {
         match self {
             Why::Exposed(..) => Indication::Exposed,
             Why::Suspected(_) => Indication::Suspected,
-            Why::Trusted => Indication::Trusted,
+            Why::Trusted | Why::Unknown => Indication::Trusted,
         }
+    }
+
+    /// Returns whether the items say nothing of the node.
+    pub(crate) fn is_unknown(&self) -> bool
+        ensures { result ≡ is_unknown self.now }
+    {
+        matches!(self, Why::Unknown)
     }
 }
 
-/// Why the store says of the node what it says. `UnknownNode` (44) where the directory does not list the node; `Memory`.
+/// Returns why the store says of the node what it says.
+///
+/// - `UnknownNode` (44) if the directory does not list the node.
+/// - `Memory` (99) if a growth is refused.
 pub fn why_of<'a, P: Program, S: Evidence<P>>(
     store: &'a S,
     node: NodeId,
@@ -71,11 +84,12 @@ pub fn why_of<'a, P: Program, S: Evidence<P>>(
             let open = store.open_challenges(node)?;
             Ok(Why::Suspected(open))
         }
-        Indication::Trusted => Ok(Why::Trusted),
+        Indication::Trusted if store.knows(node) => Ok(Why::Trusted),
+        Indication::Trusted => Ok(Why::Unknown),
     }
 }
 
-/// Why the store says of each node of its directory what it says, ascending by the nodes' numbers.
+/// Returns why the store says of each node of its directory what it says, in ascending order of the nodes' numbers.
 pub fn whys_of<'a, P: Program, S: Evidence<P>>(
     alloc: Global,
     store: &'a S,

@@ -19,7 +19,7 @@ pub struct Detail {
     pub(crate) size: usize,
 }
 
-/// The beginning of these bytes.
+/// Returns the beginning of these bytes.
 fn beginning_of(bytes: &[u8]) -> [u8; MOST_SHOWN] {
     let mut beginning = [0; MOST_SHOWN];
     for (to, from) in beginning.iter_mut().zip(bytes) {
@@ -29,7 +29,7 @@ fn beginning_of(bytes: &[u8]) -> [u8; MOST_SHOWN] {
 }
 
 impl Detail {
-    /// Of an entry of this kind behind this hash.
+    /// Returns the detail of an entry of this kind that follows this hash.
     fn new(prev: Hash, kind: u8, said: Said, payload: &[u8]) -> Detail {
         Detail {
             prev,
@@ -40,23 +40,23 @@ impl Detail {
         }
     }
 
-    /// Of an entry that stands behind this hash.
+    /// Returns the detail of an entry that follows this hash.
     pub(crate) fn of_entry(prev: Hash, entry: &Entry) -> Detail {
         let (said, payload) = Said::read(entry.kind, entry.content.as_slice());
         Detail::new(prev, entry.kind, said, payload)
     }
 
-    /// Of the SEND entry of a message.
+    /// Returns the detail of the SEND entry of a message.
     pub(crate) fn of_send(prev: Hash, to: NodeId, payload: &[u8]) -> Detail {
         Detail::new(prev, SEND, Said::To(to), payload)
     }
 
-    /// Of the RECV entry that quotes another entry.
+    /// Returns the detail of the RECV entry that quotes another entry.
     pub(crate) fn of_recv(prev: Hash, quoted: &Place, payload: &[u8]) -> Detail {
         Detail::new(prev, RECV, Said::From(quoted.node, quoted.seq), payload)
     }
 
-    /// The payload, or the content where it says nothing: its first 64 bytes, and how many there are.
+    /// Returns the payload, or the whole content if it says nothing: the first 64 bytes, and how many there are.
     pub fn shown(&self) -> Shown<'_> {
         Shown {
             bytes: self.beginning.get(..self.size).unwrap_or(&self.beginning),

@@ -13,7 +13,7 @@ use proofs::{Parts, Proof};
 use replay_verifier::{Program, quoted_hashes};
 use std::alloc::Global;
 
-/// What is known from item `n` of the store.
+/// Notes what is known from item `n` of the store.
 fn note_item<P: Program, S: Evidence<P>>(
     alloc: Global,
     known: &mut Known,
@@ -27,7 +27,7 @@ fn note_item<P: Program, S: Evidence<P>>(
     walk(known, &checked)
 }
 
-/// What is known from the items of the store.
+/// Notes what is known from the items of the store.
 fn note_items<P: Program, S: Evidence<P>>(
     alloc: Global,
     known: &mut Known,
@@ -39,8 +39,10 @@ fn note_items<P: Program, S: Evidence<P>>(
     Ok(())
 }
 
-/// What is known of the logs that are wanted from the items of a store, in one pass over them, and in a second one where nodes quote what
-/// was given that were not wanted before. No signature is verified and no content hashed where that was found before.
+/// Returns what is known of the wanted logs from the items of a store.
+///
+/// It passes over the items once. It passes over them a second time if nodes that were not wanted quote entries of
+/// [`Wanted::quoted`](crate::Wanted). It verifies no signature and hashes no content if that was done before.
 pub fn rows_of<P: Program, S: Evidence<P>>(
     alloc: Global,
     store: &S,
@@ -54,7 +56,7 @@ pub fn rows_of<P: Program, S: Evidence<P>>(
     known.into_rows(alloc)
 }
 
-/// The hash of each entry of a segment.
+/// Returns the hash of each entry of a segment.
 fn hashes_of(alloc: Global, segment: &Segment) -> Result<Vec<Hash>, Memory> {
     let mut hashes = Vec::new(alloc);
     let mut hash = segment.prev;
@@ -65,7 +67,7 @@ fn hashes_of(alloc: Global, segment: &Segment) -> Result<Vec<Hash>, Memory> {
     Ok(hashes)
 }
 
-/// What is known from a segment of which nothing was found yet.
+/// Notes what is known from a segment of which nothing was found yet.
 fn note_segment(
     alloc: Global,
     known: &mut Known,
@@ -77,8 +79,8 @@ fn note_segment(
     walk_segment(known, segment, &hashes, quotes.as_slice())
 }
 
-/// What is known of the logs of nodes from the parts of a proof. The statements are taken as they are: whether the proof is valid is
-/// not asked here.
+/// Returns what is known of the logs of nodes from the parts of a proof. It takes the statements as they are, and does not check whether
+/// the proof is valid.
 pub fn rows_of_proof(alloc: Global, directory: &Directory, proof: &Proof) -> Result<Rows, Memory> {
     let mut known = Known::new(alloc, Wanted::all(alloc));
     match proof.parts() {

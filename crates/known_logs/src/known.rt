@@ -22,7 +22,7 @@ pub(crate) struct Known {
 }
 
 impl Known {
-    /// Nothing is known.
+    /// Returns a value in which nothing is known.
     pub(crate) fn new(alloc: Global, wanted: Wanted) -> Known {
         Known {
             wanted,
@@ -33,7 +33,7 @@ impl Known {
         }
     }
 
-    /// Adds an entry, where less of it was known.
+    /// Adds an entry, if less of it was known.
     fn note(&mut self, cell: Cell) -> Result<(), Memory> {
         match self.cells.entry(cell.place)? {
             Entry::Occupied(mut held) => {
@@ -66,7 +66,7 @@ impl Known {
         })
     }
 
-    /// Turns from the logs that were wanted to those of nodes that quote, as far as they are wanted now. Answers whether there are such.
+    /// Turns from the logs that were wanted to those of nodes that quote, as far as they are wanted now. Returns whether there are any.
     pub(crate) fn turn(&mut self, alloc: Global) -> Result<bool, Memory> {
         let mut further = BTreeSet::new(alloc);
         for node in self.quoting.iter() {
@@ -79,7 +79,7 @@ impl Known {
         Ok(are_any)
     }
 
-    /// All of it, by node and by number.
+    /// Returns all that is known, by node and by number.
     pub(crate) fn into_rows(self, alloc: Global) -> Result<Rows, Memory> {
         let mut by_node = BTreeMap::new(alloc);
         for cell in self.cells.values() {
@@ -138,7 +138,7 @@ impl Walker for Known {
     }
 }
 
-/// Puts an entry behind those of its node.
+/// Puts an entry after those of its node.
 fn put(alloc: Global, by_node: &mut BTreeMap<u32, Vec<Cell>>, cell: Cell) -> Result<(), Memory> {
     let NodeId(node) = cell.place.node;
     let cells = by_node.entry(node)?.or_insert(Vec::new(alloc));
@@ -146,7 +146,7 @@ fn put(alloc: Global, by_node: &mut BTreeMap<u32, Vec<Cell>>, cell: Cell) -> Res
     Ok(())
 }
 
-/// The rows, with that of which most is known first under each number.
+/// Returns the rows, sorted by number. Under each number, the entry of which most is known comes first.
 fn sorted(mut by_node: BTreeMap<u32, Vec<Cell>>) -> Result<BTreeMap<u32, Vec<Cell>>, Memory> {
     for cells in by_node.values_mut() {
         cells.sort_by_key(|cell| (cell.place.seq, cell.rank()))?;

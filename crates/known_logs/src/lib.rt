@@ -1,9 +1,9 @@
 //! What is known of the logs of nodes, from the items of a store or the parts of a proof.
 //!
-//! - [`walk`] goes over the statements and the entries of an item: whoever wants them is a [`Walker`].
-//! - [`rows_of`] and [`rows_of_proof`] give [`Rows`]: of the nodes that are [`Wanted`] the entries of their logs, by number, each once.
-//! - A [`Cell`] is such an entry: its number and hash, and whether it stands in a segment. Where more is known, a [`Detail`] has it,
-//!   and of a RECV entry that quotes genuinely [`Rows::quoted_place`] tells which SEND entry it quotes.
+//! - [`walk`] goes over the statements and the entries of an item, and gives them to a [`Walker`].
+//! - [`rows_of`] and [`rows_of_proof`] return [`Rows`]: the log entries of the nodes that are [`Wanted`], by number, each once.
+//! - A [`Cell`] is such an entry. It has the number and the hash, and whether the entry stands in a segment. If more is known, a [`Detail`]
+//!   has it. If a RECV entry quotes genuinely, [`Rows::quoted_place`] returns the SEND entry that it quotes.
 #![tactic(auto)]
 
 pub use authenticators::{Directory, NodeId};

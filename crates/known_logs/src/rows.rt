@@ -7,12 +7,12 @@ use outcome::Memory;
 use std::alloc::Global;
 use std::collections::{BTreeMap, BTreeSet};
 
-/// A number and a hash of a node's log.
+/// An entry of a node's log, by its number and its hash.
 #[derive(Clone, Copy, Debug, PartialEq, Eq, PartialOrd, Ord)]
 pub struct Place {
     /// The node.
     pub node: NodeId,
-    /// The number.
+    /// The number of the entry.
     pub seq: u64,
     /// The hash of the entry.
     pub hash: Hash,
@@ -28,8 +28,8 @@ pub struct Cell {
     pub(crate) detail: Option<usize>,
 }
 
-/// What is known of the logs that are wanted: their entries by number, each once. Those that were signed, and stand in no segment, are
-/// there too.
+/// What is known of the wanted logs: their entries by number, each once. Entries that were only signed, and stand in no segment, are among
+/// them.
 #[derive(Debug, Drop)]
 pub struct Rows {
     pub(crate) by_node: BTreeMap<u32, Vec<Cell>>,
@@ -39,7 +39,7 @@ pub struct Rows {
 }
 
 impl Cell {
-    /// How little is known: 0 of an entry of a segment, 1 where it is known what it says, 2 of a statement alone.
+    /// Returns how little is known: 0 for an entry of a segment, 1 if it is known what the entry says, and 2 for a statement alone.
     pub(crate) fn rank(&self) -> u8 {
         if self.is_logged {
             0
@@ -52,7 +52,8 @@ impl Cell {
 }
 
 impl Rows {
-    /// The entries of a node's log, by number. Under one number those of segments stand first, and statements alone last.
+    /// Returns the entries of a node's log, by number. Under one number, the entries of segments come first, and statements alone come
+    /// last.
     pub fn of(&self, node: NodeId) -> &[Cell] {
         match self.by_node.get(&node.0) {
             Some(cells) => cells.as_slice(),
@@ -60,27 +61,28 @@ impl Rows {
         }
     }
 
-    /// Entry `at` of a node's log, from 0.
+    /// Returns the entry at place `at` of a node's log, from 0. Returns `None` if there is no such entry.
     pub fn cell(&self, node: NodeId, at: usize) -> Option<Cell> {
         self.of(node).get(at).copied()
     }
 
-    /// The SEND entry that an entry quotes genuinely.
+    /// Returns the SEND entry that an entry quotes genuinely, which is with a valid signature. Returns `None` if it quotes none so.
     pub fn quoted_place(&self, cell: &Cell) -> Option<Place> {
         self.quoted_places.get(&cell.place).copied()
     }
 
-    /// What an entry says, where it is known.
+    /// Returns what an entry says, if it is known.
     pub fn detail(&self, cell: &Cell) -> Option<Detail> {
         self.details.get(cell.detail?).copied()
     }
 
-    /// Whether an entry of the node quotes one of those that [`Wanted::quoted`](crate::Wanted) names, also where its own log is not wanted.
+    /// Returns whether an entry of the node quotes one that [`Wanted::quoted`](crate::Wanted) names. It says so even if the node's own log
+    /// is not wanted.
     pub fn quotes_named(&self, node: NodeId) -> bool {
         self.quoting.contains(&node.0)
     }
 
-    /// The nodes of whose logs something is known, in ascending order.
+    /// Returns the nodes of whose logs something is known, in ascending order.
     pub fn nodes(&self, alloc: Global) -> Result<Vec<NodeId>, Memory> {
         self.by_node.keys().map(|node| NodeId(*node)).collect(alloc)
     }

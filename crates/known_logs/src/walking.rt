@@ -1,4 +1,4 @@
-//! One walk over an item: the statements that stand in it, and the entries that it shows.
+//! A walk over an item goes over the statements that stand in it, and the entries that it shows.
 
 use crate::detail::Detail;
 use crate::rows::Place;
@@ -11,12 +11,13 @@ use outcome::Memory;
 use replay_verifier::Receipt;
 use sentences::Role;
 
-/// What is made of the statements and the entries of an item.
+/// Takes the statements, the entries and the quotes of an item.
 pub trait Walker {
-    /// Whether it is wanted what the entries of this node say. If not, they are not gone over, and nothing is read of them.
+    /// Returns whether the walker wants what the entries of this node say. If not, the walk gives it no entry of the node, and no detail
+    /// with a statement of the node. It gives the quotes all the same.
     fn wants(&self, node: NodeId) -> bool;
 
-    /// A statement stands in the item, in this role. What its entry says is given where that is wanted and the item says it.
+    /// Takes a statement that stands in the item, in this role. What its entry says comes with it if that is wanted and the item says it.
     fn statement(
         &mut self,
         place: &Place,
@@ -24,25 +25,25 @@ pub trait Walker {
         detail: Option<&Detail>,
     ) -> Result<(), Memory>;
 
-    /// An entry stands in the item, which is a segment.
+    /// Takes an entry of the item, which is a segment.
     fn entry(&mut self, place: &Place, detail: &Detail) -> Result<(), Memory>;
 
-    /// An entry quotes another one genuinely.
+    /// Takes the quote of an entry: `entry` quotes `quoted` genuinely.
     fn quote(&mut self, entry: &Place, quoted: &Place) -> Result<(), Memory>;
 }
 
-/// The place that a statement names.
+/// Returns the place that a statement names.
 fn stated(node: NodeId, seq: u64, hash: Hash) -> Place {
     Place { node, seq, hash }
 }
 
-/// A statement that stands alone.
+/// Goes over a statement that stands alone.
 pub(crate) fn walk_auth<W: Walker>(walker: &mut W, auth: &Authenticator) -> Result<(), Memory> {
     let place = stated(auth.node, auth.seq, auth.hash);
     walker.statement(&place, Role::Statement, None)
 }
 
-/// The statements that an audit challenge names.
+/// Goes over the statements that an audit challenge names.
 fn walk_audit<W: Walker>(walker: &mut W, challenge: &AuditChallenge) -> Result<(), Memory> {
     if let Some(Statement { seq, hash, .. }) = &challenge.first {
         let place = stated(challenge.node, *seq, *hash);
@@ -53,7 +54,7 @@ fn walk_audit<W: Walker>(walker: &mut W, challenge: &AuditChallenge) -> Result<(
     walker.statement(&place, Role::Named, None)
 }
 
-/// The statement of a SEND entry at this place, behind that hash.
+/// Gives the walker the statement of the SEND entry at this place, which follows the hash `prev`.
 fn say_sent<W: Walker>(
     walker: &mut W,
     place: &Place,
@@ -69,7 +70,7 @@ fn say_sent<W: Walker>(
     walker.statement(place, role, Some(&detail))
 }
 
-/// The sender's statement of a message, whose SEND entry has this hash.
+/// Goes over the sender's statement of a message, whose SEND entry has this hash.
 fn walk_sent<W: Walker>(
     walker: &mut W,
     message: &Message,
@@ -81,7 +82,7 @@ fn walk_sent<W: Walker>(
     say_sent(walker, &place, role, message.prev, message.to, payload)
 }
 
-/// The two statements of an acknowledgement: the SEND entry and the RECV entry have these hashes.
+/// Goes over the two statements of an acknowledgement. Its SEND entry has the hash `sent`, and its RECV entry the hash `received`.
 fn walk_ack<W: Walker>(
     walker: &mut W,
     ack: &AckItem,
@@ -100,7 +101,7 @@ fn walk_ack<W: Walker>(
     walker.statement(&place, Role::Acknowledging, Some(&detail))
 }
 
-/// The SEND entry, of this hash, that an entry at this place quotes.
+/// Goes over the SEND entry, with this hash, that an entry at this place quotes.
 fn walk_quoted<W: Walker>(
     walker: &mut W,
     place: &Place,
@@ -120,7 +121,7 @@ fn walk_quoted<W: Walker>(
     say_sent(walker, &sent, role, receipt.prev, by, receipt.payload)
 }
 
-/// What the entries of a segment quote. They have these hashes, and quote what has those.
+/// Goes over what the entries of a segment quote. The entries have these hashes, and what they quote has the hashes in `quotes`.
 fn walk_quotes<W: Walker>(
     walker: &mut W,
     segment: &Segment,
@@ -137,7 +138,7 @@ fn walk_quotes<W: Walker>(
     Ok(())
 }
 
-/// The entries of a segment, which have these hashes, and what they say.
+/// Goes over the entries of a segment, which have these hashes, and what they say.
 fn walk_entries<W: Walker>(
     walker: &mut W,
     segment: &Segment,
@@ -153,7 +154,8 @@ fn walk_entries<W: Walker>(
     Ok(())
 }
 
-/// The entries of a segment, which have these hashes and quote what has those, and the statement that it ends with.
+/// Goes over the entries of a segment, and the statement that it ends with. The entries have these hashes, and what they quote has the
+/// hashes in `quotes`.
 pub(crate) fn walk_segment<W: Walker>(
     walker: &mut W,
     segment: &Segment,
@@ -171,7 +173,8 @@ pub(crate) fn walk_segment<W: Walker>(
     }
 }
 
-/// The statements and the entries of an item of which everything was found. Nothing is verified or hashed.
+/// Gives the walker the statements, the entries and the quotes of an item of which everything was found. It verifies and hashes nothing. A
+/// segment, a send challenge or an acknowledgement without findings gives nothing.
 pub fn walk<P, W: Walker>(walker: &mut W, checked: &Checked<P>) -> Result<(), Memory> {
     match (checked.item().form(), checked.findings()) {
         (Form::Auth(auth), _) => walk_auth(walker, auth),

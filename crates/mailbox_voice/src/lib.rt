@@ -5,10 +5,10 @@ use mailbox::letters::{DELIVER, FETCH, FULL, MAIL, STORED, TOO_LONG, UNCLEAR};
 use sentences::{Shown, Voice};
 use std::fmt;
 
-/// Says what a mail, a request or a receipt says; and of other payloads the bytes.
+/// The voice that says what a mail, a request or a receipt says. Of other payloads it shows the bytes.
 pub struct MailVoice;
 
-/// What a receipt of one letter says.
+/// Returns what a payload of one letter says: a request to fetch, or a receipt. Returns `None` for another letter.
 fn receipt(letter: u8) -> Option<&'static str> {
     match letter {
         FETCH => Some("a fetch"),

@@ -1,10 +1,10 @@
 -- How an engine ends.
-use Rattle.std.proofs.Common.{◌≡◌, ◌⊎◌, ◌<◌, ℕ, List, None, Result, Ok, Err, inl, inr, refl}
+use Rattle.std.proofs.Common.{◌≡◌, ◌⊎◌, ◌<◌, ℕ, List, None, Result, Ok, Err, inl, inr, refl, sym, ap, subst}
 use Rattle.std.specs.Io.KnownBytes.{Appends}
 use Rattle.commands.specs.declared.fault.Fault.{Fault}
 use Rattle.commands.specs.declared.fault.Fault.TheVariants as fault
 use Rattle.commands.specs.Devices.{Writer}
-use Rattle.commands.specs.within.OwnFaults.{IsOwn}
+use Rattle.commands.specs.within.OwnFaults.{IsOwn, is_devices}
 use Rattle.commands.proofs.NoDevices.{other}
 use Rattle.operating.specs.declared.asking.Ending.{Ending}
 use Rattle.operating.specs.declared.refusal.Refusal.{Refusal}
@@ -52,3 +52,8 @@ module _ {S W : Type 0} (reads : S → Type 0) (refuses : Refusal → Type 0) (q
 
   pub written : (s : S) (text : List ℕ) (x : Ending) (after : W) → reads s → question s (Ok (text, x)) → Appends (seen before).written (seen after).written text → (seen after).failures ≡ (seen before).failures → new.failures ≡ old.failures → Ran reads refuses question (ended x) old new seen before after
   written s text x after are told appended quiet well = record { done = (s, text, are, told, appended); refused = tt; nothing_written = tt; read_failed = tt; write_failed = tt; reads_well = well; writes_well = quiet }
+
+  -- what was to be written in pieces was not written
+  pub not_whole : (s : S) (text : List ℕ) (x : Ending) (r : Refusal) (after : W) → reads s → question s (Ok (text, x)) → r.file ≡ None → ((r.fault ≡ fault.Memory) × (after ≡ before)) ⊎ ((r.fault ≡ fault.WriteFailed) × ((seen before).failures < (seen after).failures)) → Ran reads refuses question (refused r) old new seen before after
+  not_whole s text x r after are told none (inl (memory, same)) = subst (λ (w : W). Ran reads refuses question (refused r) old new seen before w) (sym same) (not_answered s r are none (inl memory) (ap is_devices memory))
+  not_whole s text x r after are told none (inr (failed, more)) = not_written s text x r after are told none failed more

@@ -1,5 +1,4 @@
 pub mod Blames
-mod Combined
 pub mod Endings
 mod Exposing
 mod Extracts

@@ -19,7 +19,7 @@ use Rattle.evidence.specs.Contents.{Contents}
 use Rattle.answers.specs.declared.standings.Standing.{Standing}
 use Rattle.answers.specs.Lines.{standing_line}
 use Rattle.localities.specs.Known.{KnownAsExpected, is_known}
-use Rattle.status_lines.specs.Reports.{IsReport, line_of}
+use Rattle.commands.specs.Reports.{IsReport, line_of}
 use Rattle.operating.specs.declared.scope.Scope.TheVariants as scope
 use Rattle.operating.specs.Questions.{AreStandings, IsStanding, StandingsAreReports, asked}
 

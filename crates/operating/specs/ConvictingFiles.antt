@@ -30,16 +30,16 @@ abbrev pub AreConvicting : {S : Type 0} → Meaning S → ℕ → (ℕ → Optio
 AreConvicting program limit files node =
     (ds : Listing) × (text : List ℕ) × SaysDirectory limit (files 0) ds × Says limit None (files 1) text × TextConvicts program ds text node
 
--- The same with the directory's text beside the node.
+-- The same, with the directory's encoding beside the node.
 abbrev pub AreConvictingUnder : {S : Type 0} → Meaning S → ℕ → (ℕ → Option (List ℕ)) → ℕ × List ℕ → Type 0
 AreConvictingUnder program limit files found =
     (ds : Listing) × (text : List ℕ) × Says limit None (files 0) found.1 × (directory_of found.1 ≡ Ok ds) × Says limit None (files 1) text × TextConvicts program ds text found.0
 
--- Why a proof is refused under a directory: its file says nothing, or what convicts nobody.
+-- Why a proof is refused under a directory: its file says nothing, or it says what convicts nobody.
 abbrev pub RefusesProof : {S : Type 0} → Meaning S → ℕ → Listing → Option (List ℕ) → Fault → Type 0
 RefusesProof program limit ds file f = IsUnsaid limit None file f ⊎ ((text : List ℕ) × Says limit None file text × RefusesProofText program ds text f)
 
--- The refusal of a directory and a proof: the directory's, or else the proof's.
+-- The refusal of a directory and a proof: that of the directory, or else that of the proof.
 abbrev pub RefusesConviction : {S : Type 0} → Meaning S → ℕ → (ℕ → Option (List ℕ)) → Refusal → Type 0
 RefusesConviction program limit files r =
     (IsOfFile 0 r × RefusesDirectory limit (files 0) r.fault)

@@ -2,13 +2,13 @@
 --
 -- | A file of | says |
 -- |---|---|
--- | fewer than eight bytes, or with another one than digits among the first eight | one text: its bytes |
+-- | fewer than eight bytes, or with a byte that is no digit among the first eight | one text: its bytes |
 -- | one line | one text: the bytes that its digits spell |
 -- | two lines, of which the second has a character | a directory in the first, and under it a text in the second |
--- | two lines, of which the second has none; more lines | nothing: 104 |
+-- | two lines, of which the second has none; more lines | nothing: it is refused with 104 |
 --
--- A line with another character than digits, or with an odd number of them, is 103. Where one text is read two are 104, and where a text is
--- read under a directory one that stands under another is 104.
+-- A line with a character that is no digit, or with an odd number of digits, is refused with 103. A file of two texts is refused with 104 if
+-- one text is wanted. A text under another directory is refused with 104 if a text under a given directory is wanted.
 use Rattle.std.specs.Prelude.{ℕ, suc, ◌≡◌, ◌⊎◌, ◌<◌, ◌≤◌, Bool, true, false, ltb, if◌then◌else◌, List, [], ◌∷◌, take, length, option_map, option_to_list, unwrap_or, Option, Some, None, Result, Ok, Err}
 use Rattle.std.specs.List.{list_all}
 use Rattle.std.specs.Str.{bytes_eq}
@@ -22,43 +22,46 @@ use Rattle.commands.specs.Devices.{IsAllOf, IsReadFault, Reader}
 use Rattle.commands.specs.HexLines.{bytes_of, lines_of}
 use Rattle.operating.specs.declared.files.TheConstants.{MOST_READS}
 
--- What each file has, where it tells its bytes, and how many files failed: to be opened, to be read, or to end within the most reads.
+-- The bytes of each file, if they are known, and how many files failed: to be opened, to be read, or to end within the most reads.
 pub record Opened : Type 0 where
   pub files : ℕ → Option (List ℕ)
   pub failures : ℕ
 
--- A reader failed, or met no end within the most reads.
+-- A reader failed, or met no end within `MOST_READS` reads.
 abbrev pub IsFailed : Reader → Type 0
 IsFailed r = (0 < r.failures) ⊎ ((r.ends ≡ 0) × (MOST_READS ≤ r.reads))
 
--- A fault of reading files: 100 only where a file failed, and never 102.
+-- A fault of reading files. It is 100 only if a file failed, and it is never 102.
 pub record IsOfReading (old new : Opened) (f : Fault) : Type 0 where
   pub read_failed : f ≡ fault.ReadFailed → old.failures < new.failures
   pub not_written : f ≡ fault.WriteFailed → ⊥
 
 -- ---- what a file says
 
--- The file is lines of digits: it has eight bytes, and the first eight are digits.
+-- The file is lines of digits: it has at least eight bytes, and the first eight are digits.
 abbrev pub is_spelled : List ℕ → Bool
 is_spelled bytes = if ltb (length bytes) 8 then false else list_all is_hex_digit (take 8 bytes)
 
--- A text, and the directory's that stands above it in the file, where there is one.
+-- A text, and the directory's encoding that stands above it in the file, if there is one.
 pub record Texts : Type 0 where
   pub above : Option (List ℕ)
   pub text : List ℕ
 
+-- A text that stands alone.
 abbrev pub alone : List ℕ → Texts
 alone text = record { above = None; text = text }
 
+-- A text under a directory.
 abbrev pub beneath : List ℕ → List ℕ → Texts
 beneath directory text = record { above = Some directory; text = text }
 
--- What one line spells, and what two do.
+-- What one line spells.
 unfoldable pub one_in : List ℕ → Result Texts Fault
 one_in line = do
   text ← bytes_of line
   Ok (alone text)
 
+-- What two lines spell.
 unfoldable pub two_in : List ℕ → List ℕ → Result Texts Fault
 two_in line [] = Err fault.LineCount
 two_in line (digit ∷ digits) = do
@@ -78,32 +81,34 @@ texts_of bytes = if is_spelled bytes then spelled_in (lines_of bytes) else Ok (a
 
 -- ---- what is read of it
 
--- A text alone where no directory is given; else a text that stands alone, or under the directory of this text.
+-- The text, if it stands alone, or if it stands under the directory whose encoding is given. Else it is refused.
 abbrev pub read_under : Option (List ℕ) → Option (List ℕ) → List ℕ → Result (List ℕ) Fault
 read_under given None text = Ok text
 read_under None (Some above) text = Err fault.LineCount
 read_under (Some given) (Some above) text = if bytes_eq above given then Ok text else Err fault.LineCount
 
+-- The text that a file says, alone or under the given directory.
 unfoldable pub said : Option (List ℕ) → List ℕ → Result (List ℕ) Fault
 said given bytes = texts_of bytes >>= λ t. read_under given t.above t.text
 
--- A directory, and the text that stands under it, where there is one.
+-- The directory's encoding in a file of a directory: the one above the text, or else the text itself.
 abbrev pub directory_in : Texts → List ℕ
 directory_in t = unwrap_or t.above t.text
 
+-- The text that stands under the directory, if there is one.
 abbrev pub evidence_in : Texts → List (List ℕ)
 evidence_in t = option_to_list (option_map (λ (directory : List ℕ). t.text) t.above)
 
 -- ---- reading
 
--- A file was read to its end, is within the limit, and is read so.
+-- A file was read to its end, is within the limit, and this is read from it.
 pub record SaysBy {X : Type 0} (limit : ℕ) (reading : List ℕ → Result X Fault) (file : Option (List ℕ)) (x : X) : Type 0 where
   pub bytes : List ℕ
   pub all : IsAllOf file bytes
   pub within : length bytes ≤ limit
   pub is : reading bytes ≡ Ok x
 
--- A file says the text, alone or under a directory.
+-- A file says the text, alone or under the given directory.
 abbrev pub Says : ℕ → Option (List ℕ) → Option (List ℕ) → List ℕ → Type 0
 Says limit given file text = SaysBy limit (said given) file text
 
@@ -111,14 +116,15 @@ Says limit given file text = SaysBy limit (said given) file text
 abbrev pub SaysDirectory : ℕ → Option (List ℕ) → Listing → Type 0
 SaysDirectory limit file ds = (text : List ℕ) × Says limit None file text × (directory_of text ≡ Ok ds)
 
--- The files from a number on say the texts under a directory, each its own.
+-- The files from number `n` on say these texts under a directory, one text each.
 abbrev pub Say : ℕ → List ℕ → (ℕ → Option (List ℕ)) → ℕ → List (List ℕ) → Type 0
 Say limit directory files n [] = Unit {0}
 Say limit directory files n (text ∷ texts) = Says limit (Some directory) (files n) text × Say limit directory files (suc n) texts
 
--- Why a file says nothing: it was not read, or it is not read so.
+-- Why a file says nothing: its bytes were not read, or nothing can be read from them.
 abbrev pub IsUnsaidBy : {X : Type 0} → ℕ → (List ℕ → Result X Fault) → Option (List ℕ) → Fault → Type 0
 IsUnsaidBy limit reading file f = IsReadFault f limit file ⊎ ((bytes : List ℕ) × IsAllOf file bytes × (length bytes ≤ limit) × Fails fault.Memory f (reading bytes))
 
+-- Why a file says no text, alone or under the given directory.
 abbrev pub IsUnsaid : ℕ → Option (List ℕ) → Option (List ℕ) → Fault → Type 0
 IsUnsaid limit given file f = IsUnsaidBy limit (said given) file f

@@ -13,15 +13,16 @@ use Rattle.commands.specs.Refusals.{of_directory, of_import}
 use Rattle.operating.specs.declared.refusal.Refusal.{Refusal}
 use Rattle.operating.specs.FileTexts.{IsUnsaid, IsUnsaidBy, Say, Says, SaysBy, Texts, directory_in, evidence_in, texts_of}
 
--- The evidence of files, and the text of the directory under which it is that.
+-- The evidence of files, and the encoding of its directory.
 pub record Collected : Type 0 where
   pub contents : Contents
   pub directory : List ℕ
 
+-- These contents under the directory with this encoding.
 abbrev pub under : List ℕ → Contents → Collected
 under directory s = record { contents = s; directory = directory }
 
--- The evidence of a directory, which is file 0, with what stands under it there, and of so many stores, from file 1 on.
+-- The evidence of a directory, which is file 0, with what stands under it there, and of this many stores, which are the files from 1 on.
 pub record AreGathered (limit : ℕ) (files : ℕ → Option (List ℕ)) (count : ℕ) (c : Collected) : Type 0 where
   pub front : Texts
   pub stores : List (List ℕ)
@@ -31,7 +32,7 @@ pub record AreGathered (limit : ℕ) (files : ℕ → Option (List ℕ)) (count 
   pub others : Say limit c.directory files 1 stores
   pub is : IsEvidence (evidence_of c.directory (evidence_in front ++ stores)) c.contents
 
--- The refusal is told of the file with this number, at no item.
+-- The refusal names the file with this number, and no item.
 abbrev pub IsOfFile : ℕ → Refusal → Type 0
 IsOfFile n r = (r.file ≡ Some n) × (r.item ≡ None)
 
@@ -39,11 +40,11 @@ IsOfFile n r = (r.file ≡ Some n) × (r.item ≡ None)
 abbrev pub RefusesDirectory : ℕ → Option (List ℕ) → Fault → Type 0
 RefusesDirectory limit file f = IsUnsaid limit None file f ⊎ ((text : List ℕ) × Says limit None file text × Fails fault.Memory f (told_as of_directory (directory_of text)))
 
--- Why a text of evidence is refused under a directory, and at which item.
+-- Why an encoding of evidence is refused under a directory, and at which item.
 abbrev pub RefusesText : Listing → List ℕ → Refusal → Type 0
 RefusesText ds text r = (f : ImportFault) × (r.fault ≡ of_import f) × (r.item ≡ Some f.item) × ((r.fault ≡ fault.Memory) ⊎ (import_set ds text ≡ Err f))
 
--- Why the first file is refused: it says nothing, or no directory; or what stands under the directory is refused.
+-- Why file 0 is refused: it says nothing, or no directory, or what stands under the directory is refused.
 abbrev pub RefusesFront : ℕ → Option (List ℕ) → Refusal → Type 0
 RefusesFront limit file r =
     ((r.item ≡ None) × IsUnsaidBy limit texts_of file r.fault)
@@ -56,7 +57,7 @@ RefusesStore limit c file r =
     ((r.item ≡ None) × IsUnsaid limit (Some c.directory) file r.fault)
     ⊎ ((text : List ℕ) × Says limit (Some c.directory) file text × RefusesText c.contents.directory text r)
 
--- The refusal of a directory and so many stores: the first in the order of the files. What stands before it is evidence.
+-- The refusal of a directory and this many stores: the first fault in the order of the files. What stands before it is evidence.
 abbrev pub RefusesFiles : ℕ → (ℕ → Option (List ℕ)) → ℕ → Refusal → Type 0
 RefusesFiles limit files count r =
     ((r.file ≡ Some 0) × RefusesFront limit (files 0) r)

@@ -1,4 +1,3 @@
-pub mod Combining
 pub mod ConvictingFiles
 pub mod Dealt
 pub mod FileTexts

@@ -19,12 +19,12 @@ use Rattle.operating.specs.declared.refusal.Refusal.{Refusal}
 use Rattle.operating.specs.FileTexts.{IsUnsaid, Says}
 use Rattle.operating.specs.GatheredFiles.{IsOfFile}
 
--- A witness under the directory ends with these items: the calls of its callers, each answered under the program, led to them.
+-- A witness under the directory ends with these items. The calls of its callers, each answered under the program, led to them.
 abbrev pub IsEnd : {S : Type 0} → Listing → Meaning S → Contents → Type 0
 IsEnd directory program c = (history : List Recorded) × (passes : List Notes) × IsWitness directory program c history passes
 
--- The texts of the directory of a scenario's nodes and of the stores that its witnesses have in the end, with so many workers, where the
--- nodes are to follow the program.
+-- The encodings of the directory of a scenario's nodes, and of the stores that its witnesses have in the end, with this number of workers.
+-- The nodes must follow the program.
 pub record AreLeft {S : Type 0} (program : Meaning S) (s : Script) (workers : ℕ) (p : Played) : Type 0 where
   pub contents : List Contents
   pub played : ArePlayed s workers contents
@@ -36,7 +36,7 @@ pub record AreLeft {S : Type 0} (program : Meaning S) (s : Script) (workers : �
 abbrev pub Leaves : {S : Type 0} → Meaning S → ℕ → ℕ → Option (List ℕ) → Played → Type 0
 Leaves program limit workers file p = (text : List ℕ) × (s : Script) × Says limit None file text × (scenario_of text ≡ Ok s) × AreLeft program s workers p
 
--- Why nothing is left: the file says nothing; or memory ran out; or it says no scenario, or one that is not run to its end.
+-- Why nothing is left: the file says nothing, or memory ran out, or the file says no scenario, or the scenario is not run to its end.
 abbrev pub RefusesPlay : ℕ → ℕ → Option (List ℕ) → Refusal → Type 0
 RefusesPlay limit workers file r =
     (IsOfFile 0 r × IsUnsaid limit None file r.fault)

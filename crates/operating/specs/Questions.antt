@@ -23,14 +23,14 @@ use Rattle.shards.specs.Extracts.{AddsQuotes, own_shard}
 use Rattle.commands.specs.declared.fault.Fault.{Fault}
 use Rattle.commands.specs.declared.fault.Fault.TheVariants as fault
 use Rattle.commands.specs.Output.{IsFound}
-use Rattle.status_lines.specs.Reports.{IsReport}
+use Rattle.commands.specs.Reports.{IsReport}
 use Rattle.operating.specs.declared.asking.Ending.{Ending}
 use Rattle.operating.specs.declared.asking.Ending.TheVariants as ending
 use Rattle.operating.specs.declared.scope.Scope.{Scope}
 use Rattle.operating.specs.declared.scope.Scope.TheVariants as scope
 use Rattle.operating.specs.GatheredFiles.{Collected, under}
 
--- The node is one of those that are asked of: any, or one of shard k.
+-- The node is one of those that are asked of: any node, or one of shard `k`.
 abbrev pub is_asked : Scope → ℕ → Bool
 is_asked scope.All node = true
 is_asked (scope.Shard shards k) node = in_turn shards node == k
@@ -50,56 +50,55 @@ pub record IsStanding {S : Type 0} (program : Meaning S) (s : Contents) (node : 
   pub indication : IsIndication s.directory program s.items node x.indication
   pub known : IsTrue x.known ↔ IsKnown s.directory s.items node
 
--- What the items say of each listed node, and of no other, in ascending order of the numbers.
+-- What the items say of each listed node and of no other, in ascending order of the numbers.
 pub record AreStandings {S : Type 0} (program : Meaning S) (s : Contents) (rows : List (ℕ × Standing)) : Type 0 where
   pub ascending : IsStrictlyIncreasing (map (λ row. row.0) rows)
   pub complete : (node : ℕ) → Contains (map (λ row. row.0) rows) node ↔ IsSome (keys_at s.directory node)
   pub right : All (λ row. IsStanding program s row.0 row.1) rows
 
--- Of these rows those of the nodes that are asked of.
+-- Those rows that are of nodes that are asked of.
 abbrev pub asked : Scope → List (ℕ × Standing) → List (ℕ × Standing)
 asked scope rows = filter (λ row. is_asked scope row.0) rows
 
--- `status`: of the standings those of the nodes that are asked of, under the program of this name, as they are written in this style. It is
--- never refused.
+-- `status`: what the items say of the nodes that are asked of, under the program of this name, written in this style. It is never refused.
 abbrev pub Status : {S : Type 0} → Style → List ℕ → Scope → Meaning S → Collected → Result (List ℕ × Ending) Fault → Type 0
 Status style name scope program c (Ok told) = (rows : List (ℕ × Standing)) × AreStandings program c.contents rows × (told.0 ≡ standings_text style name c.directory (asked scope rows)) × IsEnding scope program c.contents told.1
 Status style name scope program c (Err f) = ⊥
 
--- `merge`: the text of the set of all items. It is never refused.
+-- `merge`: the encoding of the set of all items. It is never refused.
 abbrev pub Merge : Collected → Result (List ℕ × Ending) Fault → Type 0
 Merge c (Ok told) = told ≡ (export_of c.contents.items, ending.Done)
 Merge c (Err f) = ⊥
 
--- A proof's text; nothing where there is none.
+-- The encoding of a proof; nothing, if there is none.
 abbrev pub told_of : Option Case → List ℕ × Ending
 told_of None = ([], ending.NoProof)
 told_of (Some c) = (proof_text c.parts, ending.Done)
 
--- `prove`: what is found against the node. It is refused where the node is not listed.
+-- `prove`: what is found against the node. It is refused only if the node is not listed.
 abbrev pub Prove : {S : Type 0} → Meaning S → ℕ → Collected → Result (List ℕ × Ending) Fault → Type 0
 Prove program node c (Ok told) = (found : Option Case) × IsFound program c.contents node found × (told ≡ told_of found)
 Prove program node c (Err f) = (keys_at c.contents.directory node ≡ None) × (f ≡ fault.UnknownNode)
 
--- `check`: which node is convicted, under the program of this name and the directory of which text, as it is written in this style. It is
--- never refused.
+-- `check`: which node is convicted, under the program of this name and the directory with this encoding, written in this style. It is never
+-- refused.
 abbrev pub Check : Style → List ℕ → ℕ × List ℕ → Result (List ℕ × Ending) Fault → Type 0
 Check style name found (Ok told) = told ≡ (conviction_text style found.0 name found.1, ending.Done)
 Check style name found (Err f) = ⊥
 
--- `show`: what a text is and what is in it, as it is written in this style. It is never refused.
+-- `show`: what a text is and what is in it, written in this style. It is never refused.
 abbrev pub Show : Style → List ℕ → Result (List ℕ × Ending) Fault → Type 0
 Show style text (Ok told) = (shown : Shown) × IsShown text shown × (told ≡ (shown_text style shown, ending.Done))
 Show style text (Err f) = ⊥
 
 -- ---- laws, which `laws` proves
 
--- In lines `status` of all nodes writes the report that the commands on lines of digits write.
+-- In the style of lines, `status` of all nodes writes the report that the commands on lines of digits write.
 abbrev pub StandingsAreReports : Type 0 → Type 0
 StandingsAreReports S = (program : Meaning S) (name : List ℕ) (c : Collected) (told : List ℕ × Ending) → Status style.Lines name scope.All program c (Ok told) ↔ (IsReport program c.contents told.0 × IsEnding scope.All program c.contents told.1)
 
--- Of the nodes of shard k `status` answers the same of all evidence and of what is an extract of it for each of them; as is shard k of a
--- set that has what is quoted in the evidence beside it.
+-- `status` answers the same of the nodes of shard `k` for all evidence and for a set that is an extract of it for each of them. Such a set
+-- is shard `k` of the evidence with what is quoted in it.
 pub record ExtractsAreTold (S : Type 0) : Type 0 where
   pub answer : (style : Style) (name directory : List ℕ) (program : Meaning S) (shards k : ℕ) (s t : Contents) (a b : List ℕ × Ending) → s.directory ≡ t.directory → ((j : ℕ) → in_turn shards j ≡ k → IsExtract s.directory j s.items t.items)
       → Status style name (scope.Shard shards k) program (under directory s) (Ok a) → Status style name (scope.Shard shards k) program (under directory t) (Ok b) → a ≡ b

@@ -1,4 +1,4 @@
-//! What all questions to stores share: the evidence is gathered, the answer is made, and it is written.
+//! What all questions to stores share. The evidence is gathered, the answer is made, and the answer is written.
 
 ghost use Rattle.std.specs.Prelude.{◌≡◌, ◌⊎◌, ◌<◌, ◌≤◌, ◌^◌, List, ℕ, IfErr, MatchResult, None, OnOk, Result, Ok, Err};
 ghost use Rattle.std.specs.Io.KnownBytes.{Appends};
@@ -15,21 +15,21 @@ use crate::gathering::gather;
 pub use crate::gathering::{Gathered, Reading};
 use crate::refusal::Refusal;
 use crate::watching::StoreWatcher;
-use commands::device::Sink;
+use commands::device::{Sink, Text, WriteFault};
 use commands::fault::Fault;
 use evidence::Evidence;
 use replay_verifier::Program;
 use std::alloc::Global;
 use std::thread::Threads;
 
-/// How an engine ends, where it is not refused.
+/// How an engine ends if it is not refused.
 #[derive(Clone, Copy, Debug, PartialEq, Eq)]
 pub enum Ending {
-    /// It was done, and nobody is said to be exposed.
+    /// The engine is done. `status` ends so only if no node that it was asked of is exposed.
     Done,
-    /// Somebody is exposed.
+    /// `status` found that a node that it was asked of is exposed.
     Exposed,
-    /// There is no proof.
+    /// `prove` found no proof.
     NoProof,
 }
 
@@ -44,18 +44,19 @@ pub struct Answer {
 
 /// A question to stores of evidence of nodes that follow a program.
 pub trait Question<P: Program, S: Evidence<P>> {
-    /// Which text answers it of which evidence, under the directory of which text, and how the engine ends; or why there is none.
+    /// Relates the evidence and the encoding of its directory to the text that answers and to how the engine ends, or to the fault if there
+    /// is no answer.
     ghost means: { Self → Collected → Result (List ℕ × Ending) Fault → Type 0 };
 
-    /// The answer of the evidence that was read.
+    /// Returns the answer for the evidence that was read.
     fn answer(&self, alloc: Global, read: &Gathered<S>) -> Result<Answer, Fault>
         ensures told { MatchResult result (λ answer. means self.now (under read.now.directory.items (S.contents read.now.store)) (Ok (answer.text.items, answer.ending))) (λ f. (f ≡ fault.Memory) ⊎ means self.now (under read.now.directory.items (S.contents read.now.store)) (Err f)) }
-        // Where there is none, that is the fault of no device.
+        // If there is no answer, the fault is no device's.
         ensures own { IfErr result IsOwn };
 }
 
-/// Reads the directory and so many stores behind it, and writes the answer and nothing else, in one write, once everything has been
-/// decided. The watcher is told how far the reading of the stores is.
+/// Reads the directory, which is file 0, and this many stores, which are the files from 1 on, and writes the answer. It writes nothing
+/// else, and it writes once, after everything has been decided. The watcher learns how far the stores are read.
 pub fn ask<
     R: Threads + Sync,
     P: Program + Send + Sync,
@@ -87,7 +88,7 @@ where
     Ok(answer.ending)
 }
 
-/// Writes the text, in one write.
+/// Writes the text, in one write. `WriteFailed` (102) if the write fails.
 pub fn write<W: Sink>(writer: &mut W, text: &[u8]) -> Result<(), Refusal>
     requires room { (W.seen writer.old).failures < 2 ^ 63 }
     ensures written { OnOk result (Appends (W.seen writer.old).written (W.seen writer.new).written text.now) }
@@ -97,5 +98,20 @@ pub fn write<W: Sink>(writer: &mut W, text: &[u8]) -> Result<(), Refusal>
     match writer.write_all(text) {
         Ok(()) => Ok(()),
         Err(_) => Err(Refusal::of_none(Fault::WriteFailed)),
+    }
+}
+
+/// Writes the text, in pieces or in one write. If memory runs out, nothing was written. `WriteFailed` (102) if a write fails.
+pub(crate) fn write_text<T: Text, W: Sink>(writer: &mut W, text: &T) -> Result<(), Refusal>
+    requires room { (W.seen writer.old).failures < 2 ^ 63 }
+    ensures written { OnOk result (Appends (W.seen writer.old).written (W.seen writer.new).written (T.bytes text.now)) }
+    ensures quiet { OnOk result ((W.seen writer.new).failures ≡ (W.seen writer.old).failures) }
+    ensures place { IfErr result (λ r. r.file ≡ None) }
+    ensures refused { IfErr result (λ r. ((r.fault ≡ fault.Memory) × (writer.new ≡ writer.old)) ⊎ ((r.fault ≡ fault.WriteFailed) × ((W.seen writer.old).failures < (W.seen writer.new).failures))) }
+{
+    match writer.write_text(text) {
+        Ok(()) => Ok(()),
+        Err(WriteFault::Memory) => Err(Refusal::of_none(Fault::Memory)),
+        Err(WriteFault::WriteFailed) => Err(Refusal::of_writing()),
     }
 }

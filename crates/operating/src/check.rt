@@ -1,4 +1,4 @@
-//! The engine of `check`: whom a proof convicts, under which program and which directory.
+//! The engine of `check`, which writes whom a proof convicts, under which program and which directory.
 
 ghost use Rattle.std.specs.Prelude.{◌≡◌, ◌+◌, ◌<◌, ◌^◌, IfErr, IfOk, MatchResult, OnOk};
 ghost use Rattle.operating.specs.ConvictingFiles.{AreConvictingUnder, RefusesConviction, RefusesProofText, TextConvicts};
@@ -18,7 +18,7 @@ use proofs::{Proof, check_proof};
 use replay_verifier::Program;
 use std::alloc::Global;
 
-/// Whom the proof that a text is convicts.
+/// Returns which node the proof that a text encodes convicts.
 fn convicted_by<P: Program>(
     alloc: Global,
     program: &P,
@@ -33,14 +33,14 @@ fn convicted_by<P: Program>(
     Ok(node)
 }
 
-/// Whom a proof convicts, and the text of the directory under which it does.
+/// The node that a proof convicts, and the encoding of the directory under which it does.
 #[derive(Drop)]
 struct Found {
     node: NodeId,
     directory: Vec<u8>,
 }
 
-/// Whom the proof that file 1 says convicts under the directory that file 0 says.
+/// Returns which node the proof in file 1 convicts under the directory in file 0.
 fn convicted<P: Program, O: Opener>(
     alloc: Global,
     program: &P,
@@ -68,7 +68,7 @@ fn convicted<P: Program, O: Opener>(
     }
 }
 
-/// In which style a conviction is written, and by which name the program is told.
+/// The style in which a conviction is written, and the name by which the program is written.
 #[derive(Drop)]
 pub struct Convicting<'a> {
     /// The style.
@@ -77,8 +77,8 @@ pub struct Convicting<'a> {
     pub name: &'a [u8],
 }
 
-/// Reads a directory and a proof, and writes which node the proof convicts, under the program of this name and that directory: nothing
-/// else, and in one write, once everything has been decided.
+/// Reads a directory, which is file 0, and a proof, which is file 1. It writes which node the proof convicts, under the program of this
+/// name and that directory. It writes nothing else, and it writes once, after everything has been decided.
 pub fn run<P: Program, O: Opener, W: Sink>(
     alloc: Global,
     program: &P,

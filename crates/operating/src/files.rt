@@ -1,20 +1,21 @@
-//! Files, of which one is read after the other, and how much is read of them.
+//! Files, which are read one after the other, and how much is read of them.
 
 ghost use Rattle.std.specs.Prelude.{◌≡◌, ◌+◌, ◌<◌, ◌≤◌, ◌^◌, ℕ, List, Option, IfOk, OnErr, OnOk};
 ghost use Rattle.operating.specs.FileTexts.{IsFailed, Opened};
 
 use commands::device::Source;
 
-/// A file could not be opened.
+/// The error of a file that could not be opened.
 #[derive(Clone, Copy, Debug, PartialEq, Eq)]
 pub struct OpenFailed;
 
-/// Files by their numbers. It counts how many failed: to be opened, to be read, or to end within [`MOST_READS`] reads.
+/// Files by their numbers. It counts the files that failed: those that could not be opened or read, and those that did not end within
+/// [`MOST_READS`] reads.
 pub trait Opener {
-    /// What reads an open file.
+    /// The reader of an open file.
     type Reader: Source + Drop;
 
-    /// What each file has, and how many failed.
+    /// The bytes of each file, if they are known, and how many files failed.
     ghost seen: { Self → Opened };
 
     /// Opens the file with this number, from its first byte on. The count of failures must have room for one more.
@@ -35,14 +36,14 @@ pub trait Opener {
         ensures one { (seen self.new).failures ≤ (seen self.old).failures + 1 };
 }
 
-/// How much is read, and by how many.
+/// How much is read, and how many workers check it.
 #[derive(Clone, Copy, Debug)]
 pub struct Limits {
-    /// The most bytes of a file.
+    /// The greatest number of bytes of a file.
     pub most_bytes: usize,
     /// How many workers check a store's items: 1 to 8.
     pub workers: usize,
 }
 
-/// The most reads of a file.
+/// The greatest number of reads of a file.
 pub const MOST_READS: u32 = u32::MAX;

@@ -1,4 +1,4 @@
-//! The evidence of files: a directory, and the items of stores under it.
+//! The evidence of files is a directory, and the items of stores under it.
 
 ghost use Rattle.std.specs.Prelude.{◌≡◌, ◌+◌, ◌<◌, ◌≤◌, ◌^◌, IfErr, IfOk, IfSome, IsSome, List, None, Ok, OnOk, Some, option_map, option_to_list, suc, ℕ};
 ghost use Rattle.authenticators.specs.DirectoryText.{directory_of};
@@ -24,33 +24,33 @@ use replay_verifier::Program;
 use std::alloc::Global;
 use std::thread::Threads;
 
-/// How stores are read, and under what their items are checked.
+/// How stores are read, and under what program their items are checked.
 #[derive(Drop)]
 pub struct Reading<'a, R, P> {
-    /// The runtime, which makes threads.
+    /// The runtime, which makes the threads.
     pub rt: &'a R,
-    /// Of what memory is taken.
+    /// The allocator.
     pub alloc: Global,
-    /// The program that the nodes are to follow.
+    /// The program that the nodes must follow.
     pub program: &'a P,
-    /// How much is read, and by how many workers.
+    /// How much is read, and how many workers check it.
     pub limits: Limits,
 }
 
-/// The evidence that was read of files.
+/// The evidence that was read from files.
 #[derive(Drop)]
 pub struct Gathered<S> {
-    /// The directory's text.
+    /// The directory's encoding.
     pub directory: Vec<u8>,
-    /// How many stores there were, with the one that may stand under the directory.
+    /// How many stores there were. A store under the directory in file 0 counts as one of them.
     pub stores: usize,
-    /// The bytes by which the text of the last of them is known; zeros where there was none.
+    /// The first eight bytes of the encoding of the last store, which say what it is; zeros if there was no store.
     pub front: [u8; 8],
     /// The evidence.
     pub store: S,
 }
 
-/// The bytes by which a text is known.
+/// Returns the first eight bytes of a text, or zeros if it has fewer.
 fn front_of(text: &[u8]) -> [u8; 8] {
     match text.first_chunk() {
         Some(front) => *front,
@@ -58,7 +58,7 @@ fn front_of(text: &[u8]) -> [u8; 8] {
     }
 }
 
-/// What every store's items are: valid under its directory, and fewer than a number of 64 bits can count.
+/// Shows that every store's items are valid under its directory, and that their count is below 2^64.
 fn items_are_valid<P: Program, S: Evidence<P>>(store: &S)
     ensures valid { AreValid (S.contents store.now).directory (S.contents store.now).items }
     ensures few { count (S.contents store.now).items < 2 ^ 64 }
@@ -67,7 +67,7 @@ fn items_are_valid<P: Program, S: Evidence<P>>(store: &S)
     let _ = store.count();
 }
 
-/// Notes how far a text was read, and tells a watcher.
+/// Notes how far a text was read, and reports this to a watcher.
 #[derive(Drop)]
 struct Noting<'a, F> {
     watcher: &'a mut F,
@@ -81,7 +81,7 @@ impl<'a, F: StoreWatcher> Watcher for Noting<'a, F> {
     }
 }
 
-/// Adds the items of the text of a file. The text is let go as it is read.
+/// Adds the items of a file's text. It frees the text as it reads it.
 fn add_text<R: Threads + Sync, P: Program + Send + Sync, S: Evidence<P>, F: StoreWatcher>(
     reading: &Reading<'_, R, P>,
     store: &mut S,
@@ -115,7 +115,8 @@ where
     }
 }
 
-/// Adds the items of the store that a file says under the directory of this text, and gives the bytes by which the store's text is known.
+/// Adds the items of the store that a file says under the directory with this encoding. Returns the first eight bytes of the store's
+/// encoding.
 fn add_file<
     R: Threads + Sync,
     P: Program + Send + Sync,
@@ -146,7 +147,7 @@ where
     Ok(front)
 }
 
-/// A store without items, under the directory that file 0 says, and what stands under the directory there.
+/// A store without items under the directory that file 0 says, and what stands under the directory there.
 #[derive(Drop)]
 struct Begun<S> {
     directory: Vec<u8>,
@@ -183,7 +184,7 @@ fn begin<P: Program, S: Evidence<P>, O: Opener>(
     }
 }
 
-/// Adds what stands under the directory in file 0, where something does, to a store without items.
+/// Adds what stands under the directory in file 0 to a store without items, if something stands there.
 fn add_under<R: Threads + Sync, P: Program + Send + Sync, S: Evidence<P>, F: StoreWatcher>(
     reading: &Reading<'_, R, P>,
     begun: Begun<S>,
@@ -222,7 +223,7 @@ where
     })
 }
 
-/// The evidence of file 0: a directory, and what stands under it there.
+/// Returns the evidence of file 0: a directory, and what stands under it there.
 fn gather_first<
     R: Threads + Sync,
     P: Program + Send + Sync,
@@ -247,7 +248,7 @@ where
     Ok(read)
 }
 
-/// The evidence of the directory, which is file 0, and of so many stores, which are the files from 1 on.
+/// Returns the evidence of the directory, which is file 0, and of this many stores, which are the files from 1 on.
 fn gather_each<
     R: Threads + Sync,
     P: Program + Send + Sync,
@@ -295,7 +296,7 @@ where
     })
 }
 
-/// The same. The watcher is told when that is done, whether the files are refused or not.
+/// Returns the same. It reports the end to the watcher, whether the files are refused or not.
 pub(crate) fn gather<
     R: Threads + Sync,
     P: Program + Send + Sync,

@@ -1,4 +1,4 @@
-//! The engine of `play`: what a scenario leaves, as files that the other engines read.
+//! The engine of `play`, which returns what a scenario leaves, as files that the other engines read.
 
 ghost use Rattle.std.specs.Prelude.{◌≡◌, ◌⊎◌, ◌<◌, ◌^◌, IfErr, IfOk, MatchResult, Ok, OnOk, map};
 ghost use Rattle.authenticators.specs.DirectoryText.{directory_text};
@@ -26,13 +26,13 @@ use std::thread::Threads;
 /// What a scenario leaves.
 #[derive(Drop)]
 pub struct Played {
-    /// The text of the directory of its nodes.
+    /// The encoding of the directory of its nodes.
     pub directory: Vec<u8>,
-    /// The text of the store of each witness, in order.
+    /// The encoding of the store of each witness, in order.
     pub stores: Vec<Vec<u8>>,
 }
 
-/// The scenario that a text is.
+/// Reads the scenario that a text is.
 fn scenario_in(alloc: Global, text: &[u8]) -> Result<Scenario, Fault>
     ensures told { MatchResult result (λ s. scenario_of text.now ≡ Ok s) (λ f. (f ≡ fault.Memory) ⊎ IsNone text.now f) }
     ensures own { IfErr result IsOwn }
@@ -44,7 +44,7 @@ fn scenario_in(alloc: Global, text: &[u8]) -> Result<Scenario, Fault>
     }
 }
 
-/// The texts of the stores of witnesses.
+/// Returns the encodings of the witnesses' stores.
 fn stores_of<P: Program, S: Evidence<P>>(
     alloc: Global,
     witnesses: &[Witness<S>],
@@ -59,7 +59,7 @@ fn stores_of<P: Program, S: Evidence<P>>(
     Ok(texts)
 }
 
-/// The texts of what a run left.
+/// Returns the encodings of what a run left.
 fn texts_of<P: Program, S: Evidence<P>>(
     alloc: Global,
     outcome: &Outcome<S>,
@@ -72,7 +72,7 @@ fn texts_of<P: Program, S: Evidence<P>>(
     Ok(Played { directory, stores })
 }
 
-/// What a scenario leaves, where so many workers check its items.
+/// Returns what a scenario leaves, if this number of workers checks its items.
 fn play_out<
     H: Threads + Wait + Sync,
     P: Program + Copy + Send + Sync + Drop,
@@ -91,8 +91,8 @@ where
     Ok(texts)
 }
 
-/// Reads the scenario that file 0 says, plays it, has its items checked by so many workers, and gives the directory of its nodes and the
-/// store of each of its witnesses. Which items they have, no contract says.
+/// Reads the scenario that file 0 says, and plays it. Returns the directory of its nodes and the store of each of its witnesses. No
+/// contract says which items the stores have. `limits.workers` workers check the items.
 pub fn run<H: Threads + Wait + Sync, P: Program + Copy + Send + Sync + Drop, O: Opener>(
     rt: &H,
     alloc: Global,

@@ -1,4 +1,4 @@
-//! The engine of `prove`: a proof of what evidence shows of a node.
+//! The engine of `prove`, which writes a proof of what evidence shows of a node.
 
 ghost use Rattle.std.specs.Prelude.{◌≡◌, ◌<◌, ◌≤◌, IfOk};
 ghost use Rattle.operating.specs.Operating.{HasRoom, RanOnStores};
@@ -20,14 +20,14 @@ use replay_verifier::Program;
 use std::alloc::Global;
 use std::thread::Threads;
 
-/// What is asked: of which node a proof is wanted.
+/// The question of `prove`: the node against which a proof is wanted.
 #[derive(Clone, Copy)]
 pub struct Proving {
     /// The node.
     pub node: NodeId,
 }
 
-/// The text of a proof, or that there is none.
+/// Returns the encoding of a proof, or that there is none.
 fn answer_of(alloc: Global, found: Option<Proof>) -> Result<Answer, Memory>
     ensures { IfOk result (λ answer. (answer.text.items, answer.ending) ≡ told_of found) }
 {
@@ -56,9 +56,10 @@ impl<P: Program, S: Evidence<P>> Question<P, S> for Proving {
     }
 }
 
-/// Reads a directory and so many stores, and writes a proof that convicts the node before anybody who has the directory and the program;
-/// or nothing, and answers `NoProof`, where the items do not expose it. Where several proofs convict the node, it is left open which one
-/// is written.
+/// Reads a directory and this many stores, and writes a proof that convicts the node. Whoever has the directory and knows the program can
+/// check the proof. If the items do not expose the node, it writes nothing and returns [`NoProof`](Ending::NoProof).
+///
+/// If several proofs convict the node, it is left open which one is written. `UnknownNode` (44) if the directory does not list the node.
 pub fn run<R: Threads + Sync, P: Program + Send + Sync, O: Opener, F: StoreWatcher, W: Sink>(
     reading: &Reading<'_, R, P>,
     node: NodeId,

@@ -1,4 +1,4 @@
-//! One file, and what it says.
+//! The reading of one file, and of what it says.
 
 ghost use Rattle.std.specs.Prelude.{◌≡◌, ◌+◌, ◌<◌, ◌≤◌, ◌^◌, IfErr, IfOk, None, Ok, OnOk, Some, option_copied, option_map, option_to_list, vec_len};
 ghost use Rattle.outcome.specs.Outcome.{Fails, told_as};
@@ -18,8 +18,8 @@ use commands::fault::Fault;
 use commands::input::read_input;
 use std::alloc::Global;
 
-/// All bytes of the file with this number.
-pub(crate) fn read_file<O: Opener>(
+/// Returns all bytes of the file with this number.
+fn read_file<O: Opener>(
     alloc: Global,
     opener: &mut O,
     file: usize,
@@ -42,7 +42,7 @@ pub(crate) fn read_file<O: Opener>(
     bytes
 }
 
-/// What the file with this number says: a text, and perhaps a directory's above it.
+/// Returns what the file with this number says: a text, and perhaps a directory's encoding above it.
 fn read_texts<O: Opener>(
     alloc: Global,
     opener: &mut O,
@@ -67,8 +67,15 @@ fn read_texts<O: Opener>(
     }
 }
 
-/// What the file with this number says: the text that stands alone in it, or, where a directory's text is given, perhaps under that one.
-/// `LineCount` (104) where another directory stands above it, or one where none is given.
+/// Returns the text that the file with this number says. The text stands alone in the file. If a directory's encoding is given, the text
+/// may stand under that directory too.
+///
+/// - `ReadFailed` (100) if the file could not be opened or read, or did not end within [`MOST_READS`] reads.
+/// - `InputTooLong` (101) if it has more bytes than [`Limits::most_bytes`](crate::files::Limits).
+/// - `BadHex` (103) if a line has a character that is no hexadecimal digit, or an odd number of digits.
+/// - `LineCount` (104) if there are more than two lines, or if the second one is empty. It comes too if another directory stands above the
+///   text, or if one does and none is given.
+/// - `Memory` (99) if a growth is refused.
 pub fn read_said<O: Opener>(
     alloc: Global,
     opener: &mut O,
@@ -91,7 +98,7 @@ pub fn read_said<O: Opener>(
     }
 }
 
-/// The directory that a text is.
+/// Returns the directory that a text encodes.
 fn directory_from(alloc: Global, text: &[u8]) -> Result<Directory, Refusal>
     ensures read { IfOk result (λ d. directory_of text.now ≡ Ok d) }
     ensures refused { IfErr result (λ r. IsOfFile 0 r × Fails fault.Memory r.fault (told_as of_directory (directory_of text.now))) }
@@ -106,13 +113,14 @@ fn directory_from(alloc: Global, text: &[u8]) -> Result<Directory, Refusal>
 /// A directory that was read.
 #[derive(Debug, Drop)]
 pub struct ReadDirectory {
-    /// Its text: a directory has two, where each node has one key.
+    /// Its encoding. A directory has two encodings if each node has one key.
     pub text: Vec<u8>,
     /// The directory.
     pub directory: Directory,
 }
 
-/// The directory that file 0 says, and nothing else, with its text.
+/// Returns the directory that file 0 says, with its encoding. File 0 must have nothing else. The errors are those of [`read_said`] and of
+/// reading a directory.
 pub fn read_directory_file<O: Opener>(
     alloc: Global,
     opener: &mut O,
@@ -132,7 +140,7 @@ pub fn read_directory_file<O: Opener>(
     Ok(ReadDirectory { text, directory })
 }
 
-/// The directory that file 0 says, and nothing else.
+/// Returns the directory that file 0 says. File 0 must have nothing else.
 pub(crate) fn read_directory<O: Opener>(
     alloc: Global,
     opener: &mut O,
@@ -153,15 +161,15 @@ pub(crate) fn read_directory<O: Opener>(
 /// A directory that was read, and what stands under it in its file.
 #[derive(Debug, Drop)]
 pub(crate) struct Front {
-    /// The directory's text.
+    /// The directory's encoding.
     pub text: Vec<u8>,
     /// The directory.
     pub directory: Directory,
-    /// The text of evidence under it, where there is one.
+    /// The encoding of evidence under it, if there is any.
     pub under: Option<Vec<u8>>,
 }
 
-/// Takes the directory's text apart from what stands under it.
+/// Separates the directory's encoding from what stands under it.
 fn parted(texts: FileTexts) -> (Vec<u8>, Option<Vec<u8>>)
     ensures directory { result.0.items ≡ directory_in (record { above = option_map (λ v. v.items) texts.above; text = texts.text.items }) }
     ensures under { option_to_list (option_map (λ v. v.items) result.1) ≡ evidence_in (record { above = option_map (λ v. v.items) texts.above; text = texts.text.items }) }
@@ -173,7 +181,7 @@ fn parted(texts: FileTexts) -> (Vec<u8>, Option<Vec<u8>>)
     }
 }
 
-/// The directory that file 0 says, with what stands under it there.
+/// Returns the directory that file 0 says, with what stands under it there.
 pub(crate) fn read_front<O: Opener>(
     alloc: Global,
     opener: &mut O,

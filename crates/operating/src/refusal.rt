@@ -1,4 +1,4 @@
-//! Why nothing was written, and where the fault stands.
+//! Why an engine refused, and where the fault stands.
 
 ghost use Rattle.std.specs.Prelude.{◌≡◌, None, Some};
 ghost use Rattle.commands.specs.declared.fault.Fault.TheVariants as fault;
@@ -9,22 +9,23 @@ use commands::fault::Fault;
 use containers::ImportFault;
 use log_chain::FieldReader;
 
-/// A refusal: the fault, with its number and its name, and its place.
+/// A refusal: the fault, with its number and its name, and the place of the fault.
 #[derive(Clone, Copy, Debug, PartialEq, Eq)]
 pub struct Refusal {
     /// What is wrong.
     pub fault: Fault,
-    /// The number of the file in which it stands; none where it stands in none.
+    /// The number of the file that has the fault; `None` if it is in no file.
     pub file: Option<usize>,
-    /// How many items of the file stand before it; none where it is at no item.
+    /// How many items of the file stand before the fault; `None` if it is at no item.
     pub item: Option<u64>,
-    /// How many bytes of the file's text stand before that item's length; none where it is at no item, or there is no such item.
+    /// How many bytes of the file's text stand before the length of that item. `None` if the fault is at no item, or if there is no such
+    /// item.
     pub byte: Option<u64>,
-    /// What the file is, where it was read.
+    /// What the file is, if it was read.
     pub form: TextForm,
 }
 
-/// How many bytes stand behind so many items of a text.
+/// Returns how many bytes stand behind the first `items` items of a text.
 fn left_behind(mut reader: FieldReader<'_>, items: u64) -> Option<usize> {
     for _ in 0..items {
         let Ok(len) = reader.u32() else {
@@ -51,7 +52,7 @@ pub(crate) struct Far {
 }
 
 impl Far {
-    /// Nothing was read of the text.
+    /// Returns the value for a text of which nothing was read.
     pub(crate) fn none(text: &[u8]) -> Far {
         let len = text.len() as u64;
         Far {
@@ -62,13 +63,13 @@ impl Far {
         }
     }
 
-    /// So many items were read, and so many bytes stand behind them.
+    /// Notes that this many items were read, and that this many bytes stand behind them.
     pub(crate) fn note(&mut self, items: u64, left: u64) {
         self.items = items;
         self.left = left;
     }
 
-    /// How many bytes of the text stand before the length of an item that stands behind so many others, where `rest` is left of the text.
+    /// Returns how many bytes of the text stand before the length of the item behind `item` others. `rest` is what is left of the text.
     fn byte_of(&self, rest: &[u8], item: u64) -> Option<u64> {
         let read = (rest.len() as u64).saturating_sub(self.left);
         let mut reader = FieldReader::new(rest);
@@ -84,7 +85,7 @@ impl Far {
 }
 
 impl Refusal {
-    /// A fault that stands in no file.
+    /// Returns the refusal for a fault that is in no file.
     pub fn of_none(fault: Fault) -> Refusal
         ensures { (result.fault ≡ fault) × (result.file ≡ None) × (result.item ≡ None) }
     {
@@ -97,14 +98,14 @@ impl Refusal {
         }
     }
 
-    /// The answer could not be written.
+    /// Returns the refusal for an answer that could not be written: `WriteFailed` (102).
     pub fn of_writing() -> Refusal
         ensures { (result.fault ≡ fault.WriteFailed) × (result.file ≡ None) × (result.item ≡ None) }
     {
         Refusal::of_none(Fault::WriteFailed)
     }
 
-    /// A fault of a file that was not read.
+    /// Returns the refusal for a fault of a file that was not read.
     pub(crate) fn of_file(file: usize, fault: Fault) -> Refusal
         ensures { (result.fault ≡ fault) × (result.file ≡ Some file) × (result.item ≡ None) }
     {
@@ -117,7 +118,7 @@ impl Refusal {
         }
     }
 
-    /// A fault of a file's text.
+    /// Returns the refusal for a fault of a file's text.
     pub fn of_text(file: usize, text: &[u8], fault: Fault) -> Refusal
         ensures { (result.fault ≡ fault) × (result.file ≡ Some file) × (result.item ≡ None) }
     {
@@ -130,7 +131,7 @@ impl Refusal {
         }
     }
 
-    /// A fault of a store's text that was read so far, and of which `rest` is left.
+    /// Returns the refusal for a fault of a store's encoding that was read so far, and of which `rest` is left.
     pub(crate) fn of_reading(file: usize, far: &Far, rest: &[u8], fault: ImportFault) -> Refusal
         ensures { (result.fault ≡ of_import fault) × (result.file ≡ Some file) × (result.item ≡ Some fault.item) }
     {
@@ -143,7 +144,7 @@ impl Refusal {
         }
     }
 
-    /// A fault of a store's text.
+    /// Returns the refusal for a fault of a store's encoding.
     pub(crate) fn of_import(file: usize, text: &[u8], fault: ImportFault) -> Refusal
         ensures { (result.fault ≡ of_import fault) × (result.file ≡ Some file) × (result.item ≡ Some fault.item) }
     {

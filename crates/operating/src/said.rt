@@ -11,14 +11,14 @@ use commands::fault::Fault;
 use commands::lines::{bytes_of, first_line, has_digits};
 use std::alloc::Global;
 
-/// A text, and the directory's that stands above it in the file.
+/// A text, and the directory's encoding that stands above it in the file.
 #[derive(Debug, Drop)]
 pub(crate) struct FileTexts {
     pub above: Option<Vec<u8>>,
     pub text: Vec<u8>,
 }
 
-/// Whether the file is lines of digits: it has eight bytes, and the first eight are digits.
+/// Returns whether the file is lines of digits: it has at least eight bytes, and the first eight are digits.
 fn is_spelled(bytes: &[u8]) -> bool
     ensures { result ≡ is_spelled bytes.now }
 {
@@ -28,7 +28,7 @@ fn is_spelled(bytes: &[u8]) -> bool
     has_digits(&bytes[..8])
 }
 
-/// What one line spells.
+/// Returns what one line spells.
 #[tactic(auto, unfolding(crate::specs::FileTexts::one_in))]
 fn one_in(alloc: Global, line: &[u8]) -> Result<FileTexts, Fault>
     ensures { Gives Memory (λ t. record { above = option_map (λ v. v.items) t.above; text = t.text.items }) result (one_in line.now) }
@@ -37,7 +37,7 @@ fn one_in(alloc: Global, line: &[u8]) -> Result<FileTexts, Fault>
     Ok(FileTexts { above: None, text })
 }
 
-/// What two lines spell.
+/// Returns what two lines spell.
 #[tactic(auto, unfolding(crate::specs::FileTexts::two_in))]
 fn two_in(alloc: Global, line: &[u8], other: &[u8]) -> Result<FileTexts, Fault>
     ensures { Gives Memory (λ t. record { above = option_map (λ v. v.items) t.above; text = t.text.items }) result (two_in line.now other.now) }
@@ -51,7 +51,7 @@ fn two_in(alloc: Global, line: &[u8], other: &[u8]) -> Result<FileTexts, Fault>
     Ok(FileTexts { above, text })
 }
 
-/// What the lines of a file spell.
+/// Returns what the lines of a file spell.
 fn spelled_in(alloc: Global, bytes: &[u8]) -> Result<FileTexts, Fault>
     ensures { Gives Memory (λ t. record { above = option_map (λ v. v.items) t.above; text = t.text.items }) result (spelled_in (lines_of bytes.now)) }
 {
@@ -67,7 +67,7 @@ fn spelled_in(alloc: Global, bytes: &[u8]) -> Result<FileTexts, Fault>
     }
 }
 
-/// What a file says.
+/// Returns what a file says.
 #[tactic(auto, unfolding(crate::specs::FileTexts::texts_of))]
 pub(crate) fn texts_of(alloc: Global, bytes: Vec<u8>) -> Result<FileTexts, Fault>
     ensures { Gives Memory (λ t. record { above = option_map (λ v. v.items) t.above; text = t.text.items }) result (texts_of bytes.items) }
@@ -81,7 +81,7 @@ pub(crate) fn texts_of(alloc: Global, bytes: Vec<u8>) -> Result<FileTexts, Fault
     })
 }
 
-/// A text alone where no directory is given; else one that stands alone, or under the directory of this text.
+/// Returns a text that stands alone. If a directory's encoding is given, the text may stand under that directory too.
 pub(crate) fn read_under(given: Option<&[u8]>, texts: FileTexts) -> Result<Vec<u8>, Fault>
     ensures told { MatchResult result (λ text. read_under (option_copied given.entry) (option_map (λ v. v.items) texts.above) texts.text.items ≡ Ok text.items) (λ f. read_under (option_copied given.entry) (option_map (λ v. v.items) texts.above) texts.text.items ≡ Err f) }
     ensures own { IfErr result IsOwn }

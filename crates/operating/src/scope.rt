@@ -1,4 +1,4 @@
-//! Of which nodes is told.
+//! The choice of the nodes that are asked of.
 
 ghost use Rattle.std.specs.Prelude.{◌≡◌};
 ghost use Rattle.operating.specs.Questions.{asked, is_asked};
@@ -8,18 +8,18 @@ use authenticators::NodeId;
 use shards::Shards;
 use std::collections::BTreeMap;
 
-/// Of which nodes is told.
+/// The nodes that are asked of.
 #[derive(Clone, Copy)]
 pub enum Scope {
-    /// Of all.
+    /// All nodes.
     All,
-    /// Of those of one shard, by the count of shards and its number. The shard's store says of them what all evidence says, and of others
-    /// perhaps not: it may lack what exposes them, and what answers a challenge.
+    /// The nodes of one shard, by the count of shards and the shard's number. The shard's store says of them what all evidence says. Of
+    /// other nodes it may say something else, since it may lack what exposes them and what answers a challenge.
     Shard(Shards, u32),
 }
 
 impl Scope {
-    /// Whether the node is asked of.
+    /// Returns whether the node is asked of.
     pub fn asks(&self, node: NodeId) -> bool
         ensures { result ≡ is_asked self.now node }
     {
@@ -29,7 +29,7 @@ impl Scope {
         }
     }
 
-    /// Leaves what is said of the nodes that are asked of.
+    /// Keeps what is said of the nodes that are asked of, and removes the rest.
     pub(crate) fn keep(&self, standings: &mut BTreeMap<u32, Standing>)
         ensures { standings.new.entries ≡ asked self.now standings.old.entries }
     {

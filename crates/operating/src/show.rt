@@ -1,4 +1,4 @@
-//! The engine of `show`: what a file is, and what is in it. Nothing is checked.
+//! The engine of `show`, which writes what a file is and what is in it. It checks nothing.
 
 ghost use Rattle.std.specs.Prelude.{IfOk, Ok};
 ghost use Rattle.operating.specs.declared.asking.Ending.TheVariants as ending;
@@ -14,7 +14,7 @@ use commands::device::Sink;
 use commands::fault::Fault;
 use std::alloc::{AllocError, Global};
 
-/// What a text is and what is in it, as it is written in this style.
+/// Returns what a text is and what is in it, written in this style.
 fn shown_text(alloc: Global, style: Style, text: &[u8]) -> Result<Vec<u8>, AllocError>
     ensures { IfOk result (λ shown. Show style text.now (Ok (shown.items, ending.Done))) }
 {
@@ -23,8 +23,8 @@ fn shown_text(alloc: Global, style: Style, text: &[u8]) -> Result<Vec<u8>, Alloc
     Ok(written)
 }
 
-/// Reads file 0, and writes in this style what it is and what is in it: nothing else, and in one write, once everything has been decided.
-/// Nothing of it is checked.
+/// Reads file 0, and writes in this style what it is and what is in it. It checks nothing of it. It writes nothing else, and it writes
+/// once, after everything has been decided.
 pub fn run<O: Opener, W: Sink>(
     alloc: Global,
     style: Style,

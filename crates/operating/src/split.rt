@@ -1,5 +1,5 @@
-//! The engine of `split`: the items of stores, dealt to parts by the nodes that they name, or by ranges of numbers. None of them is checked;
-//! for extracts what is quoted of other shards' nodes is verified.
+//! The engine of `split`, which deals the items of stores to parts, by the nodes that they name. It checks none of the items. For extracts,
+//! it verifies what they quote of other shards' nodes.
 
 ghost use Rattle.std.specs.Prelude.{◌≡◌, ◌≢◌, ◌⊎◌, ◌++◌, ◌<◌, ◌≤◌, ◌^◌, IfErr, IfOk, List, None, OnErr, OnOk, Some, decimal, string_bytes, ℕ};
 ghost use Rattle.std.specs.Io.KnownBytes.{Appends};
@@ -47,7 +47,7 @@ fn add_file<O: Opener>(
     }
 }
 
-/// The items of so many stores, which are the files from 0 or from 1 on, in their order, each once.
+/// Returns the items of this many stores, in order, each once. The stores are the files from 0 or from 1 on.
 fn read_items<O: Opener>(
     alloc: Global,
     opener: &mut O,
@@ -70,10 +70,11 @@ fn read_items<O: Opener>(
     Ok(gathered(items))
 }
 
-/// The items of so many stores, which are the files from 1 on, with what is quoted in them beside them, under the directory that file 0
-/// says: dealt as [`Dealing::Extracts`](shards::Dealing) each part is an extract for its nodes, of which `status` says what it says of all
-/// stores ([`extracts_are_told`](crate::laws::extracts_are_told)). In their order, each once. Of signatures those of such quotes are
-/// verified, and no others.
+/// Returns the items of this many stores, which are the files from 1 on, with what is quoted in them, under the directory that file 0 says.
+/// They come in order, each once. It verifies the signatures of these quotes, and no others.
+///
+/// If they are dealt as [`Dealing::Extracts`](shards::Dealing), each part is an extract for its nodes. `status` says of an extract what it
+/// says of all stores ([`extracts_are_told`](crate::laws::extracts_are_told)).
 fn read_extracted<O: Opener>(
     alloc: Global,
     opener: &mut O,
@@ -96,7 +97,7 @@ fn read_extracted<O: Opener>(
     }
 }
 
-/// The set that is dealt, in the order of its items, each once.
+/// Returns the set that is dealt, in the order of its items, each once.
 fn read_dealt<O: Opener>(
     alloc: Global,
     splitting: &Splitting,
@@ -112,7 +113,7 @@ fn read_dealt<O: Opener>(
 {
     let stores = splitting.stores;
     match splitting.dealing {
-        Dealing::ByNode(_) | Dealing::ByRange(_) => read_items(alloc, opener, 0, stores, limits),
+        Dealing::ByNode(_) => read_items(alloc, opener, 0, stores, limits),
         Dealing::Extracts(shards) => read_extracted(alloc, opener, shards, stores, limits),
     }
 }
@@ -121,7 +122,7 @@ fn read_dealt<O: Opener>(
 
 /// New files by the numbers of parts. It counts how many writes failed.
 pub trait PartFiles {
-    /// What each part's file has, and how many writes failed.
+    /// The bytes of each part's file, if they are known, and how many writes failed.
     ghost seen: { Self → Filed };
 
     /// Writes the file of part `k`: all of the bytes, unless a write fails. The count of failures must have room for one more.
@@ -133,14 +134,14 @@ pub trait PartFiles {
         ensures failed { OnErr result ((seen self.old).failures < (seen self.new).failures) };
 }
 
-/// A number in decimal digits.
+/// Returns a number in decimal digits.
 fn decimal_of(alloc: Global, number: u64) -> Result<String, AllocError>
     ensures { IfOk result (λ word. string_bytes word ≡ decimal number) }
 {
     format!(in alloc; "{number}")
 }
 
-/// Writes the line of part `k`, of so many parts, behind the others.
+/// Writes the line of part `k`, of `parts` parts, after the others.
 fn put_line(
     alloc: Global,
     lines: &mut Vec<u8>,
@@ -161,7 +162,7 @@ fn put_line(
     lines.extend_from_slice(b"\n")
 }
 
-/// Part `k`, with its line behind the others.
+/// Returns part `k`, and writes its line after the others.
 fn lined_part(
     alloc: Global,
     parting: &Parting,
@@ -177,7 +178,8 @@ fn lined_part(
     Ok(part)
 }
 
-/// Writes part `k` to its file, nothing else, and in one write, and its line behind the others. Nothing is written where memory runs out.
+/// Writes part `k` to its file, nothing else, and in one write. It adds the part's line after the others. It writes nothing if memory runs
+/// out.
 fn file_part<F: PartFiles>(
     alloc: Global,
     parting: &Parting,
@@ -202,7 +204,7 @@ fn file_part<F: PartFiles>(
     }
 }
 
-/// Writes each part to its file, and gives a line for each.
+/// Writes each part to its file, and returns a line for each.
 fn write_parts<F: PartFiles>(
     alloc: Global,
     parting: &Parting,
@@ -229,12 +231,16 @@ fn write_parts<F: PartFiles>(
 pub struct Splitting {
     /// How items are dealt to parts.
     pub dealing: Dealing,
-    /// How many stores there are: files from 0 on, or, for extracts, behind a directory, which is file 0.
+    /// How many stores there are. They are the files from 0 on. For extracts, file 0 is a directory, and they are the files from 1 on.
     pub stores: usize,
 }
 
-/// Writes each part of the items of all stores to its file, and, once all parts are there, a line for each to the writer. Where a store is
-/// refused nothing was written; where memory ran out, the first parts may have been, whole; where a write failed, the next one in part.
+/// Writes each part of the items of all stores to its file. After all parts, it writes a line for each part to the writer: the part's
+/// number, the number of parts, and the part's number of items, as in `0/4 17`.
+///
+/// - If a store is refused, or the directory for extracts, nothing was written.
+/// - If memory runs out, the first parts may have been written, each as a whole.
+/// - If a write fails, the first parts may have been written, and the next part partly.
 pub fn run<O: Opener, F: PartFiles, W: Sink>(
     alloc: Global,
     splitting: &Splitting,

@@ -15,14 +15,14 @@ use replay_verifier::Program;
 use std::alloc::{AllocError, Global};
 use std::collections::BTreeMap;
 
-/// A map is in ascending order.
+/// Shows that a map is in ascending order.
 fn is_ordered(standings: &BTreeMap<u32, Standing>)
     ensures { IsOrdered nat_cmp standings.now }
 {
     let _ = standings.len();
 }
 
-/// What the evidence says of a listed node.
+/// Returns what the evidence says of a listed node.
 fn standing_of<P: Program>(store: &Store<P>, node: NodeId) -> Standing
     requires { IsSome (keys_at store.now.directory node) }
     ensures { IsStanding P.means store.now node result }
@@ -36,7 +36,7 @@ fn standing_of<P: Program>(store: &Store<P>, node: NodeId) -> Standing
     }
 }
 
-/// The same of each node of its directory, by its number.
+/// Returns the same for each node of its directory, by the node's number.
 fn each_standing<P: Program>(
     alloc: Global,
     store: &Store<P>,
@@ -52,7 +52,7 @@ fn each_standing<P: Program>(
     Ok(standings)
 }
 
-/// What the evidence says of each node of its directory, ascending. It is refused memory alone.
+/// Returns what the evidence says of each node of its directory, ascending. It fails only if a growth is refused.
 pub(crate) fn standings_of<P: Program>(
     alloc: Global,
     store: &Store<P>,

@@ -1,4 +1,4 @@
-//! The engine of `status`: what evidence says of each node.
+//! The engine of `status`, which writes what evidence says of each node.
 
 ghost use Rattle.std.specs.Prelude.{◌<◌, ◌≤◌, ◌↔◌, IsSome, IsTrue};
 ghost use Rattle.authenticators.specs.Directory.{keys_at};
@@ -24,7 +24,7 @@ use replay_verifier::Program;
 use std::alloc::Global;
 use std::thread::Threads;
 
-/// What is asked: of which nodes, in which style it is answered, and by which name the program is told.
+/// The question of `status`: the nodes that are asked of, the style of the answer, and the name by which the program is written.
 #[derive(Clone, Copy)]
 pub struct Reporting<'a> {
     /// The style.
@@ -35,7 +35,7 @@ pub struct Reporting<'a> {
     pub name: &'a [u8],
 }
 
-/// Whether the evidence exposes a listed node.
+/// Returns whether the evidence exposes a listed node.
 fn is_exposed<P: Program, S: Evidence<P>>(store: &S, node: NodeId) -> bool
     requires { IsSome (keys_at (S.contents store.now).directory node) }
     ensures { IsTrue result ↔ IsExposed (S.contents store.now).directory P.means (S.contents store.now).items node }
@@ -50,7 +50,7 @@ fn is_exposed<P: Program, S: Evidence<P>>(store: &S, node: NodeId) -> bool
     }
 }
 
-/// Whether a listed node is asked of, and the evidence exposes it.
+/// Returns whether a listed node is asked of, and the evidence exposes it.
 fn exposes<P: Program, S: Evidence<P>>(store: &S, scope: &Scope, node: NodeId) -> bool
     requires { IsSome (keys_at (S.contents store.now).directory node) }
     ensures { IsTrue result ↔ (IsTrue (is_asked scope.now node) × IsExposed (S.contents store.now).directory P.means (S.contents store.now).items node) }
@@ -61,7 +61,7 @@ fn exposes<P: Program, S: Evidence<P>>(store: &S, scope: &Scope, node: NodeId) -
     is_exposed::<P, S>(store, node)
 }
 
-/// Whether the evidence exposes a node of its directory that is asked of.
+/// Returns whether the evidence exposes a node of its directory that is asked of.
 fn exposes_somebody<P: Program, S: Evidence<P>>(store: &S, scope: &Scope) -> bool
     ensures { IsTrue result ↔ ExposesSomebody scope.now P.means (S.contents store.now) }
 {
@@ -73,7 +73,8 @@ fn exposes_somebody<P: Program, S: Evidence<P>>(store: &S, scope: &Scope) -> boo
     false
 }
 
-/// How an engine ends that tells what evidence says of the nodes that are asked of.
+/// Returns how an engine ends that reports what evidence says. It is `Exposed` if the evidence exposes a node that is asked of, and else
+/// `Done`.
 pub fn ending_of<P: Program, S: Evidence<P>>(store: &S, scope: &Scope) -> Ending
     ensures { IsEnding scope.now P.means (S.contents store.now) result }
 {
@@ -96,9 +97,9 @@ impl<'a, P: Program> Question<P, Store<P>> for Reporting<'a> {
     }
 }
 
-/// Reads a directory and so many stores, and writes in this style what the items of all stores say of each node of the directory that is
-/// asked of, under the program of this name, and as JSON whether anything is known of it: nothing else, and in one write, once everything
-/// has been decided.
+/// Reads a directory and this many stores, and writes what the items of all stores say of each node of the directory that is asked of. It
+/// writes in this style, under the program of this name. As JSON it also writes whether anything is known of each node. It writes nothing
+/// else, and it writes once, after everything has been decided.
 pub fn run<R: Threads + Sync, P: Program + Send + Sync, O: Opener, F: StoreWatcher, W: Sink>(
     reading: &Reading<'_, R, P>,
     reporting: &Reporting<'_>,

@@ -1,14 +1,14 @@
-//! Who is told how far the reading of stores is.
+//! Watchers learn how far stores are read.
 
 pub use parallel_reading::{Unwatched, Watcher};
 
-/// Who is told of which store how far it is read. It is handed numbers alone, and neither what is read nor what is written: whatever it
-/// does, the answer is the same.
+/// A watcher that learns of each store how far it is read. It gets only numbers, and neither what is read nor what is written. So the
+/// answer is the same, whatever it does.
 pub trait StoreWatcher: Watcher {
-    /// The items of the store that this file says are read from now on. Its text has so many bytes.
+    /// Is called when the items of the store in this file begin to be read. The store's encoding has `bytes` bytes.
     fn begin(&mut self, file: usize, bytes: u64);
 
-    /// All stores are read, or one was refused. Nothing is told behind it.
+    /// Is called when all stores are read, or when one is refused. No call follows it.
     fn end(&mut self);
 }
 

@@ -1,4 +1,4 @@
-//! Under what a verdict is given: the program, the directory and the evidence.
+//! A basis says under what a verdict is given: the program, the directory and the evidence.
 
 ghost use Rattle.std.specs.Prelude.{◌≡◌, ◌++◌, ◌∷◌, IfOk, OnOk, string_bytes};
 ghost use Rattle.hex.specs.Hex.{encode_lower};
@@ -10,21 +10,20 @@ use log_chain::Hash;
 use sha2::{Digest, Sha256};
 use std::alloc::{AllocError, Global};
 
-/// Under what a verdict is given. Whoever puts another program or another directory in its place may have another verdict of the same
-/// bytes.
+/// What a verdict is given under. Under another program or another directory, the same bytes may have another verdict.
 #[derive(Debug, Drop)]
 pub struct Basis {
-    /// The name of the program that the nodes are to follow.
+    /// The name of the program that the nodes must follow.
     pub program: String,
-    /// The SHA-256 of the directory's text.
+    /// The SHA-256 of the directory's encoding.
     pub directory: Hash,
     /// What was judged.
     pub input: Input,
-    /// The SHA-256 of its text.
+    /// The SHA-256 of its encoding.
     pub evidence: Hash,
 }
 
-/// The SHA-256 of a text.
+/// Returns the SHA-256 of a text.
 fn digest_of(text: &[u8]) -> Hash
     ensures { result ≡ sha256 text.now }
 {
@@ -32,7 +31,8 @@ fn digest_of(text: &[u8]) -> Hash
 }
 
 impl Basis {
-    /// What was judged under this directory, of nodes that are to follow the program of this name.
+    /// Returns the basis of a verdict. `program` is the name of the program that the nodes must follow. `directory` and `evidence` are the
+    /// encodings of the directory and of what was judged. The basis keeps only their SHA-256 values.
     pub fn of(
         alloc: Global,
         program: &str,
@@ -54,7 +54,7 @@ impl Basis {
     }
 }
 
-/// Writes bytes in hexadecimal digits, behind a blank.
+/// Writes bytes in hexadecimal digits, after a blank.
 fn put_group(alloc: Global, text: &mut Vec<u8>, bytes: &[u8]) -> Result<(), AllocError>
     ensures { OnOk result (text.new.items ≡ text.old.items ++ 32 ∷ encode_lower bytes.now) }
 {
@@ -63,7 +63,7 @@ fn put_group(alloc: Global, text: &mut Vec<u8>, bytes: &[u8]) -> Result<(), Allo
     text.extend_from_slice(digits.as_bytes())
 }
 
-/// Writes bytes in groups of four hexadecimal digits, each group behind a blank. A byte that is left over is not written.
+/// Writes bytes in groups of four hexadecimal digits, each group after a blank. A byte that is left over is not written.
 fn put_groups(alloc: Global, text: &mut Vec<u8>, bytes: &[u8]) -> Result<(), AllocError>
     ensures { OnOk result (text.new.items ≡ text.old.items ++ groups bytes.now) }
 {
@@ -76,7 +76,7 @@ fn put_groups(alloc: Global, text: &mut Vec<u8>, bytes: &[u8]) -> Result<(), All
     Ok(())
 }
 
-/// A hash as it is read out: ` ec73 934f 8067 ..`, sixteen groups, each behind a blank.
+/// Returns a hash as a person reads it out: sixteen groups of four hexadecimal digits, each after a blank, such as ` ec73 934f 8067 ..`.
 pub fn groups_of(alloc: Global, hash: &Hash) -> Result<Vec<u8>, AllocError>
     ensures { IfOk result (λ text. text.items ≡ groups hash.now) }
 {
@@ -86,7 +86,7 @@ pub fn groups_of(alloc: Global, hash: &Hash) -> Result<Vec<u8>, AllocError>
 }
 
 impl Input {
-    /// `store`, `union of the stores`, `proof`.
+    /// Returns the name of the input: `store`, `union of the stores` or `proof`.
     pub(crate) fn name(self) -> &'static str
         ensures { result.now ≡ input_name self }
     {
@@ -98,7 +98,7 @@ impl Input {
     }
 }
 
-/// Writes what stands before a digest: the name of what has it.
+/// Writes what stands before a digest: the name of what has the digest.
 fn put_label(text: &mut Vec<u8>, name: &str) -> Result<(), AllocError>
     ensures { OnOk result (text.new.items ≡ text.old.items ++ digest_label name.now) }
 {
@@ -107,7 +107,7 @@ fn put_label(text: &mut Vec<u8>, name: &str) -> Result<(), AllocError>
     text.extend_from_slice(b":")
 }
 
-/// Writes the line of a digest behind the name of what has it.
+/// Writes the line of a digest, after the name of what has it.
 pub(crate) fn put_digest(
     alloc: Global,
     text: &mut Vec<u8>,

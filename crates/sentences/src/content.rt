@@ -1,4 +1,4 @@
-//! What entries say.
+//! What the entries of a log say.
 
 use crate::payload::{Payload, Shown, Voice};
 use crate::words::Kind;
@@ -11,19 +11,19 @@ use std::fmt;
 /// What an entry's content says beside its payload, by the entry's kind.
 #[derive(Clone, Copy, Debug, PartialEq, Eq)]
 pub enum Said {
-    /// Of which node an INIT is.
+    /// The node of an INIT.
     Node(NodeId),
-    /// To which node a SEND goes.
+    /// The node that a SEND goes to.
     To(NodeId),
-    /// Which entry of which node a RECV quotes.
+    /// The node and the number of the entry that a RECV quotes.
     From(NodeId, u64),
     /// The moment of a TIMER.
     Moment(u64),
-    /// Nothing: the content is of another kind, or none of its kind.
+    /// Nothing. The entry is of another kind, or its content is none of its kind.
     Plain,
 }
 
-/// What a SEND says, and its payload.
+/// Returns what a SEND says, and its payload.
 fn read_send(content: &[u8]) -> (Said, &[u8]) {
     let mut reader = FieldReader::new(content);
     match reader.u32() {
@@ -32,7 +32,7 @@ fn read_send(content: &[u8]) -> (Said, &[u8]) {
     }
 }
 
-/// What a RECV says, and its payload.
+/// Returns what a RECV says, and its payload.
 fn read_recv(content: &[u8]) -> (Said, &[u8]) {
     match Receipt::read(content) {
         Some(receipt) => (Said::From(receipt.from, receipt.seq), receipt.payload),
@@ -41,7 +41,8 @@ fn read_recv(content: &[u8]) -> (Said, &[u8]) {
 }
 
 impl Said {
-    /// What a content says in an entry of this kind, and the payload: where it says nothing, the whole content.
+    /// Returns what a content says in an entry of this kind, and the payload. The payload of an INIT or a TIMER is empty. If the content
+    /// says nothing, the payload is the whole content.
     pub fn read(kind: u8, content: &[u8]) -> (Said, &[u8]) {
         match (kind, content) {
             (SEND, _) => read_send(content),
@@ -68,7 +69,7 @@ pub struct Content<'a, V> {
     pub payload: Payload<'a, V>,
 }
 
-/// `of node 1`, `to node 3 of "total"`, `of entry 4 of node 1, "5"`, `of the moment 7`, `with the bytes 00`.
+/// Writes the content, such as `of node 1`, `to node 3 of "total"`, `of entry 4 of node 1, "5"`, `of the moment 7` or `with the bytes 00`.
 impl<'a, V: Voice> fmt::Display for Content<'a, V> {
     fn fmt<W: fmt::Write>(&self, f: &mut fmt::Formatter<W>) -> fmt::Result {
         let payload = &self.payload;
@@ -88,13 +89,13 @@ impl<'a, V: Voice> fmt::Display for Content<'a, V> {
 /// What an entry says.
 #[derive(Drop)]
 pub struct Logged<'a, V> {
-    /// How a payload is said.
+    /// The voice that says a payload.
     pub voice: &'a V,
     /// The entry.
     pub entry: &'a Entry,
 }
 
-/// `a SEND to node 3 of "total"`, `a RECV of entry 4 of node 1, "5"`, `a TIMER of the moment 7`.
+/// Writes the entry, such as `a SEND to node 3 of "total"`, `a RECV of entry 4 of node 1, "5"` or `a TIMER of the moment 7`.
 impl<'a, V: Voice> fmt::Display for Logged<'a, V> {
     fn fmt<W: fmt::Write>(&self, f: &mut fmt::Formatter<W>) -> fmt::Result {
         let kind = Kind(self.entry.kind);
@@ -108,16 +109,16 @@ impl<'a, V: Voice> fmt::Display for Logged<'a, V> {
     }
 }
 
-/// A message that a program puts out.
+/// A message that a program sends.
 #[derive(Drop)]
 pub struct Sending<'a, V> {
-    /// How a payload is said.
+    /// The voice that says a payload.
     pub voice: &'a V,
     /// The message.
     pub output: &'a Output,
 }
 
-/// `a SEND to node 3 of "total"`.
+/// Writes the message, such as `a SEND to node 3 of "total"`.
 impl<'a, V: Voice> fmt::Display for Sending<'a, V> {
     fn fmt<W: fmt::Write>(&self, f: &mut fmt::Formatter<W>) -> fmt::Result {
         let kind = Kind(SEND);

@@ -1,4 +1,4 @@
-//! How many items there are, in words.
+//! Counts of items, in words.
 
 use crate::words::Count;
 use std::fmt;
@@ -6,7 +6,7 @@ use std::fmt;
 /// How many items there are, by form.
 #[derive(Clone, Copy, Debug)]
 pub struct FormCounts {
-    /// Statements alone.
+    /// Statements that are items by themselves.
     pub statements: u64,
     /// Segments.
     pub segments: u64,
@@ -19,7 +19,7 @@ pub struct FormCounts {
 }
 
 impl FormCounts {
-    /// No item.
+    /// Returns the counts of no item.
     pub fn none() -> FormCounts {
         FormCounts {
             statements: 0,
@@ -31,7 +31,7 @@ impl FormCounts {
     }
 }
 
-/// Writes a count behind others, unless it is zero, and answers whether something was written so far.
+/// Writes a count after others, unless it is zero. Returns whether something was written so far.
 fn write_count<W: fmt::Write>(
     written: bool,
     count: Count,
@@ -45,7 +45,7 @@ fn write_count<W: fmt::Write>(
     Ok(true)
 }
 
-/// `: 2 statements, 1 segment`; nothing where there is no item.
+/// Writes the counts that are not zero, such as `: 2 statements, 1 segment`. It writes nothing if there is no item.
 impl fmt::Display for FormCounts {
     fn fmt<W: fmt::Write>(&self, f: &mut fmt::Formatter<W>) -> fmt::Result {
         let counts = [

@@ -1,22 +1,22 @@
-//! What is told of one input, in sentences.
+//! What is said of one input, in sentences.
 
 use authenticators::NodeId;
 use evidence_set::Indication;
 use log_chain::Hash;
 
-/// A number in a node's log.
+/// The number of an entry in a node's log.
 #[derive(Clone, Copy, Debug, PartialEq, Eq)]
 pub struct Mark {
-    /// The node whose log it is of.
+    /// The node whose log has the entry.
     pub node: NodeId,
-    /// The number.
+    /// The entry's number.
     pub seq: u64,
 }
 
-/// An entry that contradicts something: entries of its number with other hashes do not.
+/// An entry that contradicts something. Entries that have its number and another hash do not.
 #[derive(Clone, Copy, Debug, PartialEq, Eq)]
 pub struct NamedHash {
-    /// The node whose log it is of.
+    /// The node whose log has the entry.
     pub node: NodeId,
     /// The entry's number.
     pub seq: u64,
@@ -29,26 +29,26 @@ pub struct NamedHash {
 pub struct Sentence {
     /// The sentence, with its full stop and without a line feed.
     pub text: String,
-    /// The numbers of which it says that what stands there contradicts something.
+    /// The numbers of entries of which the sentence says that they contradict something.
     pub marks: Vec<Mark>,
-    /// The entries that contradict something, which it names or of which it speaks.
+    /// The entries that contradict something, and that the sentence names or speaks of.
     pub named: Vec<NamedHash>,
 }
 
-/// What is told of a node.
+/// What is said of a node.
 #[derive(Debug, Drop)]
 pub struct NodeExplanation {
     /// The node.
     pub node: NodeId,
     /// What the evidence says of it.
     pub indication: Indication,
-    /// Whether no item is of it: it is trusted for want of evidence.
+    /// Whether no item is of the node. If so, the node is trusted for want of evidence.
     pub has_no_item: bool,
-    /// Why, in order.
+    /// The reasons, in order.
     pub sentences: Vec<Sentence>,
 }
 
-/// What is told of a store or of a proof.
+/// What is said of a store or of a proof.
 #[derive(Debug, Drop)]
 pub struct Explanation {
     /// One line about the whole, without a line feed.

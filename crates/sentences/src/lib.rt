@@ -1,16 +1,17 @@
-//! What is told of a store of evidence or of a proof, in sentences that a person can read.
+//! What is said of a store or of a proof, in sentences that a person can read.
 //!
-//! - [`Explanation`] has a heading, and of each node its indication and [`Sentence`]s; a [`Mark`] names an entry of which a sentence says
-//!   that it contradicts something. [`text_of`] writes an explanation down.
-//! - [`Basis`] says under which program and directory a verdict is given, and of which bytes. [`verdict_text`] writes it in front of an
+//! - [`Explanation`] has a heading. For each node it has the indication and [`Sentence`]s. A [`Mark`] names an entry of which a sentence
+//!   says that it contradicts something. [`text_of`] writes an explanation as text.
+//! - [`Basis`] says under which program and directory a verdict is given, and of which bytes. [`verdict_text`] writes it before an
 //!   explanation.
 //! - [`Listing`] has what a directory lists, with the SHA-256 of each key.
 //! - [`Lines`] takes sentences one after the other.
-//! - [`Count`], [`FormCounts`], [`Kind`], [`Shown`], [`Sending`], [`Logged`] and [`Sites`] are the words for what evidence has: each writes itself.
+//! - [`Count`], [`FormCounts`], [`Kind`], [`Shown`], [`Sending`], [`Logged`] and [`Sites`] are the words for what evidence has. Each writes
+//!   itself.
 //! - [`Said`] reads what an entry's content says. A [`Voice`] says what a program's payload says; [`PlainVoice`] shows its bytes.
 //!
-//! `specs/Texts.antt` says how an explanation is written: of each node a line of its own, and its sentences behind blanks; and
-//! `specs/Bases.antt` how a basis is. No contract of this crate speaks of a sentence's words.
+//! `specs/Texts.antt` says how an explanation is written: each node has a line of its own, and its sentences follow after blanks.
+//! `specs/Bases.antt` says how a basis is written. No contract of this crate says which words a sentence has.
 #![tactic(auto)]
 
 pub use authenticators::NodeId;

@@ -1,4 +1,4 @@
-//! Sentences, one after the other.
+//! Sentences about a node, one after the other.
 
 ghost use Rattle.std.specs.Prelude.{◌≡◌, IfOk};
 
@@ -9,7 +9,7 @@ use outcome::Memory;
 use std::alloc::Global;
 
 impl Sentence {
-    /// A sentence that speaks of no contradiction. It takes no memory.
+    /// Returns a sentence that speaks of no contradiction. It takes no memory.
     pub fn plain(alloc: Global, text: String) -> Sentence
         ensures { result.text ≡ text }
     {
@@ -20,7 +20,7 @@ impl Sentence {
         }
     }
 
-    /// A sentence that speaks of what stands under this number as contradicting something.
+    /// Returns a sentence which says that what has this number contradicts something.
     pub fn of_number(
         alloc: Global,
         node: NodeId,
@@ -35,7 +35,7 @@ impl Sentence {
         Ok(Sentence { text, marks, named })
     }
 
-    /// A sentence that speaks of the entry with this number and hash, and of no other under the number, as contradicting something.
+    /// Returns a sentence which says that the entry with this number and hash contradicts something, and no other entry with the number.
     pub fn of_entry(
         alloc: Global,
         node: NodeId,
@@ -52,7 +52,7 @@ impl Sentence {
         Ok(Sentence { text, marks, named })
     }
 
-    /// A sentence that names the hash of an entry which contradicts something.
+    /// Returns a sentence that names the hash of an entry which contradicts something.
     pub fn of_hash(
         alloc: Global,
         node: NodeId,
@@ -77,7 +77,7 @@ pub struct Lines {
 }
 
 impl Lines {
-    /// No sentence. It takes no memory.
+    /// Returns a list without a sentence. It takes no memory.
     pub fn new(alloc: Global) -> Lines {
         Lines {
             alloc,
@@ -85,12 +85,12 @@ impl Lines {
         }
     }
 
-    /// The allocator.
+    /// Returns the allocator.
     pub fn alloc(&self) -> Global {
         self.alloc
     }
 
-    /// Says a sentence that speaks of no contradiction.
+    /// Adds a sentence that speaks of no contradiction.
     pub fn say(&mut self, text: String) -> Result<(), Memory> {
         let sentence = Sentence::plain(self.alloc, text);
         self.add(sentence)
@@ -102,7 +102,7 @@ impl Lines {
         Ok(())
     }
 
-    /// The sentences in order.
+    /// Returns the sentences in order.
     pub fn into_sentences(self) -> Vec<Sentence> {
         self.sentences
     }

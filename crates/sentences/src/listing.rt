@@ -12,20 +12,20 @@ use std::alloc::{AllocError, Global};
 pub struct ListedNode {
     /// The node.
     pub node: NodeId,
-    /// The SHA-256 of each of its keys, as the directory has them, by number from 0.
+    /// The SHA-256 of the encoding of each of its keys. The place in the list is the key's number, from 0.
     pub keys: Vec<Hash>,
 }
 
 /// What a directory lists.
 #[derive(Debug, Drop)]
 pub struct Listing {
-    /// The SHA-256 of the directory's text.
+    /// The SHA-256 of the directory's encoding.
     pub directory: Hash,
     /// Its nodes, ascending by number.
     pub nodes: Vec<ListedNode>,
 }
 
-/// The SHA-256 of each key.
+/// Returns the SHA-256 of each key.
 fn digests_of(alloc: Global, keys: &[PublicKey]) -> Result<Vec<Hash>, AllocError> {
     let mut digests = Vec::new(alloc);
     for key in keys {
@@ -35,7 +35,7 @@ fn digests_of(alloc: Global, keys: &[PublicKey]) -> Result<Vec<Hash>, AllocError
 }
 
 impl Listing {
-    /// What a directory lists, which has this text.
+    /// Returns what a directory lists. `text` is the directory's encoding.
     pub fn of(alloc: Global, directory: &Directory, text: &[u8]) -> Result<Listing, AllocError> {
         let mut numbers = Vec::from_slice(alloc, directory.nodes())?;
         numbers.sort()?;
@@ -50,7 +50,7 @@ impl Listing {
         })
     }
 
-    /// How many nodes and keys there are: `2 nodes, 3 keys`.
+    /// Returns how many nodes and keys there are, such as `2 nodes, 3 keys`.
     pub fn summary(&self, alloc: Global) -> Result<String, AllocError> {
         let nodes = Count(self.nodes.len() as u64, "node", "nodes");
         let mut keys: u64 = 0;
@@ -76,7 +76,7 @@ fn put_node(alloc: Global, text: &mut Vec<u8>, listed: &ListedNode) -> Result<()
     Ok(())
 }
 
-/// The directory's SHA-256, and below it each node with the SHA-256 of each of its keys.
+/// Returns a line with the directory's SHA-256, and below it each node with the SHA-256 of each of its keys.
 pub fn listing_lines(alloc: Global, listing: &Listing) -> Result<Vec<u8>, AllocError> {
     let mut text = Vec::new(alloc);
     put_digest(alloc, &mut text, "directory", &listing.directory)?;

@@ -2,21 +2,21 @@
 
 use std::fmt;
 
-/// So many bytes of a content are shown at most.
+/// The greatest number of bytes of a content that are shown.
 pub const MOST_SHOWN: usize = 64;
 
-/// The beginning of bytes, and how many there are: as text in quotes where what is shown is printable ASCII without a quotation mark or a
-/// backslash, else as hexadecimal digits.
+/// The beginning of bytes, and how many there are. If what is shown is printable ASCII without a quotation mark or a backslash, it is
+/// written in quotes, and else in hexadecimal digits.
 #[derive(Clone, Copy, Debug)]
 pub struct Shown<'a> {
     /// The first of the bytes, or all of them.
     pub bytes: &'a [u8],
-    /// How many there are.
+    /// How many bytes there are.
     pub size: usize,
 }
 
 impl<'a> Shown<'a> {
-    /// The bytes, of which no more than 64 are shown.
+    /// Returns the bytes, of which no more than 64 are shown.
     pub fn of(bytes: &'a [u8]) -> Shown<'a> {
         Shown {
             bytes: bytes.get(..MOST_SHOWN).unwrap_or(bytes),
@@ -24,7 +24,7 @@ impl<'a> Shown<'a> {
         }
     }
 
-    /// The bytes behind so many; none where there are fewer.
+    /// Returns what is behind the first `count` bytes. Returns `None` if fewer than `count` bytes are shown.
     pub fn behind(self, count: usize) -> Option<Shown<'a>> {
         let bytes = self.bytes.get(count..)?;
         Some(Shown {
@@ -34,12 +34,12 @@ impl<'a> Shown<'a> {
     }
 }
 
-/// Whether the byte stands in quotes as it is.
+/// Returns whether the byte can stand in quotes as it is.
 fn is_quotable(byte: u8) -> bool {
     (0x20..0x7f).contains(&byte) && byte != b'"' && byte != b'\\'
 }
 
-/// Whether all of the bytes do.
+/// Returns whether all of the bytes can.
 fn are_quotable(bytes: &[u8]) -> bool {
     bytes.iter().all(|byte| is_quotable(*byte))
 }
@@ -72,7 +72,8 @@ fn write_shown<W: fmt::Write>(shown: &[u8], f: &mut fmt::Formatter<W>) -> fmt::R
     write_digits(shown, f)
 }
 
-/// `"total"`, `the bytes 0007`, `no bytes`; where not all are shown these, and how many there are.
+/// Writes the bytes, such as `"total"`, `the bytes 0007` or `no bytes`. If not all are shown, it writes those that are, and how many there
+/// are.
 impl<'a> fmt::Display for Shown<'a> {
     fn fmt<W: fmt::Write>(&self, f: &mut fmt::Formatter<W>) -> fmt::Result {
         let Shown { bytes, size } = *self;
@@ -87,13 +88,13 @@ impl<'a> fmt::Display for Shown<'a> {
     }
 }
 
-/// How a payload of a program is said.
+/// Says the payloads of a program in words.
 pub trait Voice {
     /// Writes what a payload says.
     fn say<W: fmt::Write>(&self, payload: Shown<'_>, f: &mut fmt::Formatter<W>) -> fmt::Result;
 }
 
-/// Says each payload by its bytes.
+/// The voice that shows the bytes of each payload.
 #[derive(Clone, Copy, Debug)]
 pub struct PlainVoice;
 
@@ -103,12 +104,12 @@ impl Voice for PlainVoice {
     }
 }
 
-/// A payload, and how it is said.
+/// A payload, and the voice that says it.
 #[derive(Drop)]
 pub struct Payload<'a, V> {
-    /// How it is said.
+    /// The voice that says it.
     pub voice: &'a V,
-    /// What is said.
+    /// The bytes of the payload that are shown, and how many there are.
     pub shown: Shown<'a>,
 }
 

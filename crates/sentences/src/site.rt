@@ -1,58 +1,58 @@
-//! Where statements and segments stand.
+//! The places of statements and segments in an input.
 
 use authenticators::NodeId;
 use std::fmt;
 
-/// What holds a part of an input.
+/// The kind of an input.
 #[derive(Clone, Copy, Debug, PartialEq, Eq)]
 pub enum Input {
-    /// A store, by its items.
+    /// A store. Its places are those of its items.
     Store,
-    /// Several stores, by the items of their union.
+    /// Several stores. Their places are those of the items of their union.
     Union,
-    /// A proof, by its parts.
+    /// A proof. Its places are those of its parts.
     Proof,
 }
 
-/// As what a statement or a segment stands in an item or in a part.
+/// The role that a statement or a segment has in an item or in a part.
 #[derive(Clone, Copy, Debug, PartialEq, Eq)]
 pub enum Role {
-    /// As a statement alone.
+    /// The item or the part is the statement.
     Statement,
-    /// As a segment.
+    /// The item or the part is the segment.
     Segment,
-    /// As the end of a segment of the node's log.
+    /// A segment of the node's log ends with the statement.
     End,
-    /// As what an entry of another node's segment quotes.
+    /// An entry of another node's segment quotes the statement.
     Quoted {
         /// The node whose log has the entry.
         by: NodeId,
         /// The entry's number.
         entry: u64,
     },
-    /// As what an audit challenge names.
+    /// An audit challenge names the statement.
     Named,
-    /// As the sender's statement in a send challenge.
+    /// A send challenge has it as the sender's statement.
     Sent,
-    /// As the sender's statement in an acknowledgement.
+    /// An acknowledgement has it as the sender's statement.
     Acknowledged,
-    /// As the receiver's statement in an acknowledgement.
+    /// An acknowledgement has it as the receiver's statement.
     Acknowledging,
 }
 
 /// A place in an input, and what stands there. Items and parts are counted from 1.
 #[derive(Clone, Copy, Debug, PartialEq, Eq)]
 pub struct Site {
-    /// What it is a place in.
+    /// The kind of input that has the place.
     pub input: Input,
     /// The number of the item or of the part.
     pub place: u64,
-    /// As what it stands there.
+    /// The role of what stands there.
     pub role: Role,
 }
 
 impl Site {
-    /// An item of a store.
+    /// Returns the place of an item of a store.
     pub fn item(place: u64, role: Role) -> Site {
         Site {
             input: Input::Store,
@@ -61,7 +61,7 @@ impl Site {
         }
     }
 
-    /// A part of a proof.
+    /// Returns the place of a part of a proof.
     pub fn part(place: u64, role: Role) -> Site {
         Site {
             input: Input::Proof,
@@ -71,7 +71,7 @@ impl Site {
     }
 }
 
-/// `a statement`, `a segment of node 3, whose entry 2 quotes it`.
+/// Writes the role, such as `a statement` or `a segment of node 3, whose entry 2 quotes it`.
 impl fmt::Display for Role {
     fn fmt<W: fmt::Write>(&self, f: &mut fmt::Formatter<W>) -> fmt::Result {
         match self {
@@ -89,7 +89,7 @@ impl fmt::Display for Role {
     }
 }
 
-/// `item 1, a statement`, `part 1, a segment`.
+/// Writes the place, such as `item 1, a statement` or `part 1, a segment`.
 impl fmt::Display for Site {
     fn fmt<W: fmt::Write>(&self, f: &mut fmt::Formatter<W>) -> fmt::Result {
         let place = self.place;
@@ -101,14 +101,14 @@ impl fmt::Display for Site {
     }
 }
 
-/// Places in order, to be written.
+/// Places in the order in which they are written.
 #[derive(Clone, Copy)]
 pub struct Sites<'a>(pub &'a [Site]);
 
-/// So many places are told at most.
+/// The greatest number of places that are written.
 const MOST_SITES: usize = 12;
 
-/// Writes a place behind others.
+/// Writes a place after others.
 fn write_site<W: fmt::Write>(first: bool, site: Site, f: &mut fmt::Formatter<W>) -> fmt::Result {
     if !first {
         f.write_str("; ")?;
@@ -116,7 +116,7 @@ fn write_site<W: fmt::Write>(first: bool, site: Site, f: &mut fmt::Formatter<W>)
     write!(f, "{site}")
 }
 
-/// Writes how many places are not told.
+/// Writes how many places are left out.
 fn write_others<W: fmt::Write>(len: usize, f: &mut fmt::Formatter<W>) -> fmt::Result {
     if len <= MOST_SITES {
         return Ok(());
@@ -125,7 +125,7 @@ fn write_others<W: fmt::Write>(len: usize, f: &mut fmt::Formatter<W>) -> fmt::Re
     write!(f, "; and {others} more")
 }
 
-/// The places behind each other, separated by semicolons: the first twelve, and how many there are more.
+/// Writes the first twelve places, separated by semicolons, and then how many more there are.
 impl<'a> fmt::Display for Sites<'a> {
     fn fmt<W: fmt::Write>(&self, f: &mut fmt::Formatter<W>) -> fmt::Result {
         let mut first = true;

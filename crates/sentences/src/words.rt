@@ -3,11 +3,11 @@
 use log_chain::kind::{CHECKPOINT, INIT, RECV, SEND, TIMER};
 use std::fmt;
 
-/// A number of things, with the word for one and the word for more.
+/// A number of things, the word for one thing, and the word for any other number.
 #[derive(Clone, Copy)]
 pub struct Count(pub u64, pub &'static str, pub &'static str);
 
-/// `1 segment`, `2 segments`.
+/// Writes the number and the word for it, such as `1 segment` or `2 segments`.
 impl fmt::Display for Count {
     fn fmt<W: fmt::Write>(&self, f: &mut fmt::Formatter<W>) -> fmt::Result {
         let Count(count, one, more) = *self;
@@ -20,7 +20,7 @@ impl fmt::Display for Count {
 #[derive(Clone, Copy)]
 pub struct Kind(pub u8);
 
-/// `a SEND`, `an entry of the unknown kind 9`.
+/// Writes the kind, such as `a SEND` or `an entry of the unknown kind 9`.
 impl fmt::Display for Kind {
     fn fmt<W: fmt::Write>(&self, f: &mut fmt::Formatter<W>) -> fmt::Result {
         match self.0 {

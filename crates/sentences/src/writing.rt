@@ -1,4 +1,4 @@
-//! An explanation as text.
+//! The text of an explanation.
 
 ghost use Rattle.std.specs.Prelude.{◌≡◌, ◌++◌, ◌<◌, ◌^◌, All, IfOk, OnOk, string_bytes};
 ghost use Rattle.std.specs.List.{flat_map};
@@ -9,14 +9,14 @@ use crate::basis::{Basis, put_basis};
 use crate::explanation::{Explanation, NodeExplanation, Sentence};
 use std::alloc::{AllocError, Global};
 
-/// The byte as it stands within a line.
+/// Returns the byte as it stands within a line: a blank for a line feed.
 fn in_line(byte: u8) -> u8
     ensures { result ≡ in_line byte }
 {
     if byte == b'\n' { b' ' } else { byte }
 }
 
-/// Writes a text in one line.
+/// Writes a text in one line, with a blank for each line feed.
 fn put_text(text: &mut Vec<u8>, bytes: &[u8]) -> Result<(), AllocError>
     ensures { OnOk result (text.new.items ≡ text.old.items ++ in_one_line bytes.now) }
 {
@@ -26,7 +26,7 @@ fn put_text(text: &mut Vec<u8>, bytes: &[u8]) -> Result<(), AllocError>
     Ok(())
 }
 
-/// Writes a sentence in a line behind two blanks.
+/// Writes a sentence in a line of its own, after two blanks.
 fn put_sentence(text: &mut Vec<u8>, sentence: &Sentence) -> Result<(), AllocError>
     ensures { OnOk result (text.new.items ≡ text.old.items ++ sentence_text sentence.now) }
 {
@@ -46,7 +46,7 @@ fn put_sentences(text: &mut Vec<u8>, sentences: &[Sentence]) -> Result<(), Alloc
 }
 
 impl NodeExplanation {
-    /// What is said behind the word for it: ` (no item)`, or nothing.
+    /// Returns what follows the word for the indication: ` (no item)`, or nothing.
     pub fn mark(&self) -> &'static str
         ensures { result.now ≡ mark_of self.now.has_no_item }
     {
@@ -54,7 +54,7 @@ impl NodeExplanation {
     }
 }
 
-/// A node's line.
+/// Returns a node's line.
 fn row_line(alloc: Global, node: &NodeExplanation) -> Result<String, AllocError>
     ensures { IfOk result (λ s. string_bytes s ≡ row_line node.now) }
 {
@@ -83,7 +83,7 @@ fn put_nodes(alloc: Global, text: &mut Vec<u8>, nodes: &[NodeExplanation]) -> Re
     Ok(())
 }
 
-/// A node's number.
+/// Returns a node's number.
 fn number_of(node: &NodeExplanation) -> u32
     ensures value { result ≡ node.now.node }
     ensures fits { node.now.node < 2 ^ 32 }
@@ -91,7 +91,7 @@ fn number_of(node: &NodeExplanation) -> u32
     node.node.0
 }
 
-/// Nodes have numbers of 32 bits.
+/// Shows that the nodes have numbers of 32 bits.
 fn have_numbers(nodes: &[NodeExplanation])
     ensures { All (λ n. n.node < 2 ^ 32) nodes.now }
 {
@@ -117,11 +117,13 @@ fn put_explanation(
     Ok(())
 }
 
-/// The text of an explanation: the heading's line, and for each node a line `NODE INDICATION`, with ` (no item)` where no item is of it, and
-/// its sentences, each in a line behind two blanks.
+/// Returns the text of an explanation. It begins with the heading's line. For each node a line `NODE INDICATION` follows, which ends with
+/// ` (no item)` if no item is of the node. The node's sentences come below it, each in a line after two blanks.
+///
+/// A line feed in the heading or in a sentence is written as a blank.
 pub fn text_of(alloc: Global, explanation: &Explanation) -> Result<Vec<u8>, AllocError>
     ensures exact { IfOk result (λ text. text.items ≡ text_of explanation.now) }
-    // Behind the heading the lines that do not begin with a blank are those of the nodes, and no other.
+    // After the heading, the lines that do not begin with a blank are those of the nodes, and no other.
     ensures report { OnOk result (margin (nodes_text explanation.now) ≡ report_of explanation.now) }
 {
     let mut text = Vec::new(alloc);
@@ -129,14 +131,14 @@ pub fn text_of(alloc: Global, explanation: &Explanation) -> Result<Vec<u8>, Allo
     Ok(text)
 }
 
-/// The text of what is told under a basis: the basis' three lines, and behind them those of the explanation.
+/// Returns the text of an explanation under a basis: the three lines of the basis, and after them those of the explanation.
 pub fn verdict_text(
     alloc: Global,
     basis: &Basis,
     explanation: &Explanation,
 ) -> Result<Vec<u8>, AllocError>
     ensures exact { IfOk result (λ text. text.items ≡ basis_text basis.now ++ text_of explanation.now) }
-    // Behind the heading the lines that do not begin with a blank are those of the nodes, and no other.
+    // After the heading, the lines that do not begin with a blank are those of the nodes, and no other.
     ensures report { OnOk result (margin (nodes_text explanation.now) ≡ report_of explanation.now) }
 {
     let mut text = Vec::new(alloc);

@@ -1,4 +1,4 @@
--- A step from line to line.
+-- Steps from line to line.
 use Rattle.std.specs.Prelude.{◌≡◌, ◌≤◌, ◌+◌, ℕ, true, List, ◌∷◌, ◌++◌, length}
 use Rattle.bundles.specs.Grammar.{Reached, lines_of, sentences_from}
 use Rattle.bundles.specs.Spelling.{is_sentence}
@@ -8,7 +8,7 @@ pub record IsLine (text line rest : List ℕ) : Type 0 where
   pub whole : text ≡ line ++ 10 ∷ rest
   pub lines : lines_of text ≡ line ∷ lines_of rest
 
--- The text is a sentence's line, and the rest.
+-- The text is a line that is a sentence, and the rest.
 pub record IsBehindSentence (text rest : List ℕ) : Type 0 where
   pub line : List ℕ
   pub is : IsLine text line rest
@@ -20,7 +20,7 @@ pub record IsNext (at : Reached) (line : List ℕ) (behind : Reached) : Type 0 w
   pub left : at.left ≡ line ∷ behind.left
   pub ends : 1 ≤ length behind.left
 
--- The text is so many sentences, and the rest.
+-- The text begins with so many sentences. The rest stands behind them.
 pub record AreInFront (text rest : List ℕ) (count : ℕ) : Type 0 where
   pub front : List ℕ
   pub whole : text ≡ front ++ rest

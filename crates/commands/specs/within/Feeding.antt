@@ -14,7 +14,7 @@ unfoldable pub AreSpelled : List (List ℕ) → List (List ℕ) → Type 0
 AreSpelled [] texts = texts ≡ []
 AreSpelled (line ∷ lines) texts = (text : List ℕ) × (more : List (List ℕ)) × (decode_of line ≡ Ok text) × AreSpelled lines more × (texts ≡ text ∷ more)
 
--- The importer, which had been fed the old pieces, was fed those of the bytes that the digits before the rest spell.
+-- The importer was fed the old bytes before, and was then fed the bytes that the digits before the rest spell.
 pub record IsFedUpTo (old now : Result (List ℕ) ImportFault) (rest bytes : List ℕ) : Type 0 where
   pub so_far : List ℕ
   pub more : List ℕ

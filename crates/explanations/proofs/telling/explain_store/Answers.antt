@@ -20,5 +20,5 @@ returns g c =
       headed = headed s.items rows e told counted;
       indicated = told_are g.P.Program.means s rows c.in_ok-nodes.nodes.items c.in_ok-whys.ensures told;
       grounded = all_grounded g.P.Program.means s rows c.in_ok-nodes.nodes.items c.in_ok-whys.ensures told;
-      marked = all_marked rows c.in_ok-nodes.nodes.items told;
+      marked = all_marked g.P.Program.means s rows c.in_ok-nodes.nodes.items c.in_ok-whys.ensures told;
     }

@@ -1,4 +1,0 @@
-mod Listed
-mod Unsaid
-mod Sayings
-mod Whole

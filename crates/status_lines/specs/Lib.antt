@@ -1,3 +1,0 @@
-pub mod Combining
-pub mod Lines
-pub mod Reports
