@@ -15,12 +15,12 @@ use Rattle.operating.specs.GatheredFiles.{IsOfFile}
 use Rattle.bulwynef.specs.declared.unbundled.Refused.{Refused}
 use Rattle.bulwynef.specs.declared.unbundled.Refused.TheVariants as refused
 
--- The fault that an engine tells.
+-- The fault of an engine's refusal, or None if the refusal is not an engine's.
 abbrev pub engine_fault : Refused → Option Fault
 engine_fault (refused.Engine r) = Some r.fault
 engine_fault _ = None
 
--- The text is the bundle of the directory that file 0 says and of the proof that file 1 says.
+-- The text is the bundle of the directory that file 0 says and the proof that file 1 says.
 pub record AreHanded {S : Type 0} (program : Meaning S) (name more : List ℕ) (limit : ℕ) (files : ℕ → Option (List ℕ)) (text : List ℕ) : Type 0 where
   pub directory : List ℕ
   pub proof : List ℕ
@@ -28,7 +28,8 @@ pub record AreHanded {S : Type 0} (program : Meaning S) (name more : List ℕ) (
   pub second : Says limit None (files 1) proof
   pub made : IsMade program name directory proof more text
 
--- By which fault it is told that texts convict nobody, and of which file.
+-- The fault by which it is reported that texts convict nobody. `file_of` is the number of the file at fault, and `IsTold` says that a refusal
+-- has both.
 abbrev pub fault_of : TextFault → Fault
 fault_of (text.Directory f) = of_directory f
 fault_of (text.Spelling f) = of_reading f
@@ -45,11 +46,11 @@ abbrev pub IsTold : MakeFault → Refused → Type 0
 IsTold (making.Text f) r = (told : Refusal) × (r ≡ refused.Engine told) × (told.fault ≡ fault_of f) × (told.file ≡ file_of f)
 IsTold making.BadBundle r = r ≡ refused.Unspelled
 
--- Why a file is refused: it says nothing.
+-- The refusal of a file that says nothing.
 abbrev pub RefusesFile : ℕ → (ℕ → Option (List ℕ)) → ℕ → Refused → Type 0
 RefusesFile limit files n r = (told : Refusal) × (r ≡ refused.Engine told) × IsOfFile n told × IsUnsaid limit None (files n) told.fault
 
--- Why there is no bundle: file 0 says nothing, or else file 1, or none is made of what they say.
+-- Why there is no bundle: file 0 says nothing, or else file 1 says nothing, or else no bundle is made of what they say.
 abbrev pub RefusesHanding : {S : Type 0} → Meaning S → List ℕ → List ℕ → ℕ → (ℕ → Option (List ℕ)) → Refused → Type 0
 RefusesHanding program name more limit files r =
     RefusesFile limit files 0 r

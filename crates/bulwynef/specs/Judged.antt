@@ -12,16 +12,18 @@ use Rattle.bulwynef.specs.declared.ending.Done.TheVariants as done
 use Rattle.bulwynef.specs.declared.programs.ProgramName.{ProgramName}
 use Rattle.bulwynef.specs.Programs.{spelling_of}
 
+-- The text says, in this style, whom the bundle's proof convicts under the directory and the program of this name, and in what the bundle
+-- disagrees. The flag says whether the bundle agrees.
 abbrev pub Judged : {S : Type 0} → Style → Meaning S → List ℕ → List ℕ → Contents → List ℕ → Bool → Type 0
 Judged style.Lines program name directory b text agrees = IsJudged program name directory b text agrees
 Judged style.Json program name directory b text agrees = IsJudgedInJson program name directory b text agrees
 
--- The program by which a bundle is judged: the one that was named, or else the one of the bundle's spelling.
+-- The program by which a bundle is judged: the one that was named, or else the one that the bundle names by its spelling.
 abbrev pub IsNamed : Option ProgramName → List ℕ → ProgramName → Type 0
 IsNamed (Some named) spelling name = name ≡ named
 IsNamed None spelling name = spelling_of name ≡ spelling
 
--- Where the bundle says otherwise than is found, the program ends in a way of its own.
+-- How `check` ends. If the bundle says otherwise than is found, it ends in a way of its own.
 abbrev pub done_of : Bool → Done
 done_of true = done.Engine ending.Done
 done_of false = done.Disagreed

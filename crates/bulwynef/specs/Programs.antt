@@ -1,4 +1,4 @@
--- The programs that nodes may run: of each how its name is spelled, how people call it, its states, and what it means.
+-- The programs that nodes may run. Each has a row in each table: the spelling of its name, how people call it, its states, and what it means.
 use Rattle.std.specs.Prelude.{ℕ, List, codes}
 use Rattle.replay_verifier.specs.Meaning.{Meaning}
 use Rattle.ref_programs.specs.RelayMeaning.{relay}

@@ -1,4 +1,4 @@
-//! Questions to files, each answered under the program that was named.
+//! Questions to files. Each is answered under the program that was named.
 
 ghost use Rattle.std.specs.Prelude.{◌≡◌, ◌⊎◌, ◌+◌, ◌<◌, ◌≤◌, MatchOption, None, Some, false, true};
 ghost use Rattle.parallel_checking.specs.declared.limits.TheConstants.{MOST_WORKERS};
@@ -22,29 +22,29 @@ use operating::prove::Proving;
 use operating::refusal::Refusal;
 use operating::status::Reporting;
 use operating::watching::StoreWatcher;
-use operating::{check, combine, merge, show, status};
+use operating::{check, merge, show, status};
 use replay_verifier::Program;
 use std::alloc::Global;
 use std::thread::Threads;
 
-/// By what questions to files are answered.
+/// What a question to files is answered with.
 #[derive(Drop)]
 pub struct Asking<'a, H> {
     /// The program that the nodes are to follow.
     pub name: ProgramName,
-    /// How many files stand behind the first.
+    /// How many files come after the first.
     pub others: usize,
     /// What makes threads.
     pub threads: &'a H,
-    /// Of what memory is taken.
+    /// The allocator from which memory is taken.
     pub alloc: Global,
     /// How much is read, and by how many workers.
     pub limits: Limits,
-    /// Where the directory is noted, where the answer does not tell it.
+    /// Where the directory is noted, for answers that do not report it.
     pub noted: &'a Noted,
 }
 
-/// Whether the answer is a verdict, which another program may change.
+/// Returns whether the answer is a verdict, which another program may change.
 fn gives_verdict(query: &Query) -> bool
     ensures { result ≡ gives_verdict query.now }
 {
@@ -54,12 +54,12 @@ fn gives_verdict(query: &Query) -> bool
             Subject::Stores | Subject::Proof => true,
             Subject::Directory => false,
         },
-        Query::Merge | Query::Combine | Query::Show(_) => false,
+        Query::Merge | Query::Show(_) => false,
     }
 }
 
-/// The program under which the question is answered: the one that was named, and none in its place. Where no verdict is given the answer is
-/// the same under any.
+/// Returns the program under which the question is answered: the one that was named. If none was named and a verdict is asked for, it returns
+/// `None`. If no verdict is asked for, the answer is the same under any program, and it returns one of them.
 pub fn program_for(query: &Query, named: Option<ProgramName>) -> Option<ProgramName>
     ensures { MatchOption result ((named ≡ None) × (gives_verdict query.now ≡ true)) (λ name. (named ≡ Some name) ⊎ ((named ≡ None) × (gives_verdict query.now ≡ false))) }
 {
@@ -70,8 +70,8 @@ pub fn program_for(query: &Query, named: Option<ProgramName>) -> Option<ProgramN
     }
 }
 
-/// Answers a question of nodes that are to follow the program of the name: what is written is the answer to what the files say, and
-/// nothing else; or the first fault of the files is told, and nothing was written.
+/// Answers a question about nodes that are to follow the program of this name. It writes the answer to what the files say, and nothing else.
+/// Or it refuses, and has written nothing unless the write failed. A fault of the files is the first one in them.
 pub fn answered<H: Threads + Sync, O: Opener, F: StoreWatcher, W: Sink>(
     asking: &Asking<'_, H>,
     query: Query,
@@ -86,7 +86,7 @@ pub fn answered<H: Threads + Sync, O: Opener, F: StoreWatcher, W: Sink>(
     with_program!(asking.name, followed => answered_under(asking, followed, query, files, watcher, writer))
 }
 
-/// The same of nodes that are to follow this, which is told by that name.
+/// Answers the same of nodes that are to follow this program, which has the name of `asking`.
 fn answered_under<
     H: Threads + Sync,
     P: Program + Send + Sync,
@@ -152,7 +152,6 @@ where
                 Subject::Directory => directory::run(alloc, is_page, files, limits, writer),
             }
         }
-        Query::Combine => combine::run(alloc, files, others, limits, writer),
         Query::Show(style) => show::run(alloc, style, files, limits, writer),
     }
 }

@@ -1,4 +1,4 @@
-//! Bundles: what `bundle` makes of files, and what `check` says of a file that is one.
+//! Bundles: what `bundle` makes of files, and what `check` says of a file that is a bundle.
 
 ghost use Rattle.std.specs.Prelude.{◌≡◌, ◌≢◌, MatchOption, MatchResult, None, option_copied, unwrap_or};
 ghost use Rattle.bundling.specs.Convicting.{RefusesTexts};
@@ -30,10 +30,10 @@ use std::io::{self, Read};
 use std::sync::Wait;
 use std::thread::Threads;
 
-/// The bytes by which a bundle is known.
+/// The bytes with which a bundle begins.
 const FRONT: &[u8] = b"bulwynef";
 
-/// How much is read of a file. Nothing here is done by workers.
+/// Returns how much is read of a file. Nothing here is done by workers.
 fn limits_of(request: &Request) -> Limits {
     Limits {
         most_bytes: request.most_bytes as usize,
@@ -41,7 +41,7 @@ fn limits_of(request: &Request) -> Limits {
     }
 }
 
-/// A fault of the text of a file.
+/// Returns the refusal for a fault of a file's text.
 fn of_text(file: usize, text: &[u8], fault: Fault) -> Refused {
     Refused::Engine(Refusal {
         fault,
@@ -52,7 +52,7 @@ fn of_text(file: usize, text: &[u8], fault: Fault) -> Refused {
     })
 }
 
-/// A fault that stands in no file.
+/// Returns the refusal for a fault that is in no file.
 fn of_none(fault: Fault) -> Refused {
     Refused::Engine(Refusal {
         fault,
@@ -73,13 +73,13 @@ fn written(rt: &HostRuntime, request: &Request, text: &[u8]) -> Result<(), Refus
 
 // ---- making
 
-/// The bytes of this very program's file.
+/// Returns the bytes of the file of this very program.
 fn own_bytes(rt: &HostRuntime) -> io::Result<Vec<u8>> {
     let path = std::env::current_exe(rt)?;
     std::fs::read(rt, path.as_str())
 }
 
-/// The sentence that tells which program made the bundle, by the SHA-256 value of its file; nothing where that can't be read.
+/// Returns the sentence that says which program made the bundle, by the SHA-256 value of its file. It is empty if that file cannot be read.
 fn own_sentence(rt: &HostRuntime) -> Result<String, AllocError> {
     let Ok(bytes) = own_bytes(rt) else {
         return Ok(String::new(rt.alloc()));
@@ -88,7 +88,7 @@ fn own_sentence(rt: &HostRuntime) -> Result<String, AllocError> {
     format!(in rt.alloc(); "# Made by the bulwynef whose file has the SHA-256 value {sum}\n")
 }
 
-/// Makes a bundle of a directory and a proof in files, where the proof convicts a node, and writes it.
+/// Makes a bundle of a directory and a proof in files, if the proof convicts a node, and writes it.
 pub fn bundle<'a>(rt: &'a HostRuntime, request: &'a Request<'a>) -> Result<Ending, Refused> {
     let Some(name) = request.program else {
         return Err(Refused::NoProgram);
@@ -114,7 +114,7 @@ pub fn bundle<'a>(rt: &'a HostRuntime, request: &'a Request<'a>) -> Result<Endin
 
 // ---- judging
 
-/// What is said of a bundle under a directory and the program of this name, in the style that was asked for.
+/// Returns what is said of a bundle under a directory and the program of this name, in the style that was asked for.
 fn judged(
     alloc: Global,
     style: Style,
@@ -135,7 +135,7 @@ fn judged(
     }
 }
 
-/// The program that was named, or else the bundle's; none where the bundle names one that is not known.
+/// Returns the program that was named, or else the one that the bundle names. It returns `None` if none was named and the bundle's is not known.
 fn program_of(named: Option<ProgramName>, bundle: &OpenBundle) -> Option<ProgramName>
     ensures { MatchOption result ((named ≡ None) × ((name : ProgramName) → spelling_of name ≢ bundle.now.program)) (IsNamed named bundle.now.program) }
 {
@@ -145,7 +145,7 @@ fn program_of(named: Option<ProgramName>, bundle: &OpenBundle) -> Option<Program
     }
 }
 
-/// What is said of a bundle under the directory that is given, or else under its own.
+/// Returns what is said of a bundle under the directory that is given, or else under its own.
 fn judged_under(
     alloc: Global,
     style: Style,
@@ -161,7 +161,7 @@ fn judged_under(
     }
 }
 
-/// What is said of a bundle under the directory that was given, or else under its own.
+/// Returns what is said of a bundle under the directory that the request names, or else under its own.
 fn judgement_of<'a>(
     rt: &'a HostRuntime,
     request: &'a Request<'a>,
@@ -187,7 +187,7 @@ fn judgement_of<'a>(
     }
 }
 
-/// How `check` ends: with 5 where the bundle says otherwise than is found.
+/// Returns how `check` ends: with 5 if the bundle says otherwise than is found.
 fn done_of(said: &Judgement) -> Done
     ensures { result ≡ done_of said.now.agrees }
 {
@@ -221,7 +221,7 @@ fn check_bundle(
     Ok(done_of(&said))
 }
 
-/// Writes whom the proof convicts that a file is, under the directory in another.
+/// Writes whom the proof in one file convicts under the directory in another.
 fn check_proof<H: Threads + Sync>(
     rt: &HostRuntime,
     threads: &H,
@@ -233,8 +233,8 @@ fn check_proof<H: Threads + Sync>(
     Ok(Done::Engine(ending))
 }
 
-/// Whom a proof convicts, in a file of its own or in a bundle, as its first bytes tell. A file that can't be opened is no bundle; of one
-/// that is none a directory and a program must be named.
+/// Writes whom a proof convicts. The first bytes of the file show whether it is a proof or a bundle. A file that cannot be opened is no
+/// bundle. If the file is no bundle, a directory and a program must be named.
 pub fn check<H: Threads + Wait + Sync>(
     rt: &HostRuntime,
     threads: &H,

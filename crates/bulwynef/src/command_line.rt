@@ -6,7 +6,7 @@ use parallel_checking::MOST_WORKERS;
 use shards::MOST_SHARDS;
 use std::alloc::{AllocError, Global};
 
-/// The directory's file.
+/// Returns the option that names the directory's file.
 fn directory<'a>(alloc: Global) -> Arg<'a> {
     Arg::new(alloc, "directory")
         .long("directory")
@@ -14,7 +14,7 @@ fn directory<'a>(alloc: Global) -> Arg<'a> {
         .help("The directory of the nodes and their keys")
 }
 
-/// Stores' files.
+/// Returns the words that name the stores' files.
 fn stores<'a>(alloc: Global) -> Arg<'a> {
     Arg::new(alloc, "STORE")
         .action(ArgAction::Append)
@@ -23,12 +23,12 @@ fn stores<'a>(alloc: Global) -> Arg<'a> {
         .help("A store of evidence, as a witness exports it")
 }
 
-/// One file.
+/// Returns the word that names one file.
 fn file<'a>(alloc: Global, name: &'a str, help: &'a str) -> Arg<'a> {
     Arg::new(alloc, name).required(true).help(help)
 }
 
-/// The number of a node.
+/// Returns the word that is the number of a node.
 fn node<'a>(alloc: Global) -> Arg<'a> {
     Arg::new(alloc, "NODE")
         .required(true)
@@ -36,18 +36,18 @@ fn node<'a>(alloc: Global) -> Arg<'a> {
         .help("The number of the node, in decimal digits")
 }
 
-/// Where the answer is written.
+/// Returns the option that says where the answer is written.
 fn output<'a>(alloc: Global) -> Arg<'a> {
     Arg::new(alloc, "output")
         .long("output")
         .value_name("FILE")
         .default_value("-")
         .help(
-            "Where it is written: a new file takes the name once it is whole, a pipe or a device is written to, and - is standard output",
+            "The file to write. It takes its name once it is whole. A pipe or a device is written to, and - is standard output",
         )
 }
 
-/// The program that the nodes were to follow.
+/// Returns the option that names the program that the nodes were to follow.
 fn program<'a>(alloc: Global, help: &'a str) -> Arg<'a> {
     Arg::new(alloc, "program")
         .long("program")
@@ -56,15 +56,15 @@ fn program<'a>(alloc: Global, help: &'a str) -> Arg<'a> {
         .help(help)
 }
 
-/// The help where a verdict is given.
+/// The help of the program's option, for commands that give a verdict.
 const JUDGED_BY: &str = "The program that the nodes were to follow. It must be named";
 
-/// The texts of the options' help name them.
+/// The help of the options states these two limits.
 const _: () = prove!(MOST_WORKERS == 8);
 
 const _: () = prove!(MOST_SHARDS == 1024);
 
-/// That the answer is JSON.
+/// Returns the option that asks for JSON.
 fn json<'a>(alloc: Global) -> Arg<'a> {
     Arg::new(alloc, "json")
         .long("json")
@@ -72,25 +72,25 @@ fn json<'a>(alloc: Global) -> Arg<'a> {
         .help("Writes the answer as one document of JSON, for programs")
 }
 
-/// How many workers check.
+/// Returns the option that says how many workers check.
 fn workers<'a>(alloc: Global) -> Arg<'a> {
     Arg::new(alloc, "workers")
         .long("workers")
         .value_name("N")
         .value_parser(value_parser!(u32).range(1..=MOST_WORKERS as i64))
         .help(
-            "How many workers check the items: 1 to 8. If it is left out, as many as there are processors, and at most 8",
+            "The number of workers that check the items: 1 to 8. Without it there are as many as processors, and at most 8",
         )
 }
 
-/// The most bytes of a file.
+/// Returns the option that says how many bytes a file may have.
 fn most<'a>(alloc: Global) -> Arg<'a> {
     Arg::new(alloc, "most")
         .long("most")
         .value_name("BYTES")
         .value_parser(value_parser!(u64))
         .default_value("1099511627776")
-        .help("The most bytes of a file; one that has more is refused")
+        .help("The greatest number of bytes that a file may have. A longer one is refused")
 }
 
 /// What the help says of a command that reads a directory.
@@ -101,7 +101,7 @@ struct Texts<'a> {
     program: &'a str,
 }
 
-/// A command that reads a directory.
+/// Returns a command that reads a directory.
 fn reading<'a>(alloc: Global, name: &'a str, texts: Texts<'a>) -> Result<Command<'a>, AllocError> {
     Command::new(alloc, name)
         .about(texts.about)
@@ -116,7 +116,7 @@ fn status<'a>(alloc: Global) -> Result<Command<'a>, AllocError> {
         alloc,
         "status",
         Texts {
-            about: "Writes what each node is: trusted, suspected or exposed. Ends with 3 where somebody is exposed. Standard error tells the program, and the SHA-256 value of the directory",
+            about: "Writes what each node is: trusted, suspected or exposed. Ends with 3 if somebody is exposed. Writes the program and the SHA-256 value of the directory to standard error",
             example: "Example: bulwynef status --program tally --directory nodes.dir first.store second.store",
             program: JUDGED_BY,
         },
@@ -128,14 +128,14 @@ fn status<'a>(alloc: Global) -> Result<Command<'a>, AllocError> {
     .arg(stores(alloc))
 }
 
-/// Of which nodes is told.
+/// Returns the option that names the shard whose nodes are asked of.
 fn part<'a>(alloc: Global) -> Arg<'a> {
     Arg::new(alloc, "part").long("part").value_name("k/K").help(
-        "Writes the nodes of shard k of K alone, as split deals them: of other nodes a shard's store may not say what all evidence says",
+        "Writes only the nodes of shard k of K, as split deals them. Of other nodes a shard's store may say something else than all evidence does",
     )
 }
 
-/// How many parts there are.
+/// Returns the option that says how many parts there are.
 fn parts<'a>(alloc: Global) -> Arg<'a> {
     Arg::new(alloc, "parts")
         .long("parts")
@@ -143,51 +143,28 @@ fn parts<'a>(alloc: Global) -> Arg<'a> {
         .required(true)
         .value_parser(value_parser!(u32).range(1..=MOST_SHARDS as i64))
         .help(
-            "How many parts there are: 1 to 1024. Shard k has the items that name a node whose number leaves k when it is divided by K",
+            "The number of shards, K: 1 to 1024. Shard k has the nodes whose numbers leave the rest k when they are divided by K. Its part has the items that name such a node",
         )
 }
 
-/// What the names begin with of the files that are written.
+/// Returns the option that says with what the names of the files begin that are written.
 fn prefix<'a>(alloc: Global) -> Arg<'a> {
     Arg::new(alloc, "output")
         .long("output")
         .value_name("PREFIX")
         .required(true)
-        .help("What the files' names begin with: part k of K is written to PREFIX.k-of-K")
-}
-
-/// How items are dealt to parts.
-fn by<'a>(alloc: Global) -> Arg<'a> {
-    Arg::new(alloc, "by")
-        .long("by")
-        .value_name("HOW")
-        .value_parser(DEALINGS.as_slice())
-        .default_value("node")
         .help(
-            "By node a part has all that names its nodes. By range the numbers in a node's log are dealt to the parts too, and combine makes one answer of those of the parts",
+            "What the names of the files begin with. The part of shard k is written to PREFIX.k-of-K",
         )
 }
 
-/// The ways to deal items to parts.
-const DEALINGS: [&str; 2] = ["node", "range"];
-
-/// How wide ranges are.
-fn width<'a>(alloc: Global) -> Arg<'a> {
-    Arg::new(alloc, "width")
-        .long("width")
-        .value_name("W")
-        .value_parser(value_parser!(u64).range(1..=i64::MAX))
-        .default_value("1024")
-        .help("By range: how many numbers of a node's log a range has")
-}
-
-/// That quotes go to shards in place of the segments that quote.
+/// Returns the option that sends quotes to shards in place of the segments that quote.
 fn extract<'a>(alloc: Global) -> Result<Arg<'a>, AllocError> {
     Arg::new(alloc, "extract")
         .long("extract")
         .action(ArgAction::SetTrue)
         .help(
-            "By node: a segment goes to the shard of its own node alone, and what it quotes of other shards' nodes to theirs, as statements, where it verifies under the directory",
+            "Gives a segment to the shard of its own node alone. What it quotes of nodes of other shards goes to those shards, as statements, if it verifies under the directory",
         )
         .requires_arg("directory")
 }
@@ -195,12 +172,10 @@ fn extract<'a>(alloc: Global) -> Result<Arg<'a>, AllocError> {
 fn split<'a>(alloc: Global) -> Result<Command<'a>, AllocError> {
     Command::new(alloc, "split")
         .about(
-            "Writes each part of stores as a store, and for each a line `k/K ITEMS`. Checks no item",
+            "Deals the items of stores to shards. Writes the part of each shard as a store, and a line `k/K ITEMS` for each. Checks no item",
         )
         .after_help("Example: bulwynef split --parts 64 --output first first.store")
         .arg(parts(alloc))?
-        .arg(by(alloc))?
-        .arg(width(alloc))?
         .arg(extract(alloc)?)?
         .arg(directory(alloc).requires_arg("extract")?)?
         .arg(prefix(alloc))?
@@ -208,35 +183,14 @@ fn split<'a>(alloc: Global) -> Result<Command<'a>, AllocError> {
         .arg(stores(alloc))
 }
 
-/// What parts say.
-fn lines<'a>(alloc: Global) -> Arg<'a> {
-    Arg::new(alloc, "LINES")
-        .action(ArgAction::Append)
-        .num_args(1..)
-        .required(true)
-        .help("What status writes of a part by ranges, under the same program and directory")
-}
-
-fn combine<'a>(alloc: Global) -> Result<Command<'a>, AllocError> {
-    Command::new(alloc, "combine")
-        .about(
-            "Writes of each node the worst that status writes of parts by ranges. Ends with 3 where somebody is exposed",
-        )
-        .after_help("Example: bulwynef combine --directory nodes.dir first.0.lines first.1.lines")
-        .arg(directory(alloc).required(true))?
-        .arg(most(alloc))?
-        .arg(output(alloc))?
-        .arg(lines(alloc))
-}
-
 fn merge<'a>(alloc: Global) -> Result<Command<'a>, AllocError> {
     reading(
         alloc,
         "merge",
         Texts {
-            about: "Writes one store with the items of all stores, which is the same under any program",
+            about: "Writes one store with the items of all stores. It is the same under any program",
             example: "Example: bulwynef merge --directory nodes.dir --output all.store first.store second.store",
-            program: "The program that the nodes were to follow: of no account here",
+            program: "The program that the nodes were to follow. It makes no difference here",
         },
     )?
     .arg(workers(alloc))?
@@ -249,7 +203,7 @@ fn prove<'a>(alloc: Global) -> Result<Command<'a>, AllocError> {
         alloc,
         "prove",
         Texts {
-            about: "Writes a proof that exposes the node. Ends with 4 where there is none. Standard error tells the program, and the SHA-256 value of the directory",
+            about: "Writes a proof that exposes the node. Ends with 4 if there is none. Writes the program and the SHA-256 value of the directory to standard error",
             example: "Example: bulwynef prove --program tally --directory nodes.dir 2 --output two.proof all.store",
             program: JUDGED_BY,
         },
@@ -268,20 +222,20 @@ fn check<'a>(alloc: Global) -> Result<Command<'a>, AllocError> {
         alloc,
         "check",
         Texts {
-            about: "Writes which node a proof exposes, and under which program and directory. Ends with 5 where a bundle says otherwise than is found",
+            about: "Writes which node a proof exposes, and under which program and directory. Ends with 5 if a bundle says something else than its proof shows",
             example: "Example: bulwynef check --program tally --directory nodes.dir two.proof",
-            program: "The program that the nodes were to follow. It must be named, but for a bundle, which names one",
+            program: "The program that the nodes were to follow. It must be named, unless the file is a bundle, which names one",
         },
     )?
     .arg(json(alloc))?
     .arg(file(
         alloc,
         "PROOF",
-        "A proof, as prove writes it, or a bundle, whose own directory and program are taken where none is named",
+        "A proof, as prove writes it, or a bundle. The directory and the program of a bundle are its own, unless others are named",
     ))
 }
 
-/// A proof that is explained.
+/// Returns the option that names a proof that is explained.
 fn explained_proof<'a>(alloc: Global) -> Result<Arg<'a>, AllocError> {
     Arg::new(alloc, "proof")
         .long("proof")
@@ -290,12 +244,14 @@ fn explained_proof<'a>(alloc: Global) -> Result<Arg<'a>, AllocError> {
         .conflicts_with("STORE")
 }
 
-/// Where a page is written.
+/// Returns the option that says where a page is written.
 fn page<'a>(alloc: Global) -> Result<Arg<'a>, AllocError> {
     Arg::new(alloc, "html")
         .long("html")
         .value_name("FILE")
-        .help("Writes a page that stands alone, with a picture, to this file, in place of the text")
+        .help(
+            "Writes a page with a picture to this file, in place of the text. The page needs no other file",
+        )
         .conflicts_with("output")
 }
 
@@ -304,9 +260,9 @@ fn explain<'a>(alloc: Global) -> Result<Command<'a>, AllocError> {
         alloc,
         "explain",
         Texts {
-            about: "Tells a person what stores or a proof say of nodes, and why; or which keys a directory lists, where neither is named. Ends with 3 where somebody is exposed",
+            about: "Writes for a person what stores or a proof say of nodes, and why. If neither is named, it writes which keys the directory lists. Ends with 3 if somebody is exposed",
             example: "Example: bulwynef explain --program tally --directory nodes.dir --html all.html first.store second.store",
-            program: "The program that the nodes were to follow. It must be named, but where a directory alone is explained",
+            program: "The program that the nodes were to follow. It must be named, unless a directory alone is explained",
         },
     )?
     .arg(workers(alloc))?
@@ -356,7 +312,7 @@ fn play<'a>(alloc: Global) -> Result<Command<'a>, AllocError> {
                 .value_name("FOLDER")
                 .required(true)
                 .help(
-                    "The folder that is made, once all is written: nodes.dir, witness.0.store and so on",
+                    "The folder to make, with nodes.dir, witness.0.store and so on. It takes its name once it is whole",
                 ),
         )?
         .arg(program(alloc, "The program that the nodes run").default_value(NAMES[0]))?
@@ -369,11 +325,11 @@ fn play<'a>(alloc: Global) -> Result<Command<'a>, AllocError> {
         ))
 }
 
-/// The program's command.
+/// Returns the command of the whole program, with all its subcommands.
 pub fn command<'a>(alloc: Global) -> Result<Command<'a>, AllocError> {
     Command::new(alloc, "bulwynef")
         .about(
-            "Tells what signed evidence in files says of nodes. A file is bytes, or lines of hexadecimal digits; - is standard input",
+            "Reports what signed evidence in files says of nodes. A file is bytes, or lines of hexadecimal digits. - is standard input",
         )
         .subcommand_required(true)
         .arg_required_else_help(true)
@@ -384,7 +340,6 @@ pub fn command<'a>(alloc: Global) -> Result<Command<'a>, AllocError> {
         .subcommand(explain(alloc)?)?
         .subcommand(bundle(alloc)?)?
         .subcommand(split(alloc)?)?
-        .subcommand(combine(alloc)?)?
         .subcommand(show(alloc)?)?
         .subcommand(play(alloc)?)
 }

@@ -8,16 +8,16 @@ use commands::fault::{Fault, RefusalLine};
 use operating::asking::Ending;
 use std::process::ExitCode;
 
-/// How a command ends, where it is not refused.
+/// How a command ends if it is not refused.
 #[derive(Clone, Copy, Debug)]
 pub enum Done {
-    /// As its engine does.
+    /// It ends as its engine does.
     Engine(Ending),
     /// A bundle says otherwise than is found.
     Disagreed,
 }
 
-/// Tells that there is no proof; and that of the file, to which one was to be written, what was there before stays.
+/// Reports that there is no proof. If one was to be written to a file that is there, it adds that the file stays as it was.
 fn tell_no_proof(rt: &HostRuntime, request: &Request) {
     let none = "no proof: the evidence does not expose the node";
     match output_of(rt, request).name {
@@ -30,7 +30,7 @@ fn tell_no_proof(rt: &HostRuntime, request: &Request) {
     }
 }
 
-/// Tells a refusal on standard error, and how the program ends. Where it cannot be written, the exit status alone tells it.
+/// Reports a refusal on standard error, and returns how the program ends. If the line cannot be written, the exit status alone reports it.
 pub fn ended(rt: &HostRuntime, request: &Request, done: Result<Done, Refused>) -> ExitCode {
     match done {
         Ok(Done::Engine(Ending::Done)) => ExitCode::SUCCESS,
@@ -50,7 +50,7 @@ pub fn ended(rt: &HostRuntime, request: &Request, done: Result<Done, Refused>) -
     }
 }
 
-/// Memory ran out while the words were read.
+/// Reports that memory ran out while the words were read, and returns how the program ends.
 pub fn out_of_memory(rt: &HostRuntime) -> ExitCode {
     let line = RefusalLine {
         fault: Fault::Memory,

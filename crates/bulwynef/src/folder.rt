@@ -25,21 +25,21 @@ fn write_all(rt: &HostRuntime, folder: &str, played: &Played) -> io::Result<()> 
     Ok(())
 }
 
-/// A new folder, into which its owner alone may look.
+/// Makes a new folder, into which its owner alone may look.
 fn create_private(rt: &HostRuntime, name: &str) -> io::Result<()> {
     let mut builder = DirBuilder::new();
     builder.mode(0o700);
     builder.create(rt, name)
 }
 
-/// Gives the folder the owner and the group, or the group alone, of an empty one whose place it took, where that is allowed; and its mode.
+/// Gives the folder the owner and the group of an empty one whose place it took, or the group alone, if that is allowed. Gives it the mode too.
 fn keep(rt: &HostRuntime, name: &str, old: &Metadata) {
     let is_of_its_group = chown(rt, name, Some(old.uid()), Some(old.gid())).is_ok()
         || chown(rt, name, None, Some(old.gid())).is_ok();
     let _ = fs::set_permissions(rt, name, mode_of(old, is_of_its_group));
 }
 
-/// Fills the folder beside the one that is to be, which then takes its name.
+/// Fills the new folder, and then gives it the name.
 fn fill(rt: &HostRuntime, beside: &str, name: &str, played: &Played) -> io::Result<()> {
     write_all(rt, beside, played)?;
     let old = fs::metadata(rt, name);
@@ -50,15 +50,15 @@ fn fill(rt: &HostRuntime, beside: &str, name: &str, played: &Played) -> io::Resu
     Ok(())
 }
 
-/// The path of the folder of a name, behind all links.
+/// Returns the path of the folder with this name, behind all links.
 fn path_of(rt: &HostRuntime, name: &str) -> io::Result<String> {
     match place_of(rt, name)? {
         Place::File(path) | Place::Open(path) => Ok(path),
     }
 }
 
-/// Writes what a scenario left into a new folder, which takes the name once it is whole. Where that fails no new folder is left, and a
-/// folder of the name that has anything in it stays as it was.
+/// Writes what a scenario left into a new folder, which takes the name once it is whole. If that fails, no new folder is left. If a folder with
+/// the name has anything in it, it stays as it was.
 fn write_folder(rt: &HostRuntime, name: &str, played: &Played) -> io::Result<()> {
     let path = path_of(rt, name)?;
     let beside = name_beside(rt, path.as_str())?;

@@ -1,4 +1,4 @@
-//! The engine of `bundle`: a proof to hand over, in one file with its directory.
+//! The engine of `bundle`, which writes a proof to hand over, in one file with its directory.
 
 ghost use Rattle.std.specs.Prelude.{◌≡◌, ◌⊎◌, ◌+◌, ◌<◌, ◌^◌, IfErr, IfOk, List, MatchResult, OnOk, Some, ℕ};
 ghost use Rattle.std.specs.Io.KnownBytes.{Appends};
@@ -19,7 +19,7 @@ use operating::reading::read_said;
 use operating::refusal::Refusal;
 use std::alloc::Global;
 
-/// What a bundle is made with.
+/// What a bundle is made with, beside the directory and the proof.
 #[derive(Clone, Copy)]
 pub struct Handing<'a> {
     /// The program that the nodes were to follow.
@@ -28,7 +28,7 @@ pub struct Handing<'a> {
     pub more: &'a [u8],
 }
 
-/// The bundle of the texts, of nodes that were to follow the program of this name.
+/// Returns the bundle of a directory and a proof, of nodes that were to follow the program of this name.
 fn made(
     alloc: Global,
     handing: &Handing<'_>,
@@ -41,7 +41,7 @@ fn made(
     with_program!(handing.name, followed => make(alloc, followed.program, spelling, directory, proof, handing.more))
 }
 
-/// How it is told that no bundle is made of the texts.
+/// Returns the refusal that says why no bundle is made.
 fn refusal_of(directory: &[u8], proof: &[u8], fault: MakeFault) -> Refused
     ensures { IsTold fault result }
 {
@@ -55,7 +55,7 @@ fn refusal_of(directory: &[u8], proof: &[u8], fault: MakeFault) -> Refused
     }
 }
 
-/// The bundle of the directory that file 0 says and of the proof that file 1 says.
+/// Returns the bundle of the directory that file 0 says and of the proof that file 1 says.
 fn bundle_of<O: Opener>(
     alloc: Global,
     handing: &Handing<'_>,
@@ -77,8 +77,8 @@ fn bundle_of<O: Opener>(
     }
 }
 
-/// Reads a directory and a proof, and writes the bundle of both, where the proof convicts a node: nothing else, and in one write, once
-/// everything has been decided.
+/// Reads a directory, which is file 0, and a proof, which is file 1. If the proof convicts a node, it writes the bundle of both. It writes
+/// nothing else, and it writes once, after everything has been decided.
 pub fn run<O: Opener, W: Sink>(
     alloc: Global,
     handing: &Handing<'_>,

@@ -1,20 +1,19 @@
-//! `bulwynef`: what evidence in files says of nodes, for operators, auditors and scripts.
+//! `bulwynef` reports what evidence in files says of nodes, for operators, auditors and scripts.
 //!
-//! - `status` writes a line for each node, or for each of a shard: `ID trusted`, `ID suspected` or `ID exposed`.
-//! - `merge` writes one store with the items of all.
+//! - `status` writes a line for each node, or for each node of a shard: `ID trusted`, `ID suspected` or `ID exposed`.
+//! - `merge` writes one store with the items of all stores.
 //! - `prove` writes a proof that convicts a node.
-//! - `check` writes whom a proof convicts, also one in a bundle.
+//! - `check` writes whom a proof convicts. The proof may be in a bundle.
 //! - `explain` writes what stores, a proof or a directory say, for a person to read: sentences, or a page.
 //! - `bundle` writes a proof to hand over, in one file with its directory.
-//! - `split` writes the parts of stores, by nodes, with quotes in place of segments or not, or by ranges of numbers, each as a
-//!   store.
-//! - `combine` writes the worst that the lines of parts by ranges say of each node.
+//! - `split` writes the parts of stores, each as a store. Parts are by nodes, with or without quotes in place of segments.
 //! - `show` writes what a file is and what is in it.
 //! - `play` makes a folder with what a scenario leaves: a directory, and a store for each witness.
 //!
-//! A verdict is given under the program that was named ([`programs`]), and without a name none is. Each command is an engine of the crate
-//! `operating`, or of the module [`explaining_files`], which carries its theorem; [`answering`] chooses it. Here stands what the engines read
-//! and write: files, whose bytes no contract can tell.
+//! A verdict is given under the program that was named ([`programs`]). If none was named, no verdict is given. Each command is an engine of the
+//! crate `operating`, of the module [`explaining_files`] or, for `bundle`, of the module [`handing`]. The engine carries the command's theorem.
+//! [`answering`] chooses the engine of a question. If `check` is given a bundle, [`bundled`] judges it. Here stands what the engines read and
+//! write: files, whose bytes no contract can know.
 #![tactic(auto)]
 
 mod answering;
@@ -59,8 +58,14 @@ fn done<H: Threads + Wait + Sync>(
     Ok(Done::Engine(ending))
 }
 
-/// Ends with 0 where the command was done, 3 where somebody is exposed, 4 where there is no proof, 5 where a bundle says otherwise than is
-/// found, 1 after a refusal, and 2 where words are missing or not understood.
+/// Runs the command that the words of the command line ask for. It ends with one of these:
+///
+/// - 0, if the command was done.
+/// - 1, after a refusal.
+/// - 2, if words are missing or not understood.
+/// - 3, if somebody is exposed.
+/// - 4, if there is no proof.
+/// - 5, if a bundle says otherwise than is found.
 fn main(rt: HostRuntime) -> ExitCode {
     let words = match words::words_of(&rt) {
         Ok(words) => words,

@@ -1,4 +1,4 @@
-//! Questions of which it is noted under which directory they were answered.
+//! Questions that note the directory under which they were answered.
 
 use crate::programs::ProgramName;
 use commands::fault::Fault;
@@ -9,14 +9,14 @@ use sha2::{Digest, Sha256};
 use std::alloc::Global;
 use std::cell::Cell;
 
-/// The SHA-256 value of the directory's text under which the last question was answered.
+/// The SHA-256 value of the encoding of the directory under which the last question was answered.
 #[derive(Drop)]
 pub struct Noted {
     sum: Cell<Option<[u8; 32]>>,
 }
 
 impl Noted {
-    /// Nothing is noted yet.
+    /// Returns a note in which nothing is noted yet.
     pub fn new() -> Noted {
         Noted {
             sum: Cell::new(None),
@@ -27,7 +27,8 @@ impl Noted {
         self.sum.set(Some(Sha256::digest(directory)));
     }
 
-    /// Tells on standard error under which program and which directory a verdict was given, as `check` tells it; nothing where none was.
+    /// Reports on standard error under which program and which directory a verdict was given, in the lines that `check` writes too. It writes
+    /// nothing if no directory was noted.
     pub fn tell(&self, rt: &HostRuntime, name: ProgramName) {
         let Some(sum) = self.sum.get() else {
             return;
@@ -40,7 +41,7 @@ impl Noted {
     }
 }
 
-/// A question, and where the directory is noted under which it is answered.
+/// A question, and where to note the directory under which it is answered.
 #[derive(Drop)]
 pub struct Noting<'a, Q> {
     pub question: &'a Q,

@@ -8,25 +8,25 @@ use std::fs;
 use std::fs::File;
 use std::io::{Chain, Read};
 
-/// A file of which the front was read.
+/// A file whose first bytes were read already.
 #[derive(Drop)]
 pub struct Begun<'a> {
     pub front: &'a [u8],
     pub rest: File,
 }
 
-/// Files by their names. `-` is standard input.
+/// Files by their names. The name `-` is standard input.
 #[derive(Drop)]
 pub struct NamedFiles<'a> {
     pub rt: &'a HostRuntime,
     pub paths: &'a [&'a str],
-    /// The last file, where its front was read.
+    /// The last file, if its first bytes were read already.
     pub begun: Option<Begun<'a>>,
     pub failures: u64,
 }
 
 impl<'a> NamedFiles<'a> {
-    /// The files of these names; of the last the front may have been read.
+    /// Returns the files with these names. The first bytes of the last one may have been read already.
     pub fn new(
         rt: &'a HostRuntime,
         paths: &'a [&'a str],
@@ -42,7 +42,7 @@ impl<'a> NamedFiles<'a> {
         }
     }
 
-    /// Whether the file of this number is the last.
+    /// Returns whether the file with this number is the last.
     fn is_last(&self, file: usize) -> bool {
         match self.paths.len() {
             0 => false,
@@ -50,7 +50,7 @@ impl<'a> NamedFiles<'a> {
         }
     }
 
-    /// The file of this number, at its first byte.
+    /// Returns the file with this number, at its first byte.
     fn take(&mut self, file: usize) -> Result<Begun<'a>, OpenFailed>
         ensures { self.new.failures ≡ self.old.failures }
     {
@@ -67,7 +67,7 @@ impl<'a> NamedFiles<'a> {
     }
 }
 
-/// The path of a name.
+/// Returns the path of a name.
 fn path_of(name: &str) -> &str {
     match name {
         "-" => "/dev/stdin",
@@ -75,7 +75,7 @@ fn path_of(name: &str) -> &str {
     }
 }
 
-/// The file of this name.
+/// Opens the file with this name.
 pub fn open(rt: &HostRuntime, name: &str) -> Result<File, OpenFailed> {
     match fs::open(rt, path_of(name)) {
         Ok(file) => Ok(file),

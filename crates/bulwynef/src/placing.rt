@@ -1,19 +1,19 @@
-//! Where an answer is to go: what stands behind a name, in place of the links that lead there.
+//! Where an answer is to go: what stands behind a name and the links that lead there.
 
 use std::fs::Metadata;
 use std::io::ErrorKind;
 use std::os::unix::fs::MetadataExt;
 use std::{fs, io};
 
-/// So many links may lead from a name to a file.
+/// The greatest number of steps from a name to what it stands for. Each link is a step, and so is what stands behind the last one.
 const MOST_LINKS: u32 = 40;
 
 /// What a name stands for.
 #[derive(Debug, Drop)]
 pub enum Place {
-    /// A regular file of this path, which is no link, or none yet: a new file is to take its name.
+    /// A regular file with this path, which is no link; or nothing yet. A new file is to take the name.
     File(String),
-    /// A device, a pipe, or what a process has opened: it is written to as it stands.
+    /// A device, a pipe, or what a process has opened. It is written to as it stands.
     Open(String),
 }
 
@@ -24,12 +24,12 @@ enum Step {
     On(String),
 }
 
-/// Whether something of this name is there, be it a link that leads nowhere.
+/// Returns whether something with this name is there. A link that leads nowhere counts too.
 pub fn is_there(rt: &HostRuntime, name: &str) -> bool {
     fs::symlink_metadata(rt, name).is_ok()
 }
 
-/// Whether a file stands behind the name.
+/// Returns whether a regular file stands behind the name.
 pub fn is_file(rt: &HostRuntime, name: &str) -> bool {
     match fs::metadata(rt, name) {
         Ok(found) => found.is_file(),
@@ -37,7 +37,7 @@ pub fn is_file(rt: &HostRuntime, name: &str) -> bool {
     }
 }
 
-/// Whether the link is one of those by which `/proc` shows what a process has opened: its text is no path.
+/// Returns whether the link is one by which `/proc` shows what a process has opened. The text of such a link is no path.
 fn shows_what_is_open(rt: &HostRuntime, link: &Metadata) -> bool {
     match fs::metadata(rt, "/proc") {
         Ok(found) => found.dev() == link.dev(),
@@ -45,7 +45,7 @@ fn shows_what_is_open(rt: &HostRuntime, link: &Metadata) -> bool {
     }
 }
 
-/// The path to which a link's text leads, from the folder in which the link stands.
+/// Returns the path to which a link leads. A relative path is taken from the folder in which the link stands.
 fn path_behind(rt: &HostRuntime, link: &str) -> io::Result<String> {
     let text = fs::read_link(rt, link)?;
     let text = text.as_str();
@@ -76,7 +76,7 @@ fn next(rt: &HostRuntime, path: String) -> io::Result<Step> {
     Ok(Step::On(path_behind(rt, path.as_str())?))
 }
 
-/// What the name stands for, behind all links. Too many of them are a fault.
+/// Returns what the name stands for, behind all links. If there are 40 links or more, it returns an error.
 pub fn place_of(rt: &HostRuntime, name: &str) -> io::Result<Place> {
     let mut path = String::from_str(rt.alloc(), name)?;
     for _ in 0..MOST_LINKS {

@@ -1,4 +1,4 @@
-//! The programs that nodes may run, in one table. A user's own is one row more: a case of [`ProgramName`] and a crate.
+//! The programs that nodes may run, in one table. A user's own program is one row more: a case of [`ProgramName`], and a crate.
 
 ghost use Rattle.std.specs.Prelude.{◌≡◌, ◌≢◌, MatchOption};
 ghost use Rattle.bulwynef.specs.Programs.{spelling_of};
@@ -7,19 +7,19 @@ ghost use Rattle.bulwynef.specs.declared.programs.ProgramName.{ProgramName};
 /// The name of a program that nodes may run.
 #[derive(Clone, Copy, Debug)]
 pub enum ProgramName {
-    /// Adds up what it is told.
+    /// The program Tally, which adds up what it is told.
     Tally,
-    /// Passes on what it gets.
+    /// The program Relay, which passes on what it gets.
     Relay,
-    /// Holds mail.
+    /// The program Mailbox, which holds mail.
     Mailbox,
 }
 
-/// How the names are spelled, as the command line tells them.
+/// The spellings of the names on the command line.
 pub const NAMES: [&str; 3] = ["tally", "relay", "mailbox"];
 
 impl ProgramName {
-    /// How the name is spelled: of `a` to `z`, `0` to `9` and `_`, as bundles want it.
+    /// Returns the spelling of the name. It has `a` to `z`, `0` to `9` and `_`, as bundles want it.
     pub fn word(self) -> &'static str
         ensures { result.now ≡ spelling_of self }
     {
@@ -30,7 +30,7 @@ impl ProgramName {
         }
     }
 
-    /// The name that is spelled so; none where the table has no such name.
+    /// Returns the name with this spelling, or `None` if the table has no such name.
     pub fn of(spelling: &[u8]) -> Option<ProgramName>
         ensures { MatchOption result ((name : ProgramName) → spelling_of name ≢ spelling.now) (λ name. spelling_of name ≡ spelling.now) }
     {
@@ -47,9 +47,9 @@ impl ProgramName {
     }
 }
 
-/// Does the same with what nodes are to follow, whichever program is named: each row has a name, its program, how people call it, and its
-/// voice. No row stands for another. The functions that use it say so by their contracts, in which a name's meaning is `meaning_of` and its spelling
-/// `spelling_of`.
+/// Does the same with what nodes are to follow, whichever program is named. Each row has a name, its program, how people call it, and its
+/// voice. No row stands for another. The contracts of the functions that use it say so. In them a name's meaning is `meaning_of`, and its
+/// spelling is `spelling_of`.
 macro_rules! with_program {
     ($name:expr, $followed:ident => $done:expr) => {
         match $name {

@@ -1,4 +1,4 @@
-//! The line on a terminal that tells how far the reading of stores is.
+//! The line on a terminal that reports how far the reading of stores is.
 
 use operating::watching::{StoreWatcher, Watcher};
 use std::alloc::{AllocError, Global};
@@ -6,24 +6,24 @@ use std::fmt;
 use std::io::Write;
 use std::time::{Clock, Duration, Instant};
 
-/// For so many milliseconds nothing is shown.
+/// How many milliseconds pass before anything is shown.
 const SILENT: u128 = 2_000;
 
-/// For so many milliseconds a line stays before another one takes its place.
+/// How many milliseconds a line stays before another one takes its place.
 const STAYS: u128 = 500;
 
-/// So long a name may be that is shown.
+/// The greatest length of a name that is shown.
 const LONGEST_NAME: usize = 32;
 
-/// Leaves a terminal's line empty, and the next character at its begin.
+/// The characters that empty a terminal's line, so that the next character stands at its beginning.
 const WIPE: &str = "\r\x1b[K";
 
-/// A line about the store that is read. It has a clock and a terminal, and nothing by which it could come at files or at what is written.
+/// A line about the store that is read. It has a clock and a terminal. It has nothing that reaches files, or what is written.
 #[derive(Drop)]
 pub struct Progress<'a, C, E> {
     alloc: Global,
     clock: &'a C,
-    /// None where nothing is to be shown.
+    /// The terminal, or `None` if nothing is to be shown.
     terminal: Option<E>,
     names: &'a [&'a str],
     began: Option<Instant>,
@@ -35,7 +35,7 @@ pub struct Progress<'a, C, E> {
     bytes_before: u64,
 }
 
-/// What a line tells.
+/// What a line reports.
 #[derive(Clone, Copy)]
 struct Line<'a> {
     /// The store's name, and the number of its file.
@@ -63,7 +63,7 @@ impl<'a> fmt::Display for Line<'a> {
     }
 }
 
-/// The last part of a file's name, where it is short and of characters that a terminal shows, each in one place.
+/// Returns the last part of a file's name, if it is short and each of its characters takes one place on a terminal.
 fn shown_name(name: &str) -> Option<&str> {
     let last = match name.rsplit_once('/') {
         Some((_, last)) => last,
@@ -77,7 +77,7 @@ fn shown_name(name: &str) -> Option<&str> {
     }
 }
 
-/// How many tenths of megabytes a second these are.
+/// Returns how many tenths of megabytes a second these are.
 fn rate_of(bytes: u64, time: Duration) -> u64 {
     let millis = match u64::try_from(time.as_millis()) {
         Ok(millis) => millis,
@@ -90,7 +90,7 @@ fn rate_of(bytes: u64, time: Duration) -> u64 {
 }
 
 impl<'a, C: Clock, E: Write> Progress<'a, C, E> {
-    /// A line about these files on this terminal, if there is one. Its two seconds begin.
+    /// Returns a line about these files on this terminal, if there is one. The two seconds without a line begin.
     pub fn new(
         alloc: Global,
         clock: &'a C,
@@ -114,7 +114,7 @@ impl<'a, C: Clock, E: Write> Progress<'a, C, E> {
         }
     }
 
-    /// How long it took up to now, where a line is due.
+    /// Returns how long it took up to now, if a line is due.
     fn time_of_line(&self, now: Instant) -> Option<Duration> {
         let time = now.duration_since(self.began?);
         let is_old = match self.shown {
@@ -146,7 +146,7 @@ impl<'a, C: Clock, E: Write> Progress<'a, C, E> {
         format!(in self.alloc; "{WIPE}{line}")
     }
 
-    /// Writes to the terminal. A line that can't be written is not shown.
+    /// Writes to the terminal. A line that cannot be written is not shown.
     fn put(&mut self, text: &str) {
         if let Some(terminal) = &mut self.terminal {
             let _ = terminal.write_all(text.as_bytes());

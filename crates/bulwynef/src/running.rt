@@ -1,4 +1,4 @@
-//! What is done of files: the engine that was asked for, and what it reads, writes and tells.
+//! How commands run: the engine that was asked for, and what it reads, writes and reports.
 
 ghost use Rattle.std.specs.Prelude.{◌≡◌, ◌<◌, ◌≤◌, ◌^◌, IfErr, IfOk, OnOk};
 ghost use Rattle.parallel_checking.specs.declared.limits.TheConstants.{MOST_WORKERS};
@@ -30,7 +30,7 @@ use std::sync::Wait;
 use std::thread;
 use std::thread::Threads;
 
-/// How many workers there are: as many as were asked for, or as there are processors, and never more than [`MOST_WORKERS`].
+/// Returns how many workers there are: as many as were asked for, else as many as there are processors. It is never more than [`MOST_WORKERS`].
 fn workers_of<H: Threads>(threads: &H, request: &Request) -> usize
     ensures { (0 < result) × (result ≤ MOST_WORKERS) }
 {
@@ -60,7 +60,7 @@ fn within_limits(workers: usize) -> usize
     workers
 }
 
-/// How much is read, and by how many workers.
+/// Returns how much is read, and by how many workers.
 fn limits_of<H: Threads>(threads: &H, request: &Request) -> Limits
     ensures { (0 < result.workers) × (result.workers ≤ MOST_WORKERS) }
 {
@@ -70,7 +70,7 @@ fn limits_of<H: Threads>(threads: &H, request: &Request) -> Limits
     }
 }
 
-/// Where the answer goes.
+/// Returns where the answer goes.
 pub fn output_of<'a>(rt: &'a HostRuntime, request: &Request<'a>) -> Output<'a>
     ensures { result.failures ≡ 0 }
 {
@@ -85,14 +85,14 @@ pub fn output_of<'a>(rt: &'a HostRuntime, request: &Request<'a>) -> Output<'a>
     }
 }
 
-/// How many files there are behind the first.
+/// Returns how many files come after the first.
 fn others_of(paths: &[&str]) -> usize
     ensures { result < 2 ^ 62 }
 {
     paths.len().saturating_sub(1)
 }
 
-/// Standard error, where it is a terminal.
+/// Returns standard error, if it is a terminal.
 fn terminal(rt: &HostRuntime) -> Option<Stderr> {
     let stderr = rt.stderr();
     if stderr.is_terminal() {
@@ -102,16 +102,16 @@ fn terminal(rt: &HostRuntime) -> Option<Stderr> {
     }
 }
 
-/// Whether neither the answer nor what it is written to tells the program and the directory.
+/// Returns whether the program and the directory are reported beside the answer, since it is a verdict and does not have them itself.
 fn is_told_beside(query: &Query) -> bool {
     match query {
         Query::Status(_, Style::Lines) | Query::Prove(_) => true,
         Query::Status(_, Style::Json) | Query::Check(_) | Query::Explain(_, _) => false,
-        Query::Merge | Query::Combine | Query::Show(_) => false,
+        Query::Merge | Query::Show(_) => false,
     }
 }
 
-/// Answers a question to the files that were named, of the last of which the front may have been read, and notes the directory.
+/// Answers a question to the files that were named, and notes the directory. The first bytes of the last file may have been read already.
 fn noted_answer<'a, H: Threads + Sync>(
     asking: &Asking<'_, H>,
     query: Query,
@@ -128,7 +128,7 @@ fn noted_answer<'a, H: Threads + Sync>(
     answered(asking, query, &mut files, &mut progress, &mut output)
 }
 
-/// The same. Where a verdict is asked for a program must be named.
+/// Answers the same. If a verdict is asked for, a program must be named.
 fn answer_under<'a, 'n, H: Threads + Sync>(
     rt: &'a HostRuntime,
     threads: &'n H,
@@ -152,8 +152,8 @@ fn answer_under<'a, 'n, H: Threads + Sync>(
     Ok(ending)
 }
 
-/// Answers a question to the files that were named, of the last of which the front may have been read. Under which program and directory is
-/// told beside an answer that does not tell it.
+/// Answers a question to the files that were named. The first bytes of the last file may have been read already. If the answer does not have the
+/// program and the directory, they are reported beside it.
 pub fn ask<'a, H: Threads + Sync>(
     rt: &'a HostRuntime,
     threads: &H,
@@ -172,7 +172,7 @@ pub fn ask<'a, H: Threads + Sync>(
     Ok(ending)
 }
 
-/// Writes each part of the items of stores to a file of its own. For extracts the first of the files is the directory.
+/// Writes each part of the items of stores to a file of its own. For extracts, the first of the files is the directory.
 pub fn split<'a, H: Threads>(
     rt: &'a HostRuntime,
     threads: &H,
@@ -181,7 +181,7 @@ pub fn split<'a, H: Threads>(
 ) -> Result<Ending, Refused> {
     let limits = limits_of(threads, request);
     let stores = match dealing {
-        Dealing::ByNode(_) | Dealing::ByRange(_) => request.paths.len(),
+        Dealing::ByNode(_) => request.paths.len(),
         Dealing::Extracts(_) => others_of(&request.paths),
     };
     let mut files = NamedFiles::new(rt, &request.paths, None);
@@ -199,7 +199,7 @@ pub fn split<'a, H: Threads>(
     Ok(ending)
 }
 
-/// Plays the scenario that file 0 says, of nodes that run the program of this name: what it leaves.
+/// Plays the scenario that file 0 says, of nodes that run the program of this name. Returns what it leaves.
 fn played<H: Threads + Wait + Sync, O: Opener>(
     threads: &H,
     alloc: Global,

@@ -1,4 +1,4 @@
-//! Where `split` writes: a new file for each part.
+//! Where `split` writes: to a new file for each part.
 
 ghost use Rattle.std.specs.Prelude.{◌≡◌};
 
@@ -7,7 +7,7 @@ use commands::device::{Sink, WriteFailed};
 use operating::split::PartFiles;
 use std::alloc::AllocError;
 
-/// A new file for each part, by its number.
+/// New files, one for each part, by the numbers of the parts.
 #[derive(Drop)]
 pub struct NamedParts<'a> {
     pub rt: &'a HostRuntime,
@@ -19,7 +19,7 @@ pub struct NamedParts<'a> {
 }
 
 impl<'a> NamedParts<'a> {
-    /// So many files, whose names begin so.
+    /// Returns so many files, whose names begin with the prefix. It makes none of them yet.
     pub fn new(rt: &'a HostRuntime, prefix: &'a str, count: u32) -> NamedParts<'a>
         ensures { result.failures ≡ 0 }
     {
@@ -31,7 +31,7 @@ impl<'a> NamedParts<'a> {
         }
     }
 
-    /// The name of the file of part `k`.
+    /// Returns the name of the file of part `k`.
     fn name_of(&self, k: u32) -> Result<String, AllocError> {
         let (prefix, count) = (self.prefix, self.count);
         format!(in self.rt.alloc(); "{prefix}.{k}-of-{count}")
@@ -46,7 +46,7 @@ impl<'a> NamedParts<'a> {
     }
 }
 
-/// Writes the file of that name.
+/// Writes the file with this name.
 fn write_named<'a>(rt: &'a HostRuntime, name: &'a str, text: &[u8]) -> Result<(), WriteFailed> {
     let named = Some(name);
     let mut output = Output {

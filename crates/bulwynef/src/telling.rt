@@ -1,4 +1,4 @@
-//! How a refusal is told.
+//! The line that reports a refusal.
 
 use crate::words::Request;
 use commands::fault::{Fault, RefusalLine};
@@ -12,7 +12,7 @@ pub struct Told<'a> {
     pub name: Option<&'a str>,
 }
 
-/// What is told on one line: `refused NUMBER NAME`, the file, the item, the byte at which its length stands, and a sentence.
+/// Writes one line: `refused NUMBER NAME`, the file, the item, the byte at which the item's length stands, and a sentence.
 impl<'a> fmt::Display for Told<'a> {
     fn fmt<W: fmt::Write>(&self, f: &mut fmt::Formatter<W>) -> fmt::Result {
         let line = RefusalLine {
@@ -42,7 +42,7 @@ impl<'a> fmt::Display for Told<'a> {
     }
 }
 
-/// The refusal with its file's name.
+/// Returns the refusal with the name of its file.
 pub fn named<'a>(request: &Request<'a>, refusal: Refusal) -> Told<'a> {
     let name = match refusal.file {
         Some(file) => name_of(request, file),

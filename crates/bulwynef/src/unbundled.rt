@@ -1,4 +1,4 @@
-//! Refusals of bundles, and how they are told.
+//! Refusals of commands, also those of bundles, and the lines that report them.
 
 ghost use Rattle.std.specs.Prelude.{◌≡◌};
 ghost use Rattle.bulwynef.specs.Handed.{fault_of};
@@ -15,15 +15,15 @@ use std::fmt;
 /// Why nothing was written.
 #[derive(Clone, Copy, Debug)]
 pub enum Refused {
-    /// What an engine tells.
+    /// The refusal of an engine.
     Engine(Refusal),
     /// The file is no bundle.
     Bundle(BundleFault),
     /// The directory or the proof in the bundle convicts nobody.
     Inside(TextFault),
-    /// The bundle is of a program that is not known.
+    /// The bundle names a program that is not known.
     UnknownProgram,
-    /// A part of the bundle that was to be is not spelled as bundles have it.
+    /// A part of the bundle that was to be made is not spelled as bundles have it.
     Unspelled,
     /// No directory was given, and the file is no bundle.
     NoDirectory,
@@ -39,7 +39,7 @@ impl From<Refusal> for Refused {
     }
 }
 
-/// The fault that the commands tell.
+/// Returns the fault that the commands report for it.
 pub fn fault_of(fault: TextFault) -> Fault
     ensures { result ≡ fault_of fault }
 {
@@ -51,7 +51,7 @@ pub fn fault_of(fault: TextFault) -> Fault
     }
 }
 
-/// The part of a bundle in which a fault stands.
+/// Returns the part of a bundle in which a fault stands.
 fn part_of(fault: TextFault) -> &'static str {
     match fault {
         TextFault::Directory(_) => ", directory",
@@ -67,7 +67,7 @@ pub struct ToldOfBundle<'a> {
     pub name: &'a str,
 }
 
-/// What is told on one line: `refused NUMBER NAME`, the file, the place in it, and a sentence.
+/// Writes one line: `refused NUMBER NAME`, the file, the place in it, and a sentence.
 impl<'a> fmt::Display for ToldOfBundle<'a> {
     fn fmt<W: fmt::Write>(&self, f: &mut fmt::Formatter<W>) -> fmt::Result {
         let file = self.name;
@@ -97,7 +97,7 @@ impl<'a> fmt::Display for ToldOfBundle<'a> {
                 "refused 109 UnknownProgram: {file}: the bundle names a program that is not known"
             ),
             Refused::Unspelled => f.write_str(
-                "refused 106 BadBundle: a part of the bundle is not spelled as bundles have it",
+                "refused 106 BadBundle: a part of the bundle is not as bundles have it",
             ),
             Refused::NoDirectory => write!(
                 f,
@@ -110,7 +110,7 @@ impl<'a> fmt::Display for ToldOfBundle<'a> {
     }
 }
 
-/// Tells a refusal on standard error.
+/// Reports a refusal on standard error.
 pub fn tell(rt: &HostRuntime, request: &Request, refused: Refused) {
     if let Refused::Engine(refusal) = refused {
         let line = named(request, refusal);

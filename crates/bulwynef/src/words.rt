@@ -1,4 +1,4 @@
-//! The words of the command line, read by `clap`.
+//! The words of the command line, which `clap` reads.
 
 use crate::command_line::command;
 use crate::programs::ProgramName;
@@ -7,42 +7,40 @@ use authenticators::NodeId;
 use clap::error::ErrorKind;
 use clap::{ArgMatches, Error};
 use operating::scope::Scope;
-use shards::{Dealing, Ranges, Shards, Width};
+use shards::{Dealing, Shards};
 use std::alloc::{AllocError, Global};
 use std::io;
 use std::process::ExitCode;
 
-/// A command.
+/// A command, and what it asks for.
 #[derive(Clone, Copy)]
 pub enum Task {
     /// A question to files.
     Ask(Query),
-    /// Whom a proof convicts, in a file of its own or in a bundle.
+    /// `check`: whom a proof convicts, in a file of its own or in a bundle.
     Check(Style),
-    /// A proof to hand over, in one file with its directory.
+    /// `bundle`: a proof to hand over, in one file with its directory.
     Bundle,
-    /// The parts of stores, each as a store.
+    /// `split`: the parts of stores, each as a store.
     Split(Dealing),
-    /// What a scenario leaves.
+    /// `play`: what a scenario leaves.
     Play,
 }
 
-/// A question to files, which one text answers; and where it may be in lines or in JSON, in which style.
+/// A question to files, which one text answers. If the answer may be in lines or in JSON, the question says in which style.
 #[derive(Clone, Copy)]
 pub enum Query {
-    /// What stores say of each of these nodes.
+    /// `status`: what stores say of each of these nodes.
     Status(Scope, Style),
-    /// The union of stores.
+    /// `merge`: the union of stores.
     Merge,
-    /// A proof that exposes the node.
+    /// `prove`: a proof that exposes the node.
     Prove(NodeId),
-    /// Whom a proof convicts.
+    /// `check`: whom a proof convicts.
     Check(Style),
-    /// What evidence says, for a person to read: a page, or sentences.
+    /// `explain`: what evidence says, for a person to read. The flag asks for a page, else there are sentences.
     Explain(Subject, bool),
-    /// The worst of what parts say.
-    Combine,
-    /// What a file is.
+    /// `show`: what a file is.
     Show(Style),
 }
 
@@ -62,15 +60,15 @@ pub enum Subject {
 pub struct Request<'a> {
     /// The command.
     pub task: Task,
-    /// The program that the nodes were to follow, where it was named.
+    /// The program that the nodes were to follow, if it was named.
     pub program: Option<ProgramName>,
-    /// How many workers check, if it was said.
+    /// How many workers check, if the words say so.
     pub workers: Option<u32>,
     /// The most bytes of a file.
     pub most_bytes: u64,
-    /// The files' names: the directory's first, where one is read.
+    /// The names of the files. That of the directory comes first, if one is read.
     pub paths: Vec<&'a str>,
-    /// The name of the file to which is written; none or `-` for standard output. What the names of files begin with that `split` writes.
+    /// The name of the file that is written. `None` or `-` is standard output. For `split` it is what the names of the files begin with.
     pub output: Option<&'a str>,
 }
 
@@ -80,11 +78,11 @@ pub enum Asked<'a> {
     Run(Request<'a>),
     /// Memory ran out while the words were read.
     Refused,
-    /// A fault of the words, or a request for help: clap's text is on standard error.
+    /// The words have a fault, or ask for help. The text about it is on standard error.
     Other,
 }
 
-/// The words of the command line; or how the program ends where they can't be had.
+/// Returns the words of the command line. If they cannot be had, it returns how the program ends.
 pub fn words_of(rt: &HostRuntime) -> Result<Vec<String>, ExitCode> {
     match all_words(rt) {
         Ok(words) => Ok(words),
@@ -100,13 +98,13 @@ fn all_words(rt: &HostRuntime) -> io::Result<Vec<String>> {
     Ok(words)
 }
 
-/// Reads the words.
+/// Reads the words. It writes on standard error what is wrong with them.
 pub fn read_words<'a>(rt: &HostRuntime, words: &'a [String]) -> Asked<'a> {
     match parsed(rt.alloc(), words) {
         Ok(Some(request)) => Asked::Run(request),
         Ok(None) => {
             let _ = eprintln!(rt;
-                "error: --part wants k/K, where K is 1 to 1024 and k is less, and --extract no --by range"
+                "error: --part must be k/K, where K is 1 to 1024, and k is less than K"
             );
             Asked::Other
         }
@@ -118,7 +116,7 @@ pub fn read_words<'a>(rt: &HostRuntime, words: &'a [String]) -> Asked<'a> {
     }
 }
 
-/// The shard of the words `k/K`.
+/// Returns the shard of the words `k/K`.
 fn shard_of(words: &str) -> Option<Scope> {
     let (number, count) = words.split_once('/')?;
     let number = number.parse::<u32>().ok()?;
@@ -129,7 +127,7 @@ fn shard_of(words: &str) -> Option<Scope> {
     Some(Scope::Shard(shards, number))
 }
 
-/// Of which nodes is told; none where the words name no shard.
+/// Returns the nodes that are asked of, or `None` if the words name no shard.
 fn scope_of(options: &ArgMatches<'_>) -> Option<Scope> {
     match options.get_str("part") {
         Some(words) => shard_of(words),
@@ -137,21 +135,18 @@ fn scope_of(options: &ArgMatches<'_>) -> Option<Scope> {
     }
 }
 
-/// How items are dealt to parts; none where extracts are asked for by ranges, or where a number is missing, which clap has refused.
+/// Returns how items are dealt to parts. It returns `None` if the number of parts is missing, which clap refuses before.
 fn dealing_of(options: &ArgMatches<'_>) -> Option<Dealing> {
     let shards = Shards::new(options.get_one::<u32>("parts")?)?;
-    match (options.get_str("by"), options.get_flag("extract")) {
-        (Some("range"), true) => None,
-        (Some("range"), false) => {
-            let width = Width::new(options.get_one::<u64>("width")?)?;
-            Some(Dealing::ByRange(Ranges { shards, width }))
-        }
-        (_, true) => Some(Dealing::Extracts(shards)),
-        (_, false) => Some(Dealing::ByNode(shards)),
+    if options.get_flag("extract") {
+        Some(Dealing::Extracts(shards))
+    } else {
+        Some(Dealing::ByNode(shards))
     }
 }
 
-/// The command of the name; none where `--part` names no shard, where extracts are asked for by ranges, or where clap has refused the words: a name is unknown, or a number missing.
+/// Returns the command with this name. It returns `None` if `--part` names no shard. It does so too if the name is unknown or a number is missing,
+/// which clap refuses before.
 fn task_of(name: &str, options: &ArgMatches<'_>) -> Option<Task> {
     match name {
         "check" => Some(Task::Check(style_of(options))),
@@ -174,19 +169,18 @@ fn query_of(name: &str, options: &ArgMatches<'_>) -> Option<Query> {
             let is_page = options.get_str("html").is_some();
             Some(Query::Explain(subject_of(options), is_page))
         }
-        "combine" => Some(Query::Combine),
         "show" => Some(Query::Show(style_of(options))),
         _ => None,
     }
 }
 
-/// The program that was named. Clap takes no word that is no name.
+/// Returns the program that was named. Clap takes no other word than a name.
 fn program_of(options: &ArgMatches<'_>) -> Option<ProgramName> {
     let name = options.get_str("program")?;
     ProgramName::of(name.as_bytes())
 }
 
-/// What is explained: a proof or stores, where they are named.
+/// Returns what is explained: a proof or stores if they are named, else a directory.
 fn subject_of(options: &ArgMatches<'_>) -> Subject {
     if options.get_str("proof").is_some() {
         Subject::Proof
@@ -205,18 +199,10 @@ fn style_of(options: &ArgMatches<'_>) -> Style {
     }
 }
 
-/// The names of a command's files, the directory's first.
+/// Returns the names of a command's files, the directory's first.
 fn paths_of<'a>(alloc: Global, options: &ArgMatches<'a>) -> Result<Vec<&'a str>, AllocError> {
     let mut paths = Vec::new(alloc);
-    for name in [
-        "directory",
-        "STORE",
-        "PROOF",
-        "proof",
-        "FILE",
-        "SCENARIO",
-        "LINES",
-    ] {
+    for name in ["directory", "STORE", "PROOF", "proof", "FILE", "SCENARIO"] {
         add_paths(&mut paths, options, name)?;
     }
     Ok(paths)
@@ -236,7 +222,7 @@ fn add_paths<'a>(
     Ok(())
 }
 
-/// What the words ask for, where clap takes them; none where `task_of` gives none.
+/// Returns what the words ask for, if clap takes them. It returns `None` if `task_of` does.
 fn parsed<'a>(alloc: Global, words: &'a [String]) -> Result<Option<Request<'a>>, Error> {
     let matches = command(alloc)?.try_get_matches_from(words)?;
     let Some((name, options)) = matches.subcommand() else {

@@ -9,7 +9,7 @@ use ref_programs::Tally;
 use sha2::{Digest, Sha256};
 use std::alloc::Global;
 
-/// A line: the items that two witnesses took, and the answer of each store that has them all.
+/// The parts of a line: the items that two witnesses took, and the answer of each store that has them all.
 #[derive(Clone, Copy)]
 struct Line<'a> {
     first: &'a str,
@@ -17,7 +17,7 @@ struct Line<'a> {
     answer: &'a str,
 }
 
-/// The parts of the line.
+/// Returns the parts of the line, or `None` if one is missing.
 fn line_of(rest: &str) -> Option<Line<'_>> {
     let (first, rest) = rest.split_once(' ')?;
     let (second, answer) = rest.split_once(' ')?;
@@ -28,13 +28,13 @@ fn line_of(rest: &str) -> Option<Line<'_>> {
     })
 }
 
-/// The node that the proof convicts.
+/// Returns the node that the proof convicts.
 fn convicted_by<S: Evidence<Tally>>(alloc: Global, store: &S, proof: &Proof) -> Result<String> {
     let node = check_proof(alloc, &Tally, store.directory(), proof)?;
     Ok(format!(in alloc; "{node}")?)
 }
 
-/// Whom the store's proof of a fault of the node convicts, or `-` where there is no proof.
+/// Returns the node that the store's proof against this node convicts, or `-` if there is no proof.
 fn convicted<S: Evidence<Tally>>(alloc: Global, store: &S, node: NodeId) -> Result<String> {
     let Some(proof) = store.proof(node)? else {
         return Ok(String::from_str(alloc, "-")?);
@@ -42,7 +42,7 @@ fn convicted<S: Evidence<Tally>>(alloc: Global, store: &S, node: NodeId) -> Resu
     convicted_by(alloc, store, &proof)
 }
 
-/// What the store says of one node.
+/// Returns what the store says of one node.
 fn said_of<S: Evidence<Tally>>(alloc: Global, store: &S, node: NodeId) -> Result<String> {
     let indication = store.indication(node)?;
     let open = store.open_challenges(node)?.len();
@@ -50,7 +50,7 @@ fn said_of<S: Evidence<Tally>>(alloc: Global, store: &S, node: NodeId) -> Result
     Ok(format!(in alloc; "{node} {indication} {open} {convicted}")?)
 }
 
-/// What the store answers: its count, what it says of each node, and the digest of its export.
+/// Returns the store's answer: its count, what it says of each node, and the digest of its export.
 fn answer_of<S: Evidence<Tally>>(alloc: Global, store: &S) -> Result<String> {
     let count = store.count();
     let mut answer = format!(in alloc; "{count}")?;
@@ -63,7 +63,7 @@ fn answer_of<S: Evidence<Tally>>(alloc: Global, store: &S) -> Result<String> {
     Ok(format!(in alloc; "{answer} {digits}")?)
 }
 
-/// The item at the place, where there is one.
+/// Returns the item at the place, if there is one.
 fn item_at<S: Evidence<Tally>>(store: &S, place: u64) -> Result<Option<Item>> {
     match store.item_at(place)? {
         Some(checked) => Ok(Some(checked.into_item())),
@@ -71,14 +71,14 @@ fn item_at<S: Evidence<Tally>>(store: &S, place: u64) -> Result<Option<Item>> {
     }
 }
 
-/// Whether the item at the place is below the next one.
+/// Returns whether the item at the place is below the next one.
 fn rises<S: Evidence<Tally>>(store: &S, place: u64) -> Result<bool> {
     let lower = item_at(store, place)?;
     let upper = item_at(store, place.saturating_add(1))?;
     Ok(lower.is_some() && lower < upper)
 }
 
-/// Whether the store has as many items as it counts, each above the one before.
+/// Returns whether the store has as many items as it counts, each above the one before.
 fn ascends<S: Evidence<Tally>>(store: &S) -> Result<bool> {
     let count = store.count();
     for place in 1..count {
@@ -89,7 +89,7 @@ fn ascends<S: Evidence<Tally>>(store: &S) -> Result<bool> {
     Ok(item_at(store, count)?.is_none())
 }
 
-/// Whether the first store answers so once it has merged the second, whose items it then includes.
+/// Returns whether the first store gives this answer once it has merged the second, and includes the second's items.
 fn merges<S: Evidence<Tally>>(
     alloc: Global,
     first: &mut S,
@@ -107,7 +107,7 @@ fn merges<S: Evidence<Tally>>(
     Ok(ascends(first)? && answer_of(alloc, first)?.as_str() == answer)
 }
 
-/// Whether the store answers so once it has imported the text.
+/// Returns whether the store gives this answer once it has imported the text.
 fn imports<S: Evidence<Tally>>(
     alloc: Global,
     store: &mut S,
@@ -122,7 +122,8 @@ fn imports<S: Evidence<Tally>>(
     Ok(answer_of(alloc, store)?.as_str() == answer)
 }
 
-/// Whether both stores answer so, the first once it has merged the second, and the second once it has imported the first's text.
+/// Returns whether both stores give this answer, the first once it has merged the second, and the second once it has imported the first's
+/// export.
 fn both_answer<S: Evidence<Tally>>(
     alloc: Global,
     first: &mut S,
@@ -135,7 +136,7 @@ fn both_answer<S: Evidence<Tally>>(
     Ok(merged && imported && second.includes(first))
 }
 
-/// Whether the line's stores answer as it says.
+/// Returns whether the line's stores answer as it says.
 pub(crate) fn agrees<S: Evidence<Tally>>(
     alloc: Global,
     directory: &Directory,

@@ -1,4 +1,4 @@
-//! Texts that are cut off, lengthened, or in falling order.
+//! Encodings of stores that are cut off, that have a byte too many, or whose items do not ascend.
 
 use crate::filling::store_of;
 use anyhow::Result;
@@ -7,7 +7,7 @@ use evidence_store::Evidence;
 use ref_programs::Tally;
 use std::alloc::Global;
 
-/// A line: the items that a store has, the text of two items in hexadecimal, and where in the text the first of them ends.
+/// The parts of a line: the items that a store has, the encoding of two items in hexadecimal digits, and where in it the first item ends.
 #[derive(Clone, Copy)]
 struct Line<'a> {
     items: &'a str,
@@ -15,7 +15,7 @@ struct Line<'a> {
     place: usize,
 }
 
-/// The parts of the line.
+/// Returns the parts of the line, or `None` if one is missing.
 fn line_of(rest: &str) -> Option<Line<'_>> {
     let (items, rest) = rest.split_once(' ')?;
     let (digits, place) = rest.split_once(' ')?;
@@ -26,7 +26,7 @@ fn line_of(rest: &str) -> Option<Line<'_>> {
     })
 }
 
-/// Whether the store refuses the text at the item with the number, and is then as it was.
+/// Returns whether the store refuses the text at this item with this number, and is then as it was.
 fn refuses<S: Evidence<Tally>>(
     store: &mut S,
     before: &[u8],
@@ -41,7 +41,7 @@ fn refuses<S: Evidence<Tally>>(
     Ok(told && store.export()?.as_slice() == before)
 }
 
-/// Whether each beginning of the text is refused as cut off, at the item whose end is missing.
+/// Returns whether the store refuses each beginning of the text as cut off, at the item whose end is missing.
 fn refuses_beginnings<S: Evidence<Tally>>(
     store: &mut S,
     before: &[u8],
@@ -57,7 +57,7 @@ fn refuses_beginnings<S: Evidence<Tally>>(
     Ok(true)
 }
 
-/// The parts, joined.
+/// Returns the parts, joined.
 fn joined(alloc: Global, parts: &[&[u8]]) -> Result<Vec<u8>> {
     let mut text = Vec::new(alloc);
     for part in parts {
@@ -66,7 +66,7 @@ fn joined(alloc: Global, parts: &[&[u8]]) -> Result<Vec<u8>> {
     Ok(text)
 }
 
-/// Whether the text of two items is refused with a byte more, and with the items turned.
+/// Returns whether the store refuses the text of two items with a byte more, and with the items in the other order.
 fn refuses_others<S: Evidence<Tally>>(
     alloc: Global,
     store: &mut S,
@@ -86,7 +86,7 @@ fn refuses_others<S: Evidence<Tally>>(
     Ok(refuses(store, before, &longer, 2, 43)? && refuses(store, before, &turned, 1, 61)?)
 }
 
-/// Whether what is made of the text is refused.
+/// Returns whether the store refuses all that is made of the text.
 fn refuses_each<S: Evidence<Tally>>(
     alloc: Global,
     store: &mut S,
@@ -100,7 +100,7 @@ fn refuses_each<S: Evidence<Tally>>(
     )
 }
 
-/// Whether what is made of the line's text is refused by a store that has the other items.
+/// Returns whether a store that has the line's items refuses all that is made of the line's text.
 pub(crate) fn agrees<S: Evidence<Tally>>(
     alloc: Global,
     directory: &Directory,

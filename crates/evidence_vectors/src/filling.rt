@@ -7,7 +7,7 @@ use evidence_store::Evidence;
 use ref_programs::Tally;
 use std::alloc::Global;
 
-/// Checks the item of the digits, and takes it.
+/// Checks the item that the digits spell, and takes it.
 fn take<S: Evidence<Tally>>(alloc: Global, store: &mut S, digits: &str) -> Result<()> {
     let bytes = hex::decode(alloc, digits)?;
     let item = Item::decode(alloc, &bytes)?;
@@ -29,7 +29,7 @@ fn take_each<S: Evidence<Tally>>(alloc: Global, store: &mut S, items: &str) -> R
     Ok(())
 }
 
-/// The store of a witness that took the items in this order.
+/// Returns the store of a witness that took the items in this order.
 pub(crate) fn store_of<S: Evidence<Tally>>(
     alloc: Global,
     directory: &Directory,

@@ -1,4 +1,4 @@
-//! Items: what decoding and checking tell of their bytes.
+//! Items: what decoding and checking report of their bytes.
 
 use anyhow::Result;
 use authenticators::Directory;
@@ -6,7 +6,7 @@ use evidence_item::{Item, check_item};
 use replay_verifier::{Program, Verdict};
 use std::alloc::Global;
 
-/// What replay tells of a valid item.
+/// Returns what replay reports of a valid item.
 fn verdict_told(alloc: Global, verdict: Option<&Verdict>) -> Result<String> {
     match verdict {
         None => Ok(String::from_str(alloc, "valid")?),
@@ -18,7 +18,7 @@ fn verdict_told(alloc: Global, verdict: Option<&Verdict>) -> Result<String> {
     }
 }
 
-/// What checking tells of an item under the program.
+/// Returns what checking reports of an item under the program.
 fn checked_answer<P: Program + Drop>(
     alloc: Global,
     program: &P,
@@ -34,7 +34,7 @@ fn checked_answer<P: Program + Drop>(
     }
 }
 
-/// What decoding and checking tell of the bytes.
+/// Returns what decoding and checking report of the bytes.
 fn answer<P: Program + Drop>(
     alloc: Global,
     program: &P,
@@ -51,7 +51,7 @@ fn answer<P: Program + Drop>(
     checked_answer(alloc, program, directory, item)
 }
 
-/// The bytes that the digits spell.
+/// Returns the bytes that the digits spell. `-` spells no bytes.
 fn bytes_of(alloc: Global, digits: &str) -> Result<Vec<u8>> {
     if digits == "-" {
         return Ok(Vec::new(alloc));
@@ -59,7 +59,7 @@ fn bytes_of(alloc: Global, digits: &str) -> Result<Vec<u8>> {
     Ok(hex::decode(alloc, digits)?)
 }
 
-/// Whether the line's item is answered as the line says.
+/// Returns whether the line's item is answered as the line says.
 pub fn agrees<P: Program + Drop>(
     alloc: Global,
     program: &P,

@@ -1,16 +1,17 @@
-//! Holds items and stores of evidence against what other code makes of the same bytes.
+//! Compares what the library makes of items and of stores of evidence with what other code makes of the same bytes.
 //!
-//! Standard input has lines `directory HEX`, and behind each of them lines of four kinds, each of which is answered anew, those of stores
-//! by each kind of store.
-//! - `tally ITEM ANSWER` and `relay ITEM ANSWER`: decoding and checking an item under the program of that name. The item is
-//!   hexadecimal, `-` where it has no bytes, and the answer is `refused NUMBER NAME`, `valid` (of an item that is no segment),
-//!   `conforms`, or `deviates PLACE NUMBER NAME`.
-//! - `store ITEMS ITEMS ANSWER`: the items, each in hexadecimal, that two witnesses took, in this order and separated by commas; `-`
-//!   where one took none. The first store merges the second, and the second imports the text of the first: each of them then gives
-//!   the answer, `COUNT` and for each node of the directory `NODE INDICATION OPEN CONVICTED` (how many challenges against it are open,
-//!   and the node that the store's proof convicts, or `-`), and the SHA-256 of its export.
-//! - `cuts ITEMS TEXT PLACE`: the items that a store has, and the text of two items, of which the first ends at this place. Each of the
-//!   text's beginnings, it with a byte more, and it with its items turned is refused, and the store stays as it was.
+//! Standard input has lines `directory HEX`. After each of them come lines of four kinds. Each line is answered anew, and a line about stores is
+//! answered by each kind of store.
+//! - `tally ITEM ANSWER` and `relay ITEM ANSWER`: an item is decoded, and checked under the program of that name. The item is in hexadecimal
+//!   digits, or `-` if it has no bytes. The answer is `refused NUMBER NAME`, `valid` (for an item that is no segment), `conforms`, or
+//!   `deviates PLACE NUMBER NAME`.
+//! - `store ITEMS ITEMS ANSWER`: the items that two witnesses took, in this order. Each is in hexadecimal digits, and commas stand between them.
+//!   A witness that took none has `-`. The first store merges the second, and the second imports the export of the first. Then each of them
+//!   gives the answer: `COUNT`, for each node of the directory `NODE INDICATION OPEN CONVICTED`, and the SHA-256 of its export. `OPEN` is how
+//!   many challenges against the node are open. `CONVICTED` is the node that the store's proof convicts, or `-`.
+//! - `cuts ITEMS TEXT PLACE`: the items that a store has, and the encoding of two items, of which the first ends at this place. The store
+//!   refuses each beginning of the encoding, the encoding with a byte more, and the encoding with its items in the other order. It stays as it
+//!   was.
 #![tactic(auto)]
 
 ghost use Rattle.std.specs.Prelude.{◌≡◌, ◌+◌, ◌-◌, ◌^◌, if◌then◌else◌, min};
@@ -27,7 +28,7 @@ use ref_programs::{Relay, Tally};
 use std::alloc::Global;
 use std::io::{self, BufRead, BufReader};
 
-/// Whether a store answers a line of stores as it says.
+/// Returns whether a store answers a line about stores as the line says.
 fn store_agrees<S: Evidence<Tally>>(
     alloc: Global,
     directory: &Directory,
@@ -41,7 +42,7 @@ fn store_agrees<S: Evidence<Tally>>(
     }
 }
 
-/// Whether each kind of store does. That one does and another one does not is an error.
+/// Returns whether each kind of store does. It fails if one kind does and another does not.
 fn stores_agree(alloc: Global, directory: &Directory, word: &str, rest: &str) -> Result<bool> {
     let plain = store_agrees::<PlainStore<Tally>>(alloc, directory, word, rest)?;
     let indexed = store_agrees::<IndexedStore<Tally>>(alloc, directory, word, rest)?;
@@ -51,7 +52,7 @@ fn stores_agree(alloc: Global, directory: &Directory, word: &str, rest: &str) ->
     Ok(plain)
 }
 
-/// Whether the line is answered as it says.
+/// Returns whether the line is answered as it says.
 fn agrees(alloc: Global, directory: &Directory, word: &str, rest: &str) -> Result<bool> {
     match word {
         "tally" => items::agrees(alloc, &Tally, directory, rest),
@@ -60,7 +61,7 @@ fn agrees(alloc: Global, directory: &Directory, word: &str, rest: &str) -> Resul
     }
 }
 
-/// The directory of the digits, which takes the place of the one before.
+/// Returns the directory that the digits spell.
 fn directory_of(alloc: Global, digits: &str) -> Result<Directory> {
     let bytes = hex::decode(alloc, digits)?;
     Ok(Directory::from_bytes(alloc, &bytes)?)
@@ -74,7 +75,7 @@ struct Counts {
 }
 
 impl Counts {
-    /// The counts with one answer more.
+    /// Returns the counts with one answer more.
     fn with(self, agrees: bool) -> Counts
         ensures agreed { result.agreed ≡ (if agrees then min (self.agreed + 1) (2 ^ 32 - 1) else self.agreed) }
         ensures differed { result.differed ≡ (if agrees then self.differed else min (self.differed + 1) (2 ^ 32 - 1)) }
@@ -87,7 +88,8 @@ impl Counts {
     }
 }
 
-/// Answers the lines in order.
+/// Answers the lines in order, and counts how many are answered as they say. It leaves out lines without a blank, and those that begin with `#
+/// `.
 fn answer_lines(rt: &HostRuntime) -> Result<Counts> {
     let alloc = rt.alloc();
     let mut directory = Directory::new(alloc);

@@ -1,9 +1,9 @@
-//! Telling `checks/growths/refuse.c` whose growths it is to count: by two growths of sizes that nothing else asks for.
+//! Marks for `checks/growths/refuse.c`, which say whose growths it must count. The marks are two growths of sizes that nothing else asks for.
 
 use outcome::Memory;
 use std::alloc::Global;
 
-/// The size that arms, and the one that disarms.
+/// The size of the growth from which on growths are counted. `DISARMS` is the size of the one that ends this.
 const ARMS: usize = 1_234_577;
 
 const DISARMS: usize = 1_234_579;
@@ -15,12 +15,12 @@ fn ask(alloc: Global, size: usize) -> Result<(), Memory> {
     Ok(())
 }
 
-/// From here on growths are counted.
+/// Marks that growths are counted from here on.
 pub fn arm(alloc: Global) -> Result<(), Memory> {
     ask(alloc, ARMS)
 }
 
-/// From here on they are not, whether there is memory or not.
+/// Marks that growths are not counted from here on. It does so even if there is no memory.
 pub fn disarm(alloc: Global) {
     let _ = ask(alloc, DISARMS);
 }

@@ -15,7 +15,7 @@ struct Checking {
     item: Box<Item>,
 }
 
-/// Writes the digest of the item with what was found of it.
+/// Writes the digest of the item, with what checking found of it.
 fn say_checked(rt: &HostRuntime, turn: Turn, checked: &Checked<Tally>) -> Result<bool> {
     let text = format!(in rt.alloc(); "{checked:?}")?;
     say_digest(rt, turn, text.as_bytes())
@@ -39,7 +39,7 @@ impl Scene for Checking {
     }
 }
 
-/// `check_item`, of a segment with a quote, which conforms.
+/// Plays `check_item` of a segment with a quote, which conforms.
 pub fn conforming_item(rt: &HostRuntime) -> Result<()> {
     let directory = directory_of(rt.alloc())?;
     let item = receiver(rt.alloc(), &directory)?;
@@ -47,7 +47,7 @@ pub fn conforming_item(rt: &HostRuntime) -> Result<()> {
     play(rt, &mut scene)
 }
 
-/// `check_item`, of a segment with two quotes, which does not conform.
+/// Plays `check_item` of a segment with two quotes, which does not conform.
 pub fn deviating_item(rt: &HostRuntime) -> Result<()> {
     let directory = directory_of(rt.alloc())?;
     let item = twice(rt.alloc(), &directory)?;
@@ -86,7 +86,7 @@ fn convict(rt: &HostRuntime, directory: Box<Directory>, proof: Proof) -> Result<
     play(rt, &mut scene)
 }
 
-/// `check_proof`, of two statements, which take no memory.
+/// Plays `check_proof` of two statements. That takes no memory.
 pub fn two_statements(rt: &HostRuntime) -> Result<()> {
     let directory = directory_of(rt.alloc())?;
     let first = Box::into_inner(statement(rt.alloc(), 1)?);
@@ -94,7 +94,7 @@ pub fn two_statements(rt: &HostRuntime) -> Result<()> {
     convict(rt, directory, Proof::two_auths(first, second)?)
 }
 
-/// `check_proof`, of a statement and a segment with a quote that contradicts it.
+/// Plays `check_proof` of a statement and a segment with a quote, which contradict each other.
 pub fn statement_and_segment(rt: &HostRuntime) -> Result<()> {
     let directory = directory_of(rt.alloc())?;
     let first = Box::into_inner(statement(rt.alloc(), 1)?);
@@ -102,7 +102,7 @@ pub fn statement_and_segment(rt: &HostRuntime) -> Result<()> {
     convict(rt, directory, Proof::auth_segment(first, second)?)
 }
 
-/// `check_proof`, of a segment with quotes that does not conform.
+/// Plays `check_proof` of a segment with quotes, which does not conform.
 pub fn nonconforming(rt: &HostRuntime) -> Result<()> {
     let directory = directory_of(rt.alloc())?;
     let segment = Box::into_inner(twice(rt.alloc(), &directory)?);

@@ -1,4 +1,4 @@
-//! Scenes of the engines of `node_sim`, but for that of `run`.
+//! Scenes of the engines of `node_sim`. The engine of `run` has none.
 
 use crate::samples::{directory_of, first_store, second_store};
 use crate::told::{Scene, Turn, digest, play, say_refusal};
@@ -14,7 +14,7 @@ use sha2::{Digest, Sha256};
 use std::alloc::Global;
 use std::io;
 
-/// A command.
+/// A command of `node_sim`.
 #[derive(Clone, Copy)]
 pub enum Command {
     Status,
@@ -23,7 +23,7 @@ pub enum Command {
     Check,
 }
 
-/// A writer that takes no memory: how many bytes were written, and their digest.
+/// A writer that takes no memory. It keeps how many bytes were written, and their digest.
 #[derive(Drop)]
 struct Written {
     len: u64,
@@ -51,7 +51,7 @@ impl io::Write for Written {
     }
 }
 
-/// A command with its input, and what was written when it ran last.
+/// A command with its input, and the length and the digest of what was written when it ran last.
 #[derive(Drop)]
 struct Running {
     command: Command,
@@ -97,7 +97,7 @@ impl Scene for Running {
     }
 }
 
-/// Puts a line of the bytes in hexadecimal digits behind the others.
+/// Adds a line of the bytes in hexadecimal digits.
 fn push_line(alloc: Global, input: &mut Vec<u8>, bytes: &[u8]) -> Result<()> {
     let digits = hex::encode(alloc, bytes)?;
     input.extend_from_slice(digits.as_bytes())?;
@@ -107,20 +107,20 @@ fn push_line(alloc: Global, input: &mut Vec<u8>, bytes: &[u8]) -> Result<()> {
 
 type Store = PlainStore<Tally>;
 
-/// The line of a store that exposes node 2.
+/// Adds the line of a store that exposes node 2.
 fn push_second(alloc: Global, input: &mut Vec<u8>, directory: &Directory) -> Result<()> {
     let second: Box<Store> = second_store(alloc, directory)?;
     push_line(alloc, input, &second.export()?)
 }
 
-/// The lines of two stores.
+/// Adds the lines of two stores.
 fn push_stores(alloc: Global, input: &mut Vec<u8>, directory: &Directory) -> Result<()> {
     let first: Box<Store> = first_store(alloc, directory)?;
     push_line(alloc, input, &first.export()?)?;
     push_second(alloc, input, directory)
 }
 
-/// The line of a proof against node 2.
+/// Adds the line of a proof against node 2.
 fn push_proof(alloc: Global, input: &mut Vec<u8>, directory: &Directory) -> Result<()> {
     let store: Box<Store> = second_store(alloc, directory)?;
     match store.proof(NodeId(2))? {
@@ -129,7 +129,7 @@ fn push_proof(alloc: Global, input: &mut Vec<u8>, directory: &Directory) -> Resu
     }
 }
 
-/// The command's input.
+/// Returns the command's input.
 fn input_of(alloc: Global, command: Command) -> Result<Vec<u8>> {
     let directory = directory_of(alloc)?;
     let mut input = Vec::new(alloc);
@@ -142,7 +142,7 @@ fn input_of(alloc: Global, command: Command) -> Result<Vec<u8>> {
     Ok(input)
 }
 
-/// The command's engine.
+/// Plays the command's engine.
 pub fn play_command(rt: &HostRuntime, command: Command) -> Result<()> {
     let mut scene = Running {
         command,

@@ -1,7 +1,7 @@
-//! The scene of a text that comes in pieces.
+//! The scene of an export that comes in pieces.
 //!
-//! After a refusal the importer answers the same refusal ever after, so the call is not made again: `then` is what it answers to an
-//! empty piece, `finish` what it answers at the end, and `after` the store.
+//! After a refusal the importer returns the same refusal to every call. So the call is not made again. The line `then` has what it returns for
+//! an empty piece, `finish` what it returns at the end, and `after` what the store has.
 
 use crate::samples::{directory_of, first_store, second_store};
 use crate::told::{Turn, say_store};
@@ -10,10 +10,10 @@ use containers::ImportFault;
 use evidence_store::{Evidence, Importer};
 use ref_programs::Tally;
 
-/// How many bytes of the text are fed before: those of its head, of its first item, and of a part of the second one.
+/// How many bytes of the text are fed before the call: those of its head, of its first item, and of a part of the second one.
 const FRONT: usize = 9_000;
 
-/// Writes what the importer answers.
+/// Writes what the importer returned for a piece.
 fn say_fed(rt: &HostRuntime, word: &str, fed: Result<(), ImportFault>) -> Result<()> {
     match fed {
         Ok(()) => println!(rt; "{word} ok")?,
@@ -25,7 +25,7 @@ fn say_fed(rt: &HostRuntime, word: &str, fed: Result<(), ImportFault>) -> Result
     Ok(())
 }
 
-/// Writes what it answers at the end of the text.
+/// Writes what the importer returned at the end of the text.
 fn say_finished(rt: &HostRuntime, finished: Result<u64, ImportFault>) -> Result<()> {
     match finished {
         Ok(new) => {
@@ -36,7 +36,7 @@ fn say_finished(rt: &HostRuntime, finished: Result<u64, ImportFault>) -> Result<
     }
 }
 
-/// Feeds the text in two pieces, of which the second is the call.
+/// Feeds the text in two pieces. The call is the feeding of the second piece.
 fn feed_text<S: Evidence<Tally>>(rt: &HostRuntime, store: &mut S, text: &[u8]) -> Result<()> {
     let Ok(mut importer) = Importer::new(rt.alloc(), store.directory().try_clone()?) else {
         bail!("memory ran out");
@@ -52,7 +52,7 @@ fn feed_text<S: Evidence<Tally>>(rt: &HostRuntime, store: &mut S, text: &[u8]) -
     say_finished(rt, finished)
 }
 
-/// `feed`, of what is left of a text in whose second item a piece ended.
+/// Plays `feed` of the rest of a text. The piece before ended within the second item.
 pub fn feed<S: Evidence<Tally>>(rt: &HostRuntime) -> Result<()> {
     let directory = directory_of(rt.alloc())?;
     let other: Box<S> = second_store(rt.alloc(), &directory)?;

@@ -6,7 +6,7 @@ use anyhow::Result;
 use authenticators::{Directory, NodeId};
 use lms_sign::SecretKey;
 
-/// The text of a directory.
+/// The encoding of a directory.
 #[derive(Drop)]
 struct Reading {
     text: Vec<u8>,
@@ -29,7 +29,7 @@ impl Scene for Reading {
     }
 }
 
-/// `Directory::from_bytes`, of two nodes, of which one has two keys.
+/// Plays `Directory::from_bytes` of a directory of two nodes. One of them has two keys.
 pub fn directory(rt: &HostRuntime) -> Result<()> {
     let mut directory = directory_of(rt.alloc())?;
     directory.add_key(NodeId(1), key_of(rt.alloc(), 3)?.public_key())?;
@@ -63,7 +63,7 @@ impl Scene for Signing {
     }
 }
 
-/// `SecretKey::sign`.
+/// Plays `SecretKey::sign`.
 pub fn sign(rt: &HostRuntime) -> Result<()> {
     let mut scene = Signing {
         key: key_of(rt.alloc(), 1)?,

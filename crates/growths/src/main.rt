@@ -1,11 +1,11 @@
-//! Calls, one a scene, of which `checks/growths/run.py` refuses each growth of memory in turn.
+//! Calls whose growths of memory `checks/growths/run.py` refuses, one after the other. Each call has a scene of its own.
 //!
-//! The first word is the scene's name; `all` plays every scene, behind a line `== NAME`. A scene sets up what the call wants and writes
-//! the state (`before`). It makes the call, and tells the growths of that call alone by two others ([`arming`]). Then it writes what
-//! the call answered (`answer`) and the state (`after`). Where the call was refused memory it is made once more, with nothing refused,
-//! and its answer and the state are written too (`again`, `end`).
+//! The first word of the command line is the scene's name. The word `all` plays every scene, each after a line `== NAME`. A scene prepares what
+//! the call needs, and writes the state (`before`). It makes the call, and marks the growths of that call alone by two growths around it
+//! ([`arming`]). Then it writes what the call returned (`answer`), and the state (`after`). If the call was refused memory, the scene makes it
+//! once more, with nothing refused, and writes its answer and the state too (`again`, `end`).
 //!
-//! [`told`] has that order of things, [`samples`] nodes and items. The scenes stand in [`keys`], [`nodes`], [`checking`], [`stores`],
+//! [`told`] has that order of things, and [`samples`] has nodes and items. The scenes stand in [`keys`], [`nodes`], [`checking`], [`stores`],
 //! [`feeding`], [`transfers`], [`worlds`], [`workers`] and [`engines`].
 #![tactic(auto)]
 
@@ -54,7 +54,7 @@ const STORE_SCENES: [&str; 9] = [
     "take", "merge", "import", "feed", "proof", "pack", "apply", "run_take", "run",
 ];
 
-/// Plays a scene of a check. Whether there is one of this name.
+/// Plays a scene of a check. Returns whether there is one with this name.
 fn play_check<H: Threads + Sync>(rt: &HostRuntime, threads: &H, name: &str) -> Result<bool> {
     match name {
         "check_item_1" => checking::conforming_item(rt)?,
@@ -71,7 +71,7 @@ fn play_check<H: Threads + Sync>(rt: &HostRuntime, threads: &H, name: &str) -> R
     Ok(true)
 }
 
-/// Plays a scene without a store of its own. Whether there is one of this name.
+/// Plays a scene without a store of its own. Returns whether there is one with this name.
 fn play_plain<H: Threads + Sync>(rt: &HostRuntime, threads: &H, name: &str) -> Result<bool> {
     match name {
         "directory" => keys::directory(rt)?,
@@ -87,7 +87,7 @@ fn play_plain<H: Threads + Sync>(rt: &HostRuntime, threads: &H, name: &str) -> R
     Ok(true)
 }
 
-/// Plays a scene of stores, of one kind. Whether there is one of this name.
+/// Plays a scene of stores, of one kind. Returns whether there is one with this name.
 fn play_store<S: Evidence<Tally>>(rt: &HostRuntime, name: &str) -> Result<bool> {
     match name {
         "take" => stores::take::<S>(rt)?,
@@ -104,7 +104,7 @@ fn play_store<S: Evidence<Tally>>(rt: &HostRuntime, name: &str) -> Result<bool> 
     Ok(true)
 }
 
-/// Plays the scene of this name.
+/// Plays the scene with this name.
 fn play<H: Threads + Sync>(rt: &HostRuntime, threads: &H, name: &str) -> Result<()> {
     let is_played = if let Some(name) = name.strip_suffix("_plain") {
         play_store::<PlainStore<Tally>>(rt, name)?

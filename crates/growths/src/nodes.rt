@@ -41,7 +41,7 @@ fn feed_ack(digest: &mut Sha256, ack: &Ack) {
     feed_bytes(digest, ack.sig.as_slice());
 }
 
-/// The digest of the acknowledgement and the messages.
+/// Returns the digest of the acknowledgement and the messages.
 fn digest_of(ack: &Ack, messages: &[Message]) -> Hash {
     let mut digest = Sha256::new();
     feed_ack(&mut digest, ack);
@@ -51,7 +51,7 @@ fn digest_of(ack: &Ack, messages: &[Message]) -> Hash {
     Hash(digest.finalize())
 }
 
-/// The digest of what the node signed.
+/// Returns the digest of what the node signed.
 fn signed_by(node: &Node<Tally>) -> Hash {
     let mut digest = Sha256::new();
     for statement in node.signed() {
@@ -62,8 +62,8 @@ fn signed_by(node: &Node<Tally>) -> Hash {
     Hash(digest.finalize())
 }
 
-/// Writes what the node signed, where its log ends, of how many messages it awaits acknowledgements, how many leaves are left, and
-/// whether it has received the message.
+/// Writes a line about the node: the digest of what it signed, the number and the hash of its log's end, how many messages await their
+/// acknowledgements, how many leaves are left, and whether it has received the message.
 fn say_node(rt: &HostRuntime, word: &str, node: &Node<Tally>, message: &Message) -> Result<()> {
     let signed = signed_by(node);
     let (seq, end) = match node.history().last() {
@@ -98,7 +98,7 @@ impl Scene for Receiving {
     }
 }
 
-/// `Node::receive`, of a message to which the node replies.
+/// Plays `Node::receive` of a message to which the node replies.
 pub fn receive(rt: &HostRuntime) -> Result<()> {
     let directory = directory_of(rt.alloc())?;
     let mut scene = Receiving {
@@ -108,7 +108,7 @@ pub fn receive(rt: &HostRuntime) -> Result<()> {
     play(rt, &mut scene)
 }
 
-/// The same, of a message that the node received before.
+/// Plays the same of a message that the node received before.
 pub fn receive_again(rt: &HostRuntime) -> Result<()> {
     let directory = directory_of(rt.alloc())?;
     let mut scene = Receiving {

@@ -1,7 +1,7 @@
-//! Two nodes, and what they sign: as nodes do, and otherwise.
+//! Two nodes, and what they sign. They sign some of it as nodes do, and some of it not.
 //!
-//! A program keeps samples of its own: the calls of `evidence_samples` fail as tests do, of which `anyhow` makes no error. And the logs
-//! here are those of nodes that ran.
+//! The program has samples of its own, since the calls of `evidence_samples` fail as tests do, which `anyhow` turns into no error. Also, the
+//! logs here are those of nodes that ran.
 
 use anyhow::{Result, bail};
 use authenticators::{Authenticator, Directory, NodeId, statement_text};
@@ -14,10 +14,11 @@ use log_chain::{ByteString, Entry, Hash, chain_end};
 use ref_programs::Tally;
 use std::alloc::Global;
 
-/// A node draws 32 fresh random bytes for each call that signs. The scenes do not, so that they write the same each time.
+/// The entropy of all calls that sign. A real node draws 32 fresh random bytes for each such call. The scenes do not, so that they write the
+/// same each time.
 pub const ENTROPY: [u8; 32] = [0; 32];
 
-/// A key (H5, W1) that is equal to the node's. Its identifier and its seed end in the node's number.
+/// Makes a key (H5, W1) that is equal to the node's. Its identifier and its seed end in the node's number.
 pub fn key_of(alloc: Global, node: u8) -> Result<Box<SecretKey>> {
     let mut id = [0; 16];
     id[15] = node;
@@ -27,7 +28,7 @@ pub fn key_of(alloc: Global, node: u8) -> Result<Box<SecretKey>> {
     Ok(Box::new(alloc, key)?)
 }
 
-/// The directory of the nodes 1 and 2.
+/// Makes the directory of the nodes 1 and 2.
 pub fn directory_of(alloc: Global) -> Result<Box<Directory>> {
     let mut directory = Box::new(alloc, Directory::new(alloc))?;
     directory.add(NodeId(1), key_of(alloc, 1)?.public_key())?;
@@ -35,7 +36,7 @@ pub fn directory_of(alloc: Global) -> Result<Box<Directory>> {
     Ok(directory)
 }
 
-/// The node, which begins its log.
+/// Begins the node. The first entry of its log has the number 1.
 pub fn begin(alloc: Global, directory: &Directory, node: u8) -> Result<Box<Node<Tally>>> {
     let key = Box::into_inner(key_of(alloc, node)?);
     let id = NodeId(u32::from(node));
@@ -45,7 +46,7 @@ pub fn begin(alloc: Global, directory: &Directory, node: u8) -> Result<Box<Node<
     }
 }
 
-/// What node 1's timer sends, which tells node 2 to add 5.
+/// Ticks node 1's timer, and returns the message that node 1 sends. It tells node 2 to add 5.
 pub fn send(alloc: Global, one: &mut Node<Tally>) -> Result<Box<Message>> {
     match one.timer(5, ENTROPY)?.pop() {
         Some(message) => Ok(Box::new(alloc, message)?),
@@ -53,13 +54,13 @@ pub fn send(alloc: Global, one: &mut Node<Tally>) -> Result<Box<Message>> {
     }
 }
 
-/// A message of node 1 to node 2.
+/// Returns a message of node 1 to node 2.
 pub fn message(alloc: Global, directory: &Directory) -> Result<Box<Message>> {
     let mut one = begin(alloc, directory, 1)?;
     send(alloc, &mut one)
 }
 
-/// The node's log, up to what it signed last.
+/// Returns the segment of the node's log up to what it signed last.
 fn log_of(alloc: Global, node: &Node<Tally>) -> Result<Box<Item>> {
     let Some(last) = node.signed().last() else {
         bail!("the node signed nothing");
@@ -70,14 +71,14 @@ fn log_of(alloc: Global, node: &Node<Tally>) -> Result<Box<Item>> {
     Ok(Box::new(alloc, item)?)
 }
 
-/// The log of node 1, which sent a message: INIT, TIMER and SEND.
+/// Returns the log of node 1, which sent a message: INIT, TIMER and SEND.
 pub fn sender(alloc: Global, directory: &Directory) -> Result<Box<Item>> {
     let mut one = begin(alloc, directory, 1)?;
     send(alloc, &mut one)?;
     log_of(alloc, &one)
 }
 
-/// The log of node 2, which received that message and replied: INIT, RECV, which quotes the message, and SEND.
+/// Returns the log of node 2, which received that message and replied: INIT, RECV, which quotes the message, and SEND.
 pub fn receiver(alloc: Global, directory: &Directory) -> Result<Box<Item>> {
     let message = message(alloc, directory)?;
     let mut two = begin(alloc, directory, 2)?;
@@ -85,14 +86,14 @@ pub fn receiver(alloc: Global, directory: &Directory) -> Result<Box<Item>> {
     log_of(alloc, &two)
 }
 
-/// The signature of node 2.
+/// Returns node 2's signature of the statement that its entry with this number has this hash. Each signature is by the key's first leaf.
 fn sign(alloc: Global, seq: u64, hash: Hash) -> Result<ByteString> {
     let mut key = key_of(alloc, 2)?;
     let sig = key.sign(alloc, &statement_text(seq, hash), ENTROPY)?;
     Ok(ByteString::from_vec(sig))
 }
 
-/// A statement of node 2 that its third entry has a hash of this byte 32 times over.
+/// Returns a statement of node 2, that its third entry has a hash of this byte, 32 times.
 pub fn statement(alloc: Global, byte: u8) -> Result<Box<Item>> {
     let hash = Hash([byte; 32]);
     let item = Item::auth(Authenticator {
@@ -104,7 +105,7 @@ pub fn statement(alloc: Global, byte: u8) -> Result<Box<Item>> {
     Ok(Box::new(alloc, item)?)
 }
 
-/// The entries of the log, and behind them the second one once more.
+/// Returns the entries of the log, and after them the second one once more, with the number 4.
 fn repeated(alloc: Global, log: &Segment) -> Result<Vec<Entry>> {
     let mut entries = log.entries.try_clone(alloc)?.into_vec();
     let Some(second) = log.entries.as_slice().get(1) else {
@@ -119,7 +120,7 @@ fn repeated(alloc: Global, log: &Segment) -> Result<Vec<Entry>> {
     Ok(entries)
 }
 
-/// The log of node 2 as it is not to be: behind its reply it receives the message again.
+/// Returns a log of node 2 that deviates: after its reply, the node receives the message again.
 pub fn twice(alloc: Global, directory: &Directory) -> Result<Box<Item>> {
     let log = receiver(alloc, directory)?;
     let Form::Segment(segment) = log.form() else {
@@ -131,7 +132,7 @@ pub fn twice(alloc: Global, directory: &Directory) -> Result<Box<Item>> {
     Ok(Box::new(alloc, item)?)
 }
 
-/// A store under the directory, without items.
+/// Creates a store without items, under the directory.
 pub fn new_store<S: Evidence<Tally>>(alloc: Global, directory: &Directory) -> Result<Box<S>> {
     match S::new(alloc, directory.try_clone()?) {
         Ok(store) => Ok(Box::new(alloc, store)?),
@@ -139,7 +140,7 @@ pub fn new_store<S: Evidence<Tally>>(alloc: Global, directory: &Directory) -> Re
     }
 }
 
-/// Takes the item, which is valid.
+/// Makes the store take the item, which must be valid.
 pub fn take<S: Evidence<Tally>>(alloc: Global, store: &mut S, item: Box<Item>) -> Result<()> {
     let checked = check_item(alloc, &Tally, store.directory(), Box::into_inner(item))?;
     match store.take(checked) {
@@ -148,7 +149,7 @@ pub fn take<S: Evidence<Tally>>(alloc: Global, store: &mut S, item: Box<Item>) -
     }
 }
 
-/// A store of node 1's log, and of a statement of node 2 that has not the hash of its log.
+/// Returns a store with node 1's log, and with a statement of node 2 whose hash is not that of its log.
 pub fn first_store<S: Evidence<Tally>>(alloc: Global, directory: &Directory) -> Result<Box<S>> {
     let mut store: Box<S> = new_store(alloc, directory)?;
     take::<S>(alloc, &mut store, sender(alloc, directory)?)?;
@@ -156,7 +157,7 @@ pub fn first_store<S: Evidence<Tally>>(alloc: Global, directory: &Directory) -> 
     Ok(store)
 }
 
-/// A store of that statement, and of node 2's log.
+/// Returns a store with that statement, and with node 2's log.
 pub fn second_store<S: Evidence<Tally>>(alloc: Global, directory: &Directory) -> Result<Box<S>> {
     let mut store: Box<S> = new_store(alloc, directory)?;
     take::<S>(alloc, &mut store, statement(alloc, 1)?)?;

@@ -16,7 +16,7 @@ struct Taking<S: Evidence<Tally>> {
     item: Box<Item>,
 }
 
-/// Writes that the item was refused, which is given back.
+/// Writes that the item was refused. It fails if another item was given back.
 fn say_given_back(
     rt: &HostRuntime,
     turn: Turn,
@@ -47,7 +47,7 @@ impl<S: Evidence<Tally>> Scene for Taking<S> {
     }
 }
 
-/// `take`, of a segment that exposes its node.
+/// Plays `take` of a segment that exposes its node.
 pub fn take<S: Evidence<Tally>>(rt: &HostRuntime) -> Result<()> {
     let directory = directory_of(rt.alloc())?;
     let mut scene: Taking<S> = Taking {
@@ -83,7 +83,7 @@ impl<S: Evidence<Tally>> Scene for Merging<S> {
     }
 }
 
-/// `merge`, of stores that have one item in common.
+/// Plays `merge` of stores that have one item in common.
 pub fn merge<S: Evidence<Tally>>(rt: &HostRuntime) -> Result<()> {
     let directory = directory_of(rt.alloc())?;
     let mut scene: Merging<S> = Merging {
@@ -93,7 +93,7 @@ pub fn merge<S: Evidence<Tally>>(rt: &HostRuntime) -> Result<()> {
     play(rt, &mut scene)
 }
 
-/// A store, and the text of another one.
+/// A store, and the export of another one.
 #[derive(Drop)]
 struct Importing<S: Evidence<Tally>> {
     store: Box<S>,
@@ -116,7 +116,7 @@ impl<S: Evidence<Tally>> Scene for Importing<S> {
     }
 }
 
-/// `import`, of a text that has one item in common with the store.
+/// Plays `import` of an export that has one item in common with the store.
 pub fn import<S: Evidence<Tally>>(rt: &HostRuntime) -> Result<()> {
     let directory = directory_of(rt.alloc())?;
     let other: Box<S> = second_store(rt.alloc(), &directory)?;
@@ -155,7 +155,7 @@ impl<S: Evidence<Tally>> Scene for Proving<S> {
     }
 }
 
-/// `proof`, by a statement and a segment with a quote.
+/// Plays `proof`. The proof is a statement, and a segment with a quote.
 pub fn proof<S: Evidence<Tally>>(rt: &HostRuntime) -> Result<()> {
     let directory = directory_of(rt.alloc())?;
     let mut scene: Proving<S> = Proving {

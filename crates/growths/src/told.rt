@@ -10,17 +10,17 @@ use ref_programs::Tally;
 use sha2::{Digest, Sha256};
 use std::alloc::Global;
 
-/// Which time the call is made.
+/// Whether the call is made for the first time, or again.
 #[derive(Clone, Copy)]
 pub enum Turn {
-    /// The first one, whose growths are counted and may be refused.
+    /// The first time. The growths are counted, and may be refused.
     First,
-    /// Once more, after a refusal.
+    /// Once more, after a refusal. Nothing is refused.
     Again,
 }
 
 impl Turn {
-    /// Goes before the call.
+    /// Marks that the call begins. It is made just before the call.
     pub fn begin(self, alloc: Global) -> Result<(), Memory> {
         match self {
             Turn::First => arm(alloc),
@@ -28,7 +28,7 @@ impl Turn {
         }
     }
 
-    /// Goes behind the call.
+    /// Marks that the call has ended. It is made just after the call.
     pub fn end(self, alloc: Global) {
         match self {
             Turn::First => disarm(alloc),
@@ -36,7 +36,7 @@ impl Turn {
         }
     }
 
-    /// The word in front of the answer.
+    /// Returns the word with which the line of the answer begins.
     pub fn word(self) -> &'static str {
         match self {
             Turn::First => "answer",
@@ -47,14 +47,14 @@ impl Turn {
 
 /// A call, with the state that it may change.
 pub trait Scene {
-    /// Writes the state, behind the word.
+    /// Writes the state, in lines that begin with the word.
     fn say(&self, rt: &HostRuntime, word: &str) -> Result<()>;
 
-    /// Makes the call and writes its answer. Whether it was refused.
+    /// Makes the call, and writes its answer. Returns whether the call was refused.
     fn call(&mut self, rt: &HostRuntime, turn: Turn) -> Result<bool>;
 }
 
-/// Plays the scene.
+/// Plays the scene: the state, the call, the state, and if the call was refused, the call and the state once more.
 pub fn play<T: Scene>(rt: &HostRuntime, scene: &mut T) -> Result<()> {
     scene.say(rt, "before")?;
     let is_refused = scene.call(rt, Turn::First)?;
@@ -66,19 +66,19 @@ pub fn play<T: Scene>(rt: &HostRuntime, scene: &mut T) -> Result<()> {
     Ok(())
 }
 
-/// The digest of the bytes.
+/// Returns the digest of the bytes.
 pub fn digest(bytes: &[u8]) -> Hash {
     Hash(Sha256::digest(bytes))
 }
 
-/// Writes an answer that is a refusal.
+/// Writes an answer that is a refusal. Returns true, since the call was refused.
 pub fn say_refusal(rt: &HostRuntime, turn: Turn, number: u8, name: &str) -> Result<bool> {
     let word = turn.word();
     println!(rt; "{word} refused {number} {name}")?;
     Ok(true)
 }
 
-/// Writes an answer that is a digest.
+/// Writes an answer that is bytes, by their digest. Returns false, since the call was not refused.
 pub fn say_digest(rt: &HostRuntime, turn: Turn, bytes: &[u8]) -> Result<bool> {
     let word = turn.word();
     let digest = digest(bytes);
@@ -86,14 +86,14 @@ pub fn say_digest(rt: &HostRuntime, turn: Turn, bytes: &[u8]) -> Result<bool> {
     Ok(false)
 }
 
-/// Writes an answer that is a number.
+/// Writes an answer that is a number. Returns false, since the call was not refused.
 pub fn say_number(rt: &HostRuntime, turn: Turn, number: u64) -> Result<bool> {
     let word = turn.word();
     println!(rt; "{word} ok {number}")?;
     Ok(false)
 }
 
-/// Writes what a store has: the digest of its text, how many items there are, and what it says of the nodes 1 and 2.
+/// Writes what a store has: the digest of its export, how many items there are, and what it says of the nodes 1 and 2.
 pub fn say_store<S: Evidence<Tally>>(rt: &HostRuntime, word: &str, store: &S) -> Result<()> {
     let digest = digest(&store.export()?);
     let count = store.count();

@@ -36,12 +36,12 @@ impl<S: Evidence<Tally>> Scene for Packing<S> {
     }
 }
 
-/// The summary of a store.
+/// Returns the summary of a store that lists all its items.
 fn summary_of<S: Evidence<Tally>>(alloc: Global, store: &S) -> Result<Box<Summary>> {
     Ok(Box::new(alloc, transfer::summary::<Tally, S>(alloc, store)?)?)
 }
 
-/// `pack`, of what another store does not have.
+/// Plays `pack` of what another store does not have.
 pub fn pack<S: Evidence<Tally>>(rt: &HostRuntime) -> Result<()> {
     let directory = directory_of(rt.alloc())?;
     let other: Box<S> = first_store(rt.alloc(), &directory)?;
@@ -52,7 +52,7 @@ pub fn pack<S: Evidence<Tally>>(rt: &HostRuntime) -> Result<()> {
     play(rt, &mut scene)
 }
 
-/// A store, and the text of a pack.
+/// A store, and the encoding of a pack.
 #[derive(Drop)]
 struct Applying<S: Evidence<Tally>> {
     store: Box<S>,
@@ -81,7 +81,7 @@ impl<S: Evidence<Tally>> Scene for Applying<S> {
     }
 }
 
-/// The text of the pack that a store makes against a summary.
+/// Returns the encoding of the pack that a store makes against a summary.
 fn text_of_pack<S: Evidence<Tally>>(
     alloc: Global,
     store: &S,
@@ -91,7 +91,7 @@ fn text_of_pack<S: Evidence<Tally>>(
     Ok(pack.to_bytes(alloc)?)
 }
 
-/// `apply`, of the pack that another store made for this one.
+/// Plays `apply` of the pack that another store made for this one.
 pub fn apply<S: Evidence<Tally>>(rt: &HostRuntime) -> Result<()> {
     let directory = directory_of(rt.alloc())?;
     let other: Box<S> = second_store(rt.alloc(), &directory)?;

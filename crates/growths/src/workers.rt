@@ -1,7 +1,7 @@
-//! Scenes of items that are checked by workers.
+//! Scenes of items that workers check.
 //!
-//! A check that is refused memory tells it at its own place alone, so what one refusal leaves is neither all as it was nor the right
-//! answer: `left` and `end` tell what checking again makes of it, with nothing refused.
+//! A check that is refused memory reports this at its own place alone. So one refusal leaves neither the state as it was nor the right answer.
+//! The lines `left` and `end` have what checking again makes of it, with nothing refused.
 
 use crate::samples::{directory_of, receiver, statement};
 use crate::told::{Turn, say_number, say_refusal};
@@ -14,7 +14,7 @@ use ref_programs::Tally;
 use std::alloc::Global;
 use std::thread::Threads;
 
-/// What a check gives.
+/// What the check of an item returns.
 type Answer = Result<Checked<Tally>, ItemFault>;
 
 /// Items under their directory.
@@ -24,7 +24,7 @@ struct Items {
     items: Vec<Item>,
 }
 
-/// A statement of node 2 without a signature.
+/// Returns a statement of node 2 without a signature.
 fn unsigned(alloc: Global) -> Result<Item> {
     Ok(Item::auth(Authenticator {
         node: NodeId(2),
@@ -34,7 +34,7 @@ fn unsigned(alloc: Global) -> Result<Item> {
     })?)
 }
 
-/// Two statements of node 2, between them its log, and behind them a statement without a signature.
+/// Returns four items: a statement of node 2, its log, another statement of it, and a statement without a signature.
 fn make_items(alloc: Global) -> Result<Box<Items>> {
     let directory = directory_of(alloc)?;
     let mut items = Vec::new(alloc);
@@ -45,7 +45,8 @@ fn make_items(alloc: Global) -> Result<Box<Items>> {
     Ok(Box::new(alloc, Items { directory, items })?)
 }
 
-/// Writes for each item the number of its refusal: 0 where it is valid and comes back at its own place, 255 where another one does.
+/// Writes for each item the number of its refusal. It writes 0 if the item is valid and stands at its own place, and 255 if another item stands
+/// there.
 fn say_places(rt: &HostRuntime, word: &str, items: &[Item], answers: &[Answer]) -> Result<()> {
     for (answer, item) in answers.iter().zip(items) {
         let number = match answer {
@@ -58,7 +59,7 @@ fn say_places(rt: &HostRuntime, word: &str, items: &[Item], answers: &[Answer]) 
     Ok(())
 }
 
-/// Checks again what was refused memory, with nothing refused, and writes how many places are left and what stands at each.
+/// Checks again what was refused memory, with nothing refused. It writes how many places are left, and what stands at each place.
 fn complete<H: Threads + Sync>(
     rt: &HostRuntime,
     threads: &H,
@@ -79,7 +80,7 @@ fn complete<H: Threads + Sync>(
     say_places(rt, "end", &on.items, answers)
 }
 
-/// Writes the answers of the call, and what checking again makes of them.
+/// Writes the answers of the call, and what checking again makes of them. Returns false, since the call as a whole was not refused.
 fn say_answers<H: Threads + Sync>(
     rt: &HostRuntime,
     threads: &H,
@@ -93,7 +94,7 @@ fn say_answers<H: Threads + Sync>(
     Ok(false)
 }
 
-/// Checks all items, and what was refused memory again. Whether all of it was refused.
+/// Checks all items, and checks again those that were refused memory. Returns whether the call as a whole was refused.
 fn check<H: Threads + Sync>(
     rt: &HostRuntime,
     threads: &H,
@@ -119,7 +120,7 @@ fn check<H: Threads + Sync>(
     }
 }
 
-/// `check_all`, by so many workers.
+/// Plays `check_all` by so many workers.
 pub fn all<H: Threads + Sync>(rt: &HostRuntime, threads: &H, workers: usize) -> Result<()> {
     let on = make_items(rt.alloc())?;
     if check(rt, threads, &on, workers, Turn::First)? {
@@ -128,7 +129,7 @@ pub fn all<H: Threads + Sync>(rt: &HostRuntime, threads: &H, workers: usize) -> 
     Ok(())
 }
 
-/// Writes that there was no memory for the second item and for the last one.
+/// Puts the answer `Memory` at the second item and at the last one.
 fn refuse_two(answers: &mut [Answer]) {
     for (n, answer) in answers.iter_mut().enumerate() {
         if n == 1 || n == 3 {
@@ -137,7 +138,7 @@ fn refuse_two(answers: &mut [Answer]) {
     }
 }
 
-/// The call of `check_again`.
+/// Makes the call of `check_again`, and writes its answer. Returns whether it was refused.
 fn check_two<H: Threads + Sync>(
     rt: &HostRuntime,
     threads: &H,
@@ -164,7 +165,7 @@ fn check_two<H: Threads + Sync>(
     }
 }
 
-/// What the items give, where two of them were refused memory.
+/// Returns the answers for the items, as if two of the items had been refused memory.
 fn two_refused<H: Threads + Sync>(
     threads: &H,
     alloc: Global,
@@ -183,7 +184,7 @@ fn two_refused<H: Threads + Sync>(
     Ok(Box::new(alloc, answers)?)
 }
 
-/// The call with what goes before it and behind it.
+/// Makes the call, with what goes before it and after it.
 fn play_again<H: Threads + Sync>(
     rt: &HostRuntime,
     threads: &H,
@@ -197,7 +198,7 @@ fn play_again<H: Threads + Sync>(
     complete(rt, threads, on, answers)
 }
 
-/// `check_again`, by so many workers, of two items.
+/// Plays `check_again` of two items by so many workers.
 pub fn again<H: Threads + Sync>(rt: &HostRuntime, threads: &H, workers: usize) -> Result<()> {
     let on = make_items(rt.alloc())?;
     let mut answers = two_refused(threads, rt.alloc(), &on)?;

@@ -17,7 +17,7 @@ use replay_verifier::Program;
 use std::alloc::Global;
 use witness_core::{Event, Reply, RunFault, World};
 
-/// So many stores without items, under copies of the directory.
+/// Creates so many stores without items, under copies of the directory.
 fn make_stores<P: Program, S: Evidence<P>>(
     alloc: Global,
     directory: &Directory,
@@ -35,7 +35,7 @@ fn make_stores<P: Program, S: Evidence<P>>(
     Ok(stores)
 }
 
-/// What the event answers.
+/// Makes the event happen in the world, and returns the reply to it.
 fn tell<P: Program, S: Evidence<P>>(
     alloc: Global,
     world: &mut World<P, S>,
@@ -50,7 +50,7 @@ fn tell<P: Program, S: Evidence<P>>(
     }
 }
 
-/// The witness takes the item, which is valid.
+/// Makes the witness take the item, which must be valid.
 fn give<S: Evidence<Tally>>(
     alloc: Global,
     world: &mut World<Tally, S>,
@@ -65,7 +65,7 @@ fn give<S: Evidence<Tally>>(
     Ok(())
 }
 
-/// A world in which the witness 0 took node 1's log, and both a statement of node 2.
+/// Returns a world in which witness 0 took node 1's log, and both witnesses took a statement of node 2.
 fn make_world<S: Evidence<Tally>>(
     alloc: Global,
     directory: &Directory,
@@ -78,7 +78,7 @@ fn make_world<S: Evidence<Tally>>(
     Ok(world)
 }
 
-/// The same, where the witness 1 took node 2's log.
+/// Returns such a world, in which witness 1 took node 2's log too.
 fn make_full_world<S: Evidence<Tally>>(
     alloc: Global,
     directory: &Directory,
@@ -100,14 +100,14 @@ fn say_world<S: Evidence<Tally>>(
     Ok(())
 }
 
-/// A world, and an item that the witness 0 does not have.
+/// A world, and an item that witness 0 does not have.
 #[derive(Drop)]
 struct Taking<S: Evidence<Tally>> {
     world: Box<World<Tally, S>>,
     item: Box<Item>,
 }
 
-/// Writes what the taking of an item answers.
+/// Writes the reply to the taking of an item. Returns whether it was refused.
 fn say_taken(rt: &HostRuntime, turn: Turn, answer: &Result<Vec<Reply>, RunFault>) -> Result<bool> {
     match answer {
         Ok(replies) => match replies.as_slice() {
@@ -142,7 +142,7 @@ impl<S: Evidence<Tally>> Scene for Taking<S> {
     }
 }
 
-/// `run`, of the taking of an item.
+/// Plays `run` of the taking of an item.
 pub fn take<S: Evidence<Tally>>(rt: &HostRuntime) -> Result<()> {
     let directory = directory_of(rt.alloc())?;
     let mut scene: Taking<S> = Taking {
@@ -155,7 +155,7 @@ pub fn take<S: Evidence<Tally>>(rt: &HostRuntime) -> Result<()> {
 /// How many events there are in the list.
 const EVENTS: u64 = 7;
 
-/// The event with this number of the list, from 0, alone.
+/// Makes the event with this number of the list, from 0, happen alone. Returns the reply to it.
 fn step<S: Evidence<Tally>>(alloc: Global, world: &mut World<Tally, S>, n: u64) -> Result<Reply> {
     let witness = 0;
     match n {
@@ -196,7 +196,7 @@ fn step<S: Evidence<Tally>>(alloc: Global, world: &mut World<Tally, S>, n: u64) 
     }
 }
 
-/// The whole list. No item is taken in it.
+/// Returns the whole list of events. No item is taken in it.
 fn all_events<P: Program>() -> [Event<P>; 7]
     ensures { (W : TheWorld) → AreChecked P.means W result }
 {
@@ -238,7 +238,7 @@ fn say_reply(rt: &HostRuntime, word: &str, reply: &Reply) -> Result<()> {
     Ok(())
 }
 
-/// Lets the events happen from the one with this number on, each alone, and writes each reply and what each leaves.
+/// Makes the events happen from the one with this number on, each alone. Writes each reply, and the world after each event.
 fn say_steps<S: Evidence<Tally>>(
     rt: &HostRuntime,
     words: (&str, &str),
@@ -254,7 +254,7 @@ fn say_steps<S: Evidence<Tally>>(
     Ok(())
 }
 
-/// Writes the replies, and tells how many events are done.
+/// Writes the replies, and returns how many events are done.
 fn say_answer(rt: &HostRuntime, answer: &Result<Vec<Reply>, RunFault>) -> Result<u64> {
     let (replies, done) = match answer {
         Ok(replies) => {
@@ -273,7 +273,7 @@ fn say_answer(rt: &HostRuntime, answer: &Result<Vec<Reply>, RunFault>) -> Result
     Ok(done)
 }
 
-/// The call.
+/// Makes the call: it runs the whole list.
 fn run_list<S: Evidence<Tally>>(
     alloc: Global,
     world: &mut World<Tally, S>,
@@ -282,7 +282,7 @@ fn run_list<S: Evidence<Tally>>(
     witness_core::run(alloc, world, &events)
 }
 
-/// The list is the call; what is left of it after a refusal happens event by event.
+/// Makes the call, which runs the whole list. What is left of the list after a refusal happens event by event.
 fn run_events<S: Evidence<Tally>>(rt: &HostRuntime, world: &mut World<Tally, S>) -> Result<()> {
     Turn::First.begin(rt.alloc())?;
     let answer = run_list::<S>(rt.alloc(), world);
@@ -292,7 +292,7 @@ fn run_events<S: Evidence<Tally>>(rt: &HostRuntime, world: &mut World<Tally, S>)
     say_steps::<S>(rt, ("rest", "end"), world, done)
 }
 
-/// `run`, of a list of events. First each event happens alone in another world, which tells what each is to answer and to leave.
+/// Plays `run` of a list of events. First each event happens alone in another world. This shows what each must reply, and what it must leave.
 pub fn run<S: Evidence<Tally>>(rt: &HostRuntime) -> Result<()> {
     let directory = directory_of(rt.alloc())?;
     let mut other: Box<World<Tally, S>> = make_full_world(rt.alloc(), &directory)?;

@@ -1,7 +1,7 @@
-//! Wishes of users in the lines of a scenario, in words.
+//! Wishes of users in words, in the lines of a scenario.
 //!
-//! - `write NODE TEXT`: the node's user writes the text, which goes to the end of the line.
-//! - `leave NODE RECEIVER`: what was written is left for the receiver.
+//! - `write NODE TEXT`: the node's user writes the text, which goes on to the end of the line.
+//! - `leave NODE RECEIVER`: the node leaves for the receiver what was written.
 //! - `fetch NODE`: the node fetches.
 
 use authenticators::NodeId;
@@ -17,12 +17,12 @@ struct Wish<'a> {
     moments: Vec<u64>,
 }
 
-/// Whether the word begins as a number is written, with no zero but that of `0`.
+/// Returns whether the word begins as a number does: with a digit from 1 to 9, or it is `0`.
 fn is_plain(word: &str) -> bool {
     matches!(word.as_bytes(), [b'0'] | [b'1'..=b'9', ..])
 }
 
-/// The wish that the line has in words; none where it is another line.
+/// Returns the wish that the line has in words, or `None` if it has none.
 fn wish_of<'a>(alloc: Global, line: &'a str) -> Result<Option<Wish<'a>>, Memory> {
     let Some((verb, rest)) = line.split_once(' ') else {
         return Ok(None);
@@ -42,7 +42,8 @@ fn wish_of<'a>(alloc: Global, line: &'a str) -> Result<Option<Wish<'a>>, Memory>
     Ok(Some(Wish { node, moments }))
 }
 
-/// Writes a line of a scenario: one that has a wish in words as a line `timer NODE MOMENT` for each of its moments, any other as it is.
+/// Writes a line of a scenario. If the line has a wish in words, it writes a line `timer NODE MOMENT` for each of its moments. It writes any
+/// other line as it is.
 fn put_line(alloc: Global, line: &str, scenario: &mut String) -> Result<(), Memory> {
     let Some(wish) = wish_of(alloc, line)? else {
         scenario.push_str(line)?;
@@ -56,7 +57,7 @@ fn put_line(alloc: Global, line: &str, scenario: &mut String) -> Result<(), Memo
     Ok(())
 }
 
-/// The scenario with moments in place of the wishes that it has in words. A text that is none in UTF-8 stays as it is.
+/// Returns the scenario with moments in place of the wishes that it has in words. A text that is not UTF-8 stays as it is.
 pub(crate) fn in_moments(alloc: Global, text: &[u8]) -> Result<Vec<u8>, Memory> {
     let Ok(text) = str::from_utf8(text) else {
         let mut same = Vec::new(alloc);

@@ -1,15 +1,15 @@
-//! `node_sim`: what a set of evidence says of the nodes of a directory, and what witnesses make of a scenario.
+//! `node_sim` reports what a set of evidence says of the nodes of a directory, and what witnesses make of a scenario.
 //!
-//! The program reads standard input: lines of hexadecimal text, of a directory and behind it stores or a proof, or a scenario.
+//! The program reads standard input. This is lines of hexadecimal digits, a directory and then stores or a proof; or it is a scenario.
 //!
 //! - `status` writes a line for each node: `ID trusted`, `ID suspected` or `ID exposed`.
 //! - `merge` writes the store of the items of all stores.
 //! - `prove NODE` writes a proof that convicts the node, or `none`.
 //! - `check` writes whom a proof convicts: `exposes ID`.
-//! - `run` plays a scenario, and writes what each of its witnesses tells of each node.
+//! - `run` plays a scenario, and writes what each of its witnesses says of each node.
 //!
-//! Each of them is an engine of the crate `commands`, which carries its theorem. The crate `command_words` reads the words, and tells a
-//! refusal. Here stands which program the nodes run.
+//! Each of them is an engine of the crate `commands`, which carries its theorem. The crate `command_words` reads the words, and reports a
+//! refusal. This crate chooses the program that the nodes run: Tally, or Relay with `--relay`.
 #![tactic(auto)]
 
 ghost use Rattle.std.specs.Prelude.{◌≡◌, false, true};
@@ -28,7 +28,8 @@ use std::process::ExitCode;
 use std::sync::Wait;
 use std::thread::Threads;
 
-/// Ends with 0 where the command was done, with 1 after `refused NUMBER NAME`, and with 2 after clap's text.
+/// Runs the command that the words ask for. It ends with 0 if the command was done, with 1 after `refused NUMBER NAME`, and with 2 after clap's
+/// text.
 fn main(rt: HostRuntime) -> ExitCode {
     let flag = Flag {
         name: "relay",
@@ -43,7 +44,7 @@ fn main(rt: HostRuntime) -> ExitCode {
     }
 }
 
-/// The command, of nodes that run Relay where the flag was there, and else Tally.
+/// Runs the command, for nodes that run Relay if the flag was given, and else Tally.
 fn run<H: Threads + Wait + Sync, R: Source, W: Sink>(
     rt: &H,
     alloc: Global,

@@ -13,7 +13,7 @@ use replay_verifier::Program;
 use std::alloc::Global;
 use witness_core::{Event, Reply, World, run};
 
-/// So many stores without items, under copies of the directory.
+/// Creates so many stores without items, under copies of the directory.
 fn make_stores<P: Program, S: Evidence<P>>(
     alloc: Global,
     directory: &Directory,
@@ -31,7 +31,7 @@ fn make_stores<P: Program, S: Evidence<P>>(
     Ok(stores)
 }
 
-/// So many witnesses, who have no items yet.
+/// Returns a world of so many witnesses, who have no items yet.
 pub fn new_world<P: Program, S: Evidence<P>>(
     alloc: Global,
     directory: &Directory,
@@ -41,7 +41,7 @@ pub fn new_world<P: Program, S: Evidence<P>>(
     Ok(Box::new(alloc, World::new(alloc, stores))?)
 }
 
-/// What the event answers.
+/// Makes the event happen in the world, and returns the reply to it.
 pub fn tell<P: Program, S: Evidence<P>>(
     alloc: Global,
     world: &mut World<P, S>,
@@ -56,7 +56,7 @@ pub fn tell<P: Program, S: Evidence<P>>(
     }
 }
 
-/// The witness takes a copy of the item, if it is valid.
+/// Makes the witness with this number take a copy of the item. It fails if there is no such witness, or if the item is not valid.
 pub fn take<P: Program, S: Evidence<P>>(
     alloc: Global,
     program: &P,

@@ -5,21 +5,21 @@ use anyhow::Result;
 use authenticators::{Directory, NodeId};
 use replay_verifier::Program;
 
-/// Writes `== NAME`, and a line for the directory.
+/// Writes a line `== NAME`, and a line with the encoding of the directory in hexadecimal digits.
 pub fn write_head(rt: &HostRuntime, name: &str, directory: &Directory) -> Result<()> {
     let digits = hex::encode(rt.alloc(), directory.to_bytes()?)?;
     println!(rt; "== {name}\n{digits}")?;
     Ok(())
 }
 
-/// Writes a line for the witness's store.
+/// Writes a line with the export of the witness's store in hexadecimal digits.
 pub fn write_store<P: Program + Drop>(rt: &HostRuntime, witness: &Witness<P>) -> Result<()> {
     let store = witness.export(rt.alloc())?;
     println!(rt; "{store}")?;
     Ok(())
 }
 
-/// Writes what the witness says of each node, and its proof against the accused one, or `none`.
+/// Writes a line for each node with what the witness says of it, and a line with its proof against the accused node, or `none`.
 pub fn write_answers<P: Program + Drop>(
     rt: &HostRuntime,
     witness: &Witness<P>,

@@ -1,4 +1,4 @@
-//! What a directory lists.
+//! The explanation of a directory: what it lists.
 
 ghost use Rattle.std.specs.Prelude.{◌≡◌, IfOk, true};
 ghost use Rattle.page_text.specs.Pages.{IsPage};
@@ -17,7 +17,7 @@ use operating::refusal::Refusal;
 use sentences::Listing;
 use std::alloc::{AllocError, Global};
 
-/// What is told of a directory.
+/// Returns the text or the page about a directory.
 fn text_of_listing(
     alloc: Global,
     is_page: bool,
@@ -29,8 +29,8 @@ fn text_of_listing(
     listing_text(alloc, is_page, &listing)
 }
 
-/// Reads a directory, and writes which nodes it lists, with the SHA-256 of each key: nothing else, and in one write, once everything has been
-/// decided. No contract says what the text lists.
+/// Reads a directory, and writes which nodes it lists, with the SHA-256 of each key. It writes nothing else, and it writes once, after
+/// everything has been decided. No contract says what the text lists.
 pub fn run<O: Opener, W: Sink>(
     alloc: Global,
     is_page: bool,

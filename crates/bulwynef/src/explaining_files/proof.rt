@@ -1,4 +1,4 @@
-//! Whom a proof convicts.
+//! The explanation of a proof: whom it convicts.
 
 ghost use Rattle.std.specs.Prelude.{◌≡◌, ◌+◌, ◌<◌, ◌^◌, ℕ, IfErr, IfOk, MatchResult, Ok, OnOk};
 ghost use Rattle.proofs.specs.declared.proof.Parts.{Parts};
@@ -26,7 +26,7 @@ use replay_verifier::Program;
 use sentences::{Basis, Input};
 use std::alloc::Global;
 
-/// What is told of the proof that a text is.
+/// Returns the text or the page about the proof with this encoding.
 fn text_of_proof<P: Program, V: Voice>(
     alloc: Global,
     explaining: &Explaining<'_, P, V>,
@@ -50,7 +50,7 @@ fn text_of_proof<P: Program, V: Voice>(
     Ok(told)
 }
 
-/// What is told of the proof that file 1 says.
+/// Returns the text or the page about the proof that file 1 says.
 fn text_of_files<P: Program, V: Voice, O: Opener>(
     alloc: Global,
     explaining: &Explaining<'_, P, V>,
@@ -71,8 +71,8 @@ fn text_of_files<P: Program, V: Voice, O: Opener>(
     }
 }
 
-/// Reads a directory and a proof, and writes whom the proof convicts, and why: nothing else, and in one write, once everything has been
-/// decided. A page has the texts of both.
+/// Reads a directory, which is file 0, and a proof, which is file 1. It writes whom the proof convicts, and why. It writes nothing else, and it
+/// writes once, after everything has been decided. A page has the encodings of both.
 pub fn run<P: Program, V: Voice, O: Opener, W: Sink>(
     alloc: Global,
     explaining: &Explaining<'_, P, V>,

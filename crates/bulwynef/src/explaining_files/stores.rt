@@ -1,4 +1,4 @@
-//! What stores say.
+//! The explanation of stores: what they say.
 
 ghost use Rattle.std.specs.Prelude.{◌≡◌, ◌<◌, ◌≤◌, IfOk, length};
 ghost use Rattle.operating.specs.GatheredFiles.{under};
@@ -26,12 +26,12 @@ use sentences::{Basis, Input};
 use std::alloc::Global;
 use std::thread::Threads;
 
-/// What is asked: what evidence says of nodes that follow this, as a text or as a page.
+/// The question of `explain`: what evidence says of nodes that follow this program, as a text or as a page.
 #[derive(Drop)]
 pub struct Explaining<'a, P, V> {
-    /// What the nodes are to follow.
+    /// The program that the nodes are to follow.
     pub followed: Followed<'a, P, V>,
-    /// Whether a page is written, in place of the text.
+    /// Whether a page is written in place of the text.
     pub is_page: bool,
 }
 
@@ -45,7 +45,7 @@ fn put_front(text: &mut [u8], front: [u8; 8])
     }
 }
 
-/// The text of the one store that was read, with its own front.
+/// Returns the encoding of the one store that was read. It begins with the eight bytes with which the file's encoding did.
 fn own_text<P: Program, S: Evidence<P>>(read: &Gathered<S>) -> Result<Vec<u8>, Memory>
     ensures text { IfOk result (λ text. text.items ≡ fronted read.now.front (export_of (S.contents read.now.store).items)) }
     ensures length { IfOk result (λ text. length read.now.front ≡ 8) }
@@ -55,7 +55,7 @@ fn own_text<P: Program, S: Evidence<P>>(read: &Gathered<S>) -> Result<Vec<u8>, M
     Ok(text)
 }
 
-/// Under what one store is judged: its own text.
+/// Returns what one store is judged under: its own encoding.
 fn basis_of_one<P: Program, S: Evidence<P>>(
     alloc: Global,
     name: &str,
@@ -68,7 +68,7 @@ fn basis_of_one<P: Program, S: Evidence<P>>(
     Ok(basis)
 }
 
-/// Under what several stores are judged: the text of their union.
+/// Returns what several stores are judged under: the encoding of their union.
 fn basis_of_union<P: Program, S: Evidence<P>>(
     alloc: Global,
     name: &str,
@@ -80,7 +80,7 @@ fn basis_of_union<P: Program, S: Evidence<P>>(
     Basis::of(alloc, name, &read.directory, Input::Union, &text)
 }
 
-/// Under what the evidence is judged: one store by its own text, of several the text of their union.
+/// Returns what the evidence is judged under. One store is judged by its own encoding, and several by the encoding of their union.
 fn basis_of<P: Program, S: Evidence<P>>(
     alloc: Global,
     name: &str,
@@ -107,8 +107,8 @@ impl<'a, P: Program, S: Evidence<P>, V: Voice> Question<P, S> for Explaining<'a,
     }
 }
 
-/// Reads a directory and so many stores, and writes what the items of all stores say of each node, and why: nothing else, and in one write,
-/// once everything has been decided.
+/// Reads a directory, which is file 0, and this many stores. It writes what the items of all stores say of each node, and why. It writes nothing
+/// else, and it writes once, after everything has been decided.
 pub fn run<
     R: Threads + Sync,
     P: Program + Send + Sync,
