@@ -123,10 +123,30 @@ static struct answer of_node(char **w) {
     return plain(0);
 }
 
+static struct answer of_journal(char **w) {
+    struct bulwynef_handle text = BULWYNEF_HANDLE_INIT;
+    uint8_t small = 0, refused;
+    size_t end = 0;
+    if (IS("journal_block")) return of_text(bulwynef_journal_block(TEXT(1), &text), &text);
+    if (IS("journal_end")) return refused = bulwynef_journal_end(TEXT(1), &end), of_number(refused, end);
+    if (IS("node_beginning"))
+        return of_text(bulwynef_node_beginning((uint8_t)NUMBER(1), TEXT(2), (uint32_t)NUMBER(3), NUMBER(4), (uint32_t)NUMBER(5),
+                                               (uint32_t)NUMBER(6), TEXT(7), TEXT(8), &text), &text);
+    if (IS("record_timer")) return of_text(bulwynef_record_timer(NUMBER(1), TEXT(2), &text), &text);
+    if (IS("record_answer")) return of_text(bulwynef_record_answer(TEXT(1), TEXT(2), &text), &text);
+    if (IS("record_ack")) return of_text(bulwynef_record_ack(TEXT(1), &text), &text);
+    if (IS("record_checkpoint")) return of_text(bulwynef_record_checkpoint(&text), &text);
+    if (IS("record_next_key"))
+        return of_text(bulwynef_record_next_key((uint32_t)NUMBER(1), (uint32_t)NUMBER(2), TEXT(3), TEXT(4), &text), &text);
+    if (IS("node_rebuild")) return plain(bulwynef_node_rebuild((uint8_t)NUMBER(2), TEXT(3), TEXT(4), TEXT(5), HANDLE(1)));
+    if (IS("node_knows")) return refused = bulwynef_node_knows(HANDLE(1), TEXT(2), &small), of_number(refused, small);
+    return of_node(w);
+}
+
 static struct answer answered(char **w) {
     struct bulwynef_handle text = BULWYNEF_HANDLE_INIT;
     if (strncmp(w[0], "store_", 6) == 0) return of_store(w);
-    if (strncmp(w[0], "node_", 5) == 0) return of_node(w);
+    if (strncmp(w[0], "node_", 5) == 0 || strncmp(w[0], "record_", 7) == 0 || strncmp(w[0], "journal_", 8) == 0) return of_journal(w);
     if (IS("check_proof")) {
         uint32_t node = 0;
         uint8_t refused = bulwynef_check_proof((uint8_t)NUMBER(1), TEXT(2), TEXT(3), &node);
@@ -166,6 +186,10 @@ static bool is_line_right(char *line, size_t *calls) {
     }
     if (count == 0 || w[0][0] == '#') return true;
     if (strcmp(w[0], "text") == 0) return name_text(w[1], decoded(count > 2 ? w[2] : "")), true;
+    if (strcmp(w[0], "zeros") == 0) {
+        size_t len = count > 2 ? strtoull(w[2], NULL, 10) : 0;
+        return name_text(w[1], (struct bytes){room(len), len}), true;
+    }
     if (equals == 0 || count == MOST_WORDS) stop("the line can't be read");
     ++*calls;
     struct answer found = answered(w);

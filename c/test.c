@@ -1,7 +1,7 @@
 /* Tests of libbulwynef.a, built as C11 and as C++, with a heap of their own that counts its blocks and refuses the one that is told.
  *
  *   test self          the calls in scenes of two nodes and their witnesses, and what each refuses
- *   test fails         two scenes again and again, with each allocation refused in turn: no block is left, and 99 is told, with nothing
+ *   test fails         three scenes again and again, with each allocation refused in turn: no block is left, and 99 is told, with nothing
  *                      changed; or else all is told as where nothing is refused, which is known of the three stores of the first scene
  *                      that could not keep their digests
  *
@@ -39,7 +39,7 @@ static int fails_in(const char *name, void (*play)(void), long known) {
     printf("%s: %ld allocations; refused with nothing changed %ld, digests not kept %ld of %ld, no block left\n", name, at, refused, unkept, known);
     return wrong || refused + unkept != at || unkept != known;
 }
-static int fails(void) { return fails_in("scene", scene, 3) || fails_in("forked", forked, 0); }
+static int fails(void) { return fails_in("scene", scene, 3) || fails_in("forked", forked, 0) || fails_in("restored", restored, 0); }
 
 /* ---- the commands of node_sim, by lines of hexadecimal digits */
 static int digit(int c) { return c <= '9' ? c - '0' : (c | 32) - 'a' + 10; }
@@ -154,7 +154,7 @@ int main(int argc, char **argv) {
         if (strcmp(argv[i], "--relay") == 0) program = BULWYNEF_RELAY;
         else node = (uint32_t)strtoul(argv[i], NULL, 10);
     }
-    if (strcmp(what, "self") == 0) { scene(); forked(); mangled(); refusals(); printf(wrong || spent ? "failed\n" : "ok\n"); return wrong || spent; }
+    if (strcmp(what, "self") == 0) { scene(); forked(); mangled(); survives(); restored(); refusals(); unrestored(); printf(wrong || spent ? "failed\n" : "ok\n"); return wrong || spent; }
     if (strcmp(what, "fails") == 0) return fails();
     return command(what, node, program);
 }

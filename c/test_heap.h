@@ -87,7 +87,7 @@ static int holds(int line, int fact) {
 /* ---- what a refused call leaves */
 enum { FILLED = 0x5a, MOST_HELD = 7, MOST_CALLS = 256 };
 /* the numbers that calls write to */
-static struct { uint64_t seq, added; uint32_t node, leaves; uint8_t said, is_new, includes; } out;
+static struct { uint64_t seq, added; size_t end; uint32_t node, leaves; uint8_t said, is_new, includes, knows; } out;
 /* the handles, and what lay behind them; of each call how often it asks for memory, where nothing is refused */
 static struct bulwynef_handle *held[MOST_HELD];
 static struct bytes before[MOST_HELD];

@@ -1,5 +1,5 @@
 /* For c/test.c: what each call refuses. */
-#include "test_scenes.h"
+#include "test_journals.h"
 
 static void refusals(void) {
     struct bulwynef_handle a = {0, false}, b = {0, false}, n = {0, false}, t = {0, false}, m = {0, false};

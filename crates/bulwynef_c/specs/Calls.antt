@@ -1,4 +1,4 @@
--- What the calls do to stores and nodes, by the texts that are handed to them.
+-- What the calls do to stores and nodes, by the encodings that they are given.
 use Rattle.std.specs.Prelude.{◌≡◌, ◌⊎◌, ◌↔◌, ◌+◌, ◌==◌, ℕ, Bool, false, true, IsTrue, List, Some, None, Result, Ok, Err, slice_get, nat_eq, if◌then◌else◌}
 use Rattle.std.specs.Map.{lookup}
 use Rattle.outcome.specs.Outcome.{◌>>=◌, Fails, told_as}
@@ -42,65 +42,69 @@ use Rattle.bulwynef_c.specs.declared.object.Object.TheVariants as object
 
 -- ---- explanations
 
--- The text tells whom a proof convicts under the program with this number, whose name it tells, and why.
+-- The text says whom a proof convicts under the program with this number, and why. It has the program's name.
 abbrev pub Explains : ℕ → List ℕ → List ℕ → List ℕ → Type 0
 Explains number directory proof text = (p : Followed) × IsNumberOf number p × TellsOfProof (meaning p) (program_name p) directory proof text
 
--- Why none is written.
+-- Why no text is written of a proof.
 abbrev pub ExplainFails : ℕ → List ℕ → List ℕ → Refusal → Type 0
 ExplainFails program directory proof f =
     (f ≡ refusal.Memory)
     ⊎ ((program ≡ 1) × Check tally directory proof (Err f)) ⊎ ((program ≡ 2) × Check relay directory proof (Err f))
     ⊎ ((program ≡ 3) × Check mailbox directory proof (Err f)) ⊎ (IsNoProgram program × (f ≡ refusal.BadProgram))
 
--- The text tells what the items of a store say under the program, whose name it tells, as it does the sum that is kept of the directory's text.
+-- The text says what the items of a store say under the program. It has the program's name, and the sum that is kept of the directory's
+-- encoding.
 abbrev pub ExplainsAll : List ℕ → (p : Followed) → List ℕ → Contents → Type 0
 ExplainsAll text p sum s = TellsOfAll (meaning p) (program_name p) sum s text
 
 -- ---- keys
 
--- The public key of a seed, in a room of so many bytes, which is looked at first.
+-- The encoding of the public key of a seed, in a room of so many bytes, or the refusal. The room is looked at first.
 unfoldable pub key_in : ℕ → ℕ → ℕ → List ℕ → List ℕ → Result (List ℕ) Refusal
 key_in room lms ots id seed = if room == 56 then key_text_of lms ots id seed else Err refusal.WrongLength
 
 -- ---- stores
 
--- The items of the text of a set were added, and so many are new.
+-- The store was given the items of the encoding of a set, and so many are new.
 abbrev pub Joins : List ℕ → ℕ → Contents → Contents → Type 0
 Joins text new s t = (count s.items + new ≡ count t.items) × ((added : Items) × (text ≡ set_text (magic_of text) added) × (t ≡ with_items s (Join s.items added)))
 
+-- Why an export's items are not added.
 abbrev pub ImportFails : List ℕ → Contents → Refusal → Type 0
 ImportFails text s f = Fails refusal.Memory f (told_as of_import (import_set s.directory text))
 
--- The items of the text of a pack were added, and so many are new.
+-- The store was given the items of the encoding of a pack, and so many are new.
 abbrev pub Applies : List ℕ → ℕ → Contents → Contents → Type 0
 Applies text new s t = (count s.items + new ≡ count t.items) × ((added : Items) × (text ≡ pack_text added) × (t ≡ with_items s (Join s.items added)))
 
+-- Why a pack's items are not added.
 abbrev pub ApplyFails : List ℕ → Contents → Refusal → Type 0
 ApplyFails text s f = Fails refusal.Memory f (told_as of_import (import_of pack_magic (checked_of s.directory) text))
 
--- 1 where it holds, 0 where it does not.
+-- 1 for true, 0 for false.
 abbrev pub flag : Bool → ℕ
 flag b = if b then 1 else 0
 
--- The item of a text was taken, and it is told whether it is new.
+-- The store took the item with this encoding. The number is 1 if the item is new, else 0.
 abbrev pub TakesItem : List ℕ → ℕ → Contents → Contents → Type 0
 TakesItem text told s t = (new : Bool) × (told ≡ flag new) × Takes s t text new
 
+-- Why an item is not taken.
 abbrev pub TakeFails : List ℕ → Contents → Refusal → Type 0
 TakeFails text s f = Fails refusal.Memory f (valid_item_of s.directory text)
 
--- An indication's number: 1 trusted, 2 suspected, 3 exposed. 0 is none.
+-- An indication's number: 1 trusted, 2 suspected, 3 exposed. None has the number 0.
 abbrev pub number_of : Indication → ℕ
 number_of indication.Trusted = 1
 number_of indication.Suspected = 2
 number_of indication.Exposed = 3
 
--- The number is that of what a store's items say of a node that is listed.
+-- The number is that of what a store's items say of a node, which is listed.
 abbrev pub Indicates : ℕ → ℕ → {S : Type 0} → Meaning S → Contents → Type 0
 Indicates node n program s = (is_listed s.directory node ≡ true) × ((i : Indication) × (n ≡ number_of i) × IsIndication s.directory program s.items node i)
 
--- The text is a proof's that convicts the node.
+-- The bytes encode a proof that convicts the node.
 abbrev pub ConvictsBy : ℕ → List ℕ → {S : Type 0} → Meaning S → Contents → Type 0
 ConvictsBy node text program s = (c : Case) × (text ≡ proof_text c.parts) × Convicts s.directory program node c.parts
 
@@ -108,7 +112,8 @@ ConvictsBy node text program s = (c : Case) × (text ≡ proof_text c.parts) × 
 abbrev pub Merges : ℕ → Contents → Contents → Contents → Type 0
 Merges new other s t = (s.directory ≡ other.directory) × (count s.items + new ≡ count t.items) × (t ≡ with_items s (Join s.items other.items))
 
--- A store of the program with this number, without items, under the directory of a text, whose sum is kept beside it.
+-- The object is a store without items, whose nodes follow the program with this number. It is under the directory with this encoding. The sum of
+-- the encoding is kept beside it.
 abbrev pub IsStoreOf : ℕ → List ℕ → Object → Type 0
 IsStoreOf program text (object.TallyStore s d) = (program ≡ 1) × (opened text ≡ Ok s) × (d ≡ sum_of text)
 IsStoreOf program text (object.RelayStore s d) = (program ≡ 2) × (opened text ≡ Ok s) × (d ≡ sum_of text)
@@ -118,7 +123,7 @@ IsStoreOf program text (object.RelayNode n) = ⊥
 IsStoreOf program text (object.MailboxNode n) = ⊥
 IsStoreOf program text (object.Text t) = ⊥
 
--- Why none is opened.
+-- Why no store is opened.
 abbrev pub OpenFails : ℕ → List ℕ → Refusal → Type 0
 OpenFails program text f = (IsProgram program × Fails refusal.Memory f (opened text)) ⊎ (IsNoProgram program × (f ≡ refusal.BadProgram))
 
@@ -142,13 +147,13 @@ ChallengeFails node place s f =
     (f ≡ refusal.Memory) ⊎ ((f ≡ refusal.UnknownNode) × (is_listed s.directory node ≡ false))
     ⊎ ((f ≡ refusal.OutOfRange) × (is_listed s.directory node ≡ true) × AreFewer s node place)
 
--- The number tells whether the first store has each item of the second.
+-- The number is 1 if the first store has each item of the second, else 0.
 abbrev pub Includes : ℕ → Contents → Contents → Type 0
 Includes told s o = (all : Bool) × (told ≡ flag all) × (IsTrue all ↔ IsWithin o.items s.items)
 
 -- ---- nodes
 
--- A node of the program with this number, which begins so.
+-- The object is a node that follows the program with this number. It has begun under the directory with this encoding, by the key.
 abbrev pub IsNodeOf : ℕ → List ℕ → ℕ → ℕ → PrivateKey → Object → Type 0
 IsNodeOf program text id first key (object.TallyStore s d) = ⊥
 IsNodeOf program text id first key (object.RelayStore s d) = ⊥
@@ -158,16 +163,17 @@ IsNodeOf program text id first key (object.RelayNode n) = (program ≡ 2) × (be
 IsNodeOf program text id first key (object.MailboxNode n) = (program ≡ 3) × (begun mailbox text id first key ≡ Ok n)
 IsNodeOf program text id first key (object.Text t) = ⊥
 
--- Why none begins.
+-- Why no node begins.
 abbrev pub NodeFails : ℕ → List ℕ → ℕ → ℕ → PrivateKey → Refusal → Type 0
 NodeFails program text id first key f =
     ((program ≡ 1) × Fails refusal.Memory f (begun tally text id first key)) ⊎ ((program ≡ 2) × Fails refusal.Memory f (begun relay text id first key))
     ⊎ ((program ≡ 3) × Fails refusal.Memory f (begun mailbox text id first key)) ⊎ (IsNoProgram program × (f ≡ refusal.BadProgram))
 
+-- Why no checkpoint is logged.
 abbrev pub CheckpointFails : {S : Type 0} → Meaning S → NodeState S → Refusal → Type 0
 CheckpointFails program n f = Fails refusal.Memory f (told_as of_node (checkpointed program n))
 
--- The node accepted the acknowledgement of a text: of a message that it sent, as a store takes it.
+-- The node accepted the acknowledgement with this encoding. A store takes it, and it is of a message that the node sent.
 abbrev pub Accepts : {S : Type 0} → List ℕ → NodeState S → NodeState S → Type 0
 Accepts text n m = (accepted n text ≡ Ok m) × AcknowledgesSent n text
 
@@ -175,6 +181,7 @@ Accepts text n m = (accepted n text ≡ Ok m) × AcknowledgesSent n text
 abbrev pub Rekeys : {S : Type 0} → PrivateKey → NodeState S → NodeState S → Type 0
 Rekeys key n m = known refusal.WrongKey (rekeyed n key) ≡ Ok m
 
+-- Why the node does not sign by the key.
 abbrev pub RekeyFails : {S : Type 0} → PrivateKey → NodeState S → Refusal → Type 0
 RekeyFails key n f = Fails refusal.Memory f (known refusal.WrongKey (rekeyed n key))
 
@@ -182,25 +189,28 @@ RekeyFails key n f = Fails refusal.Memory f (known refusal.WrongKey (rekeyed n k
 abbrev pub Waits : {S : Type 0} → ℕ → ℕ → NodeState S → Type 0
 Waits place seq n = slice_get n.account.unacknowledged place ≡ Some seq
 
+-- Fewer messages wait than would have one at the place.
 abbrev pub WaitFails : {S : Type 0} → ℕ → NodeState S → Refusal → Type 0
 WaitFails place n f = (f ≡ refusal.OutOfRange) × (slice_get n.account.unacknowledged place ≡ None)
 
--- The text is that of the message that the node sent with this number.
+-- The bytes encode, as a send challenge, the message that the node sent with this number.
 abbrev pub Sends : {S : Type 0} → ℕ → List ℕ → NodeState S → Type 0
 Sends seq text n = (m : Message) × (lookup (nat_eq seq) n.account.sent ≡ Some m) × Fits (form.Send m) × (text ≡ spelling (form.Send m))
 
+-- Why no message is given: memory ran out, or none with this number was sent, or it is above the limits of an item.
 abbrev pub SendFails : {S : Type 0} → ℕ → NodeState S → Refusal → Type 0
 SendFails seq n f =
     (f ≡ refusal.Memory) ⊎ ((f ≡ refusal.OutOfRange) × (lookup (nat_eq seq) n.account.sent ≡ None))
     ⊎ ((f ≡ refusal.TooLong) × ((m : Message) × (lookup (nat_eq seq) n.account.sent ≡ Some m) × ¬ (Fits (form.Send m))))
 
--- The node answered the challenge of a text by the item of this text.
+-- The node answered the challenge with this encoding by the item with that one.
 abbrev pub RepliesBy : List ℕ → List ℕ → List ℕ → {S : Type 0} → Meaning S → NodeState S → NodeState S → Type 0
 RepliesBy challenge entropy text program n m = (item : Fields) × (text ≡ spelling item) × Replies program challenge entropy item n m
 
--- The node answered the challenge of a text, whatever became of the answer.
+-- The node answered the challenge with this encoding, whatever became of the answer.
 abbrev pub HasReplied : List ℕ → List ℕ → {S : Type 0} → Meaning S → NodeState S → NodeState S → Type 0
 HasReplied challenge entropy program n m = (item : Fields) × Replies program challenge entropy item n m
 
+-- Why the node does not answer a challenge: memory ran out, or the challenge is refused.
 abbrev pub ReplyFails : List ℕ → List ℕ → {S : Type 0} → Meaning S → NodeState S → Refusal → Type 0
 ReplyFails challenge entropy program n f = (f ≡ refusal.Memory) ⊎ RefusesReply program challenge entropy n f

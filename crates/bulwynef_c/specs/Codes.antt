@@ -1,4 +1,4 @@
--- How what lies behind a handle is stored in a model.
+-- The code by which a model stores what lies behind a handle.
 use Rattle.std.specs.Prelude.{Option}
 use Rattle.std.specs.Coded.{Coded, codes}
 use Rattle.evidence.specs.Contents.{items_code}

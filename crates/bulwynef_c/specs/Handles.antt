@@ -17,7 +17,7 @@ use Rattle.bulwynef_c.specs.declared.object.Object.TheVariants as object
 
 -- ---- one object
 
--- A store, of nodes that follow a program, with a property of the program and of its contents.
+-- The object is a store. The program that its nodes follow and its contents have the property.
 abbrev pub IsStore : ((S : Type 0) → Meaning S → Contents → Type 0) → Object → Type 0
 IsStore P (object.TallyStore s d) = P ℕ tally s
 IsStore P (object.RelayStore s d) = P ℕ relay s
@@ -27,7 +27,8 @@ IsStore P (object.RelayNode n) = ⊥
 IsStore P (object.MailboxNode n) = ⊥
 IsStore P (object.Text t) = ⊥
 
--- A store, with a property of the program that its nodes follow, of the sum that is kept of its directory's text, and of its contents.
+-- The object is a store. The program that its nodes follow, the sum that is kept of its directory's encoding, and its contents have the
+-- property.
 abbrev pub IsStoreUnder : ((p : Followed) → List ℕ → Contents → Type 0) → Object → Type 0
 IsStoreUnder P (object.TallyStore s d) = P Tally d s
 IsStoreUnder P (object.RelayStore s d) = P Relay d s
@@ -37,7 +38,7 @@ IsStoreUnder P (object.RelayNode n) = ⊥
 IsStoreUnder P (object.MailboxNode n) = ⊥
 IsStoreUnder P (object.Text t) = ⊥
 
--- A node that follows a program, with a property of the program and of the node.
+-- The object is a node. The program that it follows and the node have the property.
 abbrev pub IsNode : ((S : Type 0) → Meaning S → NodeState S → Type 0) → Object → Type 0
 IsNode P (object.TallyStore s d) = ⊥
 IsNode P (object.RelayStore s d) = ⊥
@@ -47,7 +48,7 @@ IsNode P (object.RelayNode n) = P ℕ relay n
 IsNode P (object.MailboxNode n) = P Held mailbox n
 IsNode P (object.Text t) = ⊥
 
--- A text with a property.
+-- The object is a text with the property.
 abbrev pub IsText : (List ℕ → Type 0) → Object → Type 0
 IsText P (object.TallyStore s d) = ⊥
 IsText P (object.RelayStore s d) = ⊥
@@ -57,7 +58,8 @@ IsText P (object.RelayNode n) = ⊥
 IsText P (object.MailboxNode n) = ⊥
 IsText P (object.Text t) = P t.items
 
--- A store of Tally, with a property of its contents and of the sum of its directory's text; or a node of it.
+-- The object is a store whose nodes follow Tally. Its contents, and the sum that is kept of its directory's encoding, have the property.
+-- `IsTallyNode` says of an object that it is a node that follows Tally, and has the property.
 abbrev pub IsTallyStore : (Contents → List ℕ → Type 0) → Object → Type 0
 IsTallyStore P (object.TallyStore s d) = P s d
 IsTallyStore P (object.RelayStore s d) = ⊥
@@ -76,7 +78,7 @@ IsTallyNode P (object.RelayNode n) = ⊥
 IsTallyNode P (object.MailboxNode n) = ⊥
 IsTallyNode P (object.Text t) = ⊥
 
--- The same of Relay.
+-- The same for Relay.
 abbrev pub IsRelayStore : (Contents → List ℕ → Type 0) → Object → Type 0
 IsRelayStore P (object.TallyStore s d) = ⊥
 IsRelayStore P (object.RelayStore s d) = P s d
@@ -95,7 +97,7 @@ IsRelayNode P (object.RelayNode n) = P n
 IsRelayNode P (object.MailboxNode n) = ⊥
 IsRelayNode P (object.Text t) = ⊥
 
--- The same of Mailbox.
+-- The same for Mailbox.
 abbrev pub IsMailboxStore : (Contents → List ℕ → Type 0) → Object → Type 0
 IsMailboxStore P (object.TallyStore s d) = ⊥
 IsMailboxStore P (object.RelayStore s d) = ⊥
@@ -116,7 +118,7 @@ IsMailboxNode P (object.Text t) = ⊥
 
 -- ---- an object before and after
 
--- Both are stores of one program and one text of a directory, and their contents stand in the relation.
+-- Both are stores of one program, with one sum of a directory's encoding. Their contents stand in the relation.
 abbrev pub StoreBecomes : (Contents → Contents → Type 0) → Object → Object → Type 0
 StoreBecomes R (object.TallyStore s d) y = IsTallyStore (λ t e. (e ≡ d) × R s t) y
 StoreBecomes R (object.RelayStore s d) y = IsRelayStore (λ t e. (e ≡ d) × R s t) y
@@ -136,7 +138,7 @@ NodeBecomes R (object.RelayNode n) y = IsRelayNode (R ℕ relay n) y
 NodeBecomes R (object.MailboxNode n) y = IsMailboxNode (R Held mailbox n) y
 NodeBecomes R (object.Text t) y = ⊥
 
--- The first is a store of the second one's program, and their contents stand in the relation.
+-- Both are stores of one program, and their contents stand in the relation.
 abbrev pub StoresStand : (Contents → Contents → Type 0) → Object → Object → Type 0
 StoresStand R (object.TallyStore s d) y = IsTallyStore (λ t e. R s t) y
 StoresStand R (object.RelayStore s d) y = IsRelayStore (λ t e. R s t) y
@@ -146,7 +148,8 @@ StoresStand R (object.RelayNode n) y = ⊥
 StoresStand R (object.MailboxNode n) y = ⊥
 StoresStand R (object.Text t) y = ⊥
 
--- A store is given what another one of its program has.
+-- The second object becomes the third, and the sum that is kept of its directory's encoding stays. All three are stores of one program, and the
+-- contents of the first, the second and the third stand in the relation.
 abbrev pub StoreTakesOf : (Contents → Contents → Contents → Type 0) → Object → Object → Object → Type 0
 StoreTakesOf R (object.TallyStore o c) x y = IsTallyStore (λ s d. IsTallyStore (λ t e. (e ≡ d) × R o s t) y) x
 StoreTakesOf R (object.RelayStore o c) x y = IsRelayStore (λ s d. IsRelayStore (λ t e. (e ≡ d) × R o s t) y) x
@@ -158,7 +161,7 @@ StoreTakesOf R (object.Text t) x y = ⊥
 
 -- ---- why an object refuses
 
--- The refusal of a store, or that of what is none.
+-- The refusal is one of a store, as the relation says, or `OtherKind` if the object is no store.
 abbrev pub StoreRefuses : ((S : Type 0) → Meaning S → Contents → Refusal → Type 0) → Object → Refusal → Type 0
 StoreRefuses P (object.TallyStore s d) f = P ℕ tally s f
 StoreRefuses P (object.RelayStore s d) f = P ℕ relay s f
@@ -168,7 +171,7 @@ StoreRefuses P (object.RelayNode n) f = f ≡ refusal.OtherKind
 StoreRefuses P (object.MailboxNode n) f = f ≡ refusal.OtherKind
 StoreRefuses P (object.Text t) f = f ≡ refusal.OtherKind
 
--- The refusal of a node, or that of what is none.
+-- The refusal is one of a node, as the relation says, or `OtherKind` if the object is no node.
 abbrev pub NodeRefuses : ((S : Type 0) → Meaning S → NodeState S → Refusal → Type 0) → Object → Refusal → Type 0
 NodeRefuses P (object.TallyStore s d) f = f ≡ refusal.OtherKind
 NodeRefuses P (object.RelayStore s d) f = f ≡ refusal.OtherKind
@@ -178,7 +181,7 @@ NodeRefuses P (object.RelayNode n) f = P ℕ relay n f
 NodeRefuses P (object.MailboxNode n) f = P Held mailbox n f
 NodeRefuses P (object.Text t) f = f ≡ refusal.OtherKind
 
--- The refusal of two stores of one program, or that of what are none.
+-- The refusal is one of two stores of one program, as the relation says, or `OtherKind` if the objects are no such stores.
 abbrev pub PairRefuses : (Contents → Contents → Refusal → Type 0) → Object → Object → Refusal → Type 0
 PairRefuses P x o f = StoresStand (λ s t. P s t f) x o ⊎ ((f ≡ refusal.OtherKind) × (StoresStand (λ s t. ⊤) x o → ⊥))
 
@@ -192,7 +195,7 @@ CopyRefuses room (object.RelayNode n) f = f ≡ refusal.OtherKind
 CopyRefuses room (object.MailboxNode n) f = f ≡ refusal.OtherKind
 CopyRefuses room (object.Text t) f = (f ≡ refusal.WrongLength) × (length t.items ≡ room → ⊥)
 
--- How many bytes a text has; 0 of what is none.
+-- How many bytes the text has, or 0 if the object is no text.
 abbrev pub Lends : Object → ℕ → Type 0
 Lends (object.TallyStore s d) n = n ≡ 0
 Lends (object.RelayStore s d) n = n ≡ 0
@@ -214,12 +217,12 @@ abbrev pub Both : (Object → Object → Type 0) → Option Object → Option Ob
 Both R None y = ⊥
 Both R (Some x) y = Is (R x) y
 
--- The number is that of a refusal of what lies behind the handle, or the handle is closed.
+-- The number is that of a refusal of what lies behind the handle, or that of `Closed` if the handle is closed.
 abbrev pub Says : (Object → Refusal → Type 0) → Option Object → ℕ → Type 0
 Says P None n = n ≡ refusal_number refusal.Closed
 Says P (Some x) n = (f : Refusal) × (n ≡ refusal_number f) × P x f
 
--- The same of two handles, of which the first is looked at first.
+-- The same of two handles. The first is looked at first.
 abbrev pub SaysOfTwo : (Object → Object → Refusal → Type 0) → Option Object → Option Object → ℕ → Type 0
 SaysOfTwo P None y n = n ≡ refusal_number refusal.Closed
 SaysOfTwo P (Some x) y n = Says (P x) y n

@@ -1,4 +1,4 @@
--- The programs that nodes follow: of each, in one row of each table, its number, its name, and what it means.
+-- The programs that nodes follow. Each has a row in each table: its number, its name, and what it means.
 use Rattle.std.specs.Prelude.{◌≡◌, ◌⊎◌, ℕ, List, codes}
 use Rattle.mailbox.specs.MailboxMeaning.{mailbox}
 use Rattle.mailbox.specs.declared.held.Held.{Held}
@@ -33,7 +33,7 @@ meaning Mailbox = mailbox
 abbrev pub IsNumberOf : ℕ → Followed → Type 0
 IsNumberOf number p = number ≡ program_number p
 
--- The number is that of a program, or of none.
+-- The number is that of a program. `IsNoProgram` says that it is that of none.
 abbrev pub IsProgram : ℕ → Type 0
 IsProgram number = (number ≡ 1) ⊎ (number ≡ 2) ⊎ (number ≡ 3)
 

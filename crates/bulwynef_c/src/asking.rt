@@ -17,7 +17,7 @@ use evidence_set::Indication;
 use replay_verifier::Program;
 use std::alloc::Global;
 
-/// The number of an indication: 1 trusted, 2 suspected, 3 exposed; 0 is none.
+/// Returns the number of an indication: 1 trusted, 2 suspected, 3 exposed. None has the number 0.
 fn number(indication: Indication) -> u8
     ensures { result ≡ number_of indication }
 {
@@ -28,7 +28,7 @@ fn number(indication: Indication) -> u8
     }
 }
 
-/// The number of what a store of one program says of the node.
+/// Returns the number of what a store of one program says of the node.
 fn indicated_in<P: Program, S: Evidence<P>>(store: &S, node: u32) -> Result<u8, Refusal>
     ensures told { IfOk result (λ n. Indicates node n P.means (S.contents store.now)) }
     ensures refused { IfErr result (λ f. IndicationFails node (S.contents store.now) f) }
@@ -37,7 +37,7 @@ fn indicated_in<P: Program, S: Evidence<P>>(store: &S, node: u32) -> Result<u8, 
     Ok(number(indication))
 }
 
-/// The number of what a store says of the node.
+/// Returns the number of what a store says of the node.
 fn indicated(object: &Object, node: u32) -> Result<u8, Refusal>
     ensures told { IfOk result (λ n. IsStore (λ S p s. Indicates node n p s) object.now) }
     ensures refused { IfErr result (λ f. StoreRefuses (λ S p s e. IndicationFails node s e) object.now f) }
@@ -45,8 +45,8 @@ fn indicated(object: &Object, node: u32) -> Result<u8, Refusal>
     of_store!(object, store => indicated_in(store, node))
 }
 
-/// `uint8_t bulwynef_store_indication(struct bulwynef_handle *store, uint32_t node, uint8_t *indication)`: 1 trusted, 2 suspected,
-/// 3 exposed.
+/// `uint8_t bulwynef_store_indication(struct bulwynef_handle *store, uint32_t node, uint8_t *indication)`: writes what the items say of the
+/// node: 1 trusted, 2 suspected, 3 exposed. It refuses with 44 if the node is not listed.
 #[unsafe(no_mangle)]
 pub extern "C" fn bulwynef_store_indication(
     alloc: Global,
@@ -73,7 +73,7 @@ pub extern "C" fn bulwynef_store_indication(
     }
 }
 
-/// Whether the store has each item of the other one.
+/// Returns whether the store has each item of the other one.
 fn included(object: &Object, other: &Object) -> Result<bool, Refusal>
     ensures told { IfOk result (λ b. StoresStand (Includes (flag b)) object.now other.now) }
     ensures refused { IfErr result (λ f. PairRefuses (λ s o e. ⊥) object.now other.now f) }
@@ -86,8 +86,8 @@ fn included(object: &Object, other: &Object) -> Result<bool, Refusal>
     }
 }
 
-/// `uint8_t bulwynef_store_includes(struct bulwynef_handle *store, struct bulwynef_handle *other, uint8_t *includes)`: 1 where each item
-/// of the other store is in the store, else 0.
+/// `uint8_t bulwynef_store_includes(struct bulwynef_handle *store, struct bulwynef_handle *other, uint8_t *includes)`: writes 1 if each item
+/// of the other store is in the store, else 0. It refuses with 111 two stores of two programs.
 #[unsafe(no_mangle)]
 pub extern "C" fn bulwynef_store_includes(
     alloc: Global,
@@ -120,7 +120,7 @@ pub extern "C" fn bulwynef_store_includes(
     }
 }
 
-/// The text of a store's items.
+/// Returns the store's export.
 fn exported(object: &Object) -> Result<Vec<u8>, Refusal>
     ensures text { IfOk result (λ text. IsStore (λ S p s. text.items ≡ export_of s.items) object.now) }
     ensures refused { IfErr result (λ f. StoreRefuses (λ S p s e. e ≡ Memory) object.now f) }
@@ -128,7 +128,8 @@ fn exported(object: &Object) -> Result<Vec<u8>, Refusal>
     of_store!(object, store => stores::export(store))
 }
 
-/// `uint8_t bulwynef_store_export(struct bulwynef_handle *store, struct bulwynef_handle *text)`: the one text of the store's items, `PRSTORE2`.
+/// `uint8_t bulwynef_store_export(struct bulwynef_handle *store, struct bulwynef_handle *text)`: gives the store's export: the one encoding
+/// of its set of items, which begins with `PRSTORE2`.
 #[unsafe(no_mangle)]
 pub extern "C" fn bulwynef_store_export(alloc: Global, store: &mut Handle, text: &mut Handle) -> u8
     ensures text { result ≡ 0 → Is (λ x. Is (IsText (λ t. IsStore (λ S p s. t ≡ export_of s.items) x)) text.new.value) store.old.value }
@@ -140,7 +141,7 @@ pub extern "C" fn bulwynef_store_export(alloc: Global, store: &mut Handle, text:
     put_answer!(alloc, store, text, object => exported(&object))
 }
 
-/// The text of a proof, or that there is none.
+/// Returns the encoding of a proof, or `NotExposed` if there is none.
 fn convicting(text: Option<Vec<u8>>) -> Result<Vec<u8>, Refusal>
     ensures some { IfOk result (λ t. text ≡ Some t) }
     ensures none { IfErr result (λ f. (f ≡ NotExposed) × (text ≡ None)) }
@@ -151,7 +152,7 @@ fn convicting(text: Option<Vec<u8>>) -> Result<Vec<u8>, Refusal>
     }
 }
 
-/// The text of a proof against the node, of a store of one program.
+/// Returns the encoding of a proof against the node, of a store of one program.
 fn proof_in<P: Program, S: Evidence<P>>(
     alloc: Global,
     store: &S,
@@ -163,7 +164,7 @@ fn proof_in<P: Program, S: Evidence<P>>(
     convicting(stores::proof(alloc, store, node)?)
 }
 
-/// The text of a proof against the node.
+/// Returns the encoding of a proof against the node.
 fn proof_of(alloc: Global, object: &Object, node: u32) -> Result<Vec<u8>, Refusal>
     ensures convicts { IfOk result (λ text. IsStore (λ S p s. ConvictsBy node text.items p s) object.now) }
     ensures refused { IfErr result (λ f. StoreRefuses (λ S p s e. ProofFails node p s e) object.now f) }
@@ -171,8 +172,8 @@ fn proof_of(alloc: Global, object: &Object, node: u32) -> Result<Vec<u8>, Refusa
     of_store!(object, store => proof_in(alloc, store, node))
 }
 
-/// `uint8_t bulwynef_store_proof(struct bulwynef_handle *store, uint32_t node, struct bulwynef_handle *text)`: a proof that convicts the node, where the
-/// items expose it; 115 where they do not.
+/// `uint8_t bulwynef_store_proof(struct bulwynef_handle *store, uint32_t node, struct bulwynef_handle *text)`: gives a proof that convicts
+/// the node if the items expose it. It refuses with 44 if the node is not listed, and with 115 if the items do not expose it.
 #[unsafe(no_mangle)]
 pub extern "C" fn bulwynef_store_proof(
     alloc: Global,
@@ -189,7 +190,7 @@ pub extern "C" fn bulwynef_store_proof(
     put_answer!(alloc, store, text, object => proof_of(alloc, &object, node))
 }
 
-/// The text of an open challenge.
+/// Returns the encoding of the challenge at a place, among those against the node that no item answers.
 fn challenge_of(alloc: Global, object: &Object, node: u32, place: usize) -> Result<Vec<u8>, Refusal>
     ensures text { IfOk result (λ text. IsStore (λ S p s. IsUnansweredAt s node place text.items) object.now) }
     ensures refused { IfErr result (λ f. StoreRefuses (λ S p s e. ChallengeFails node place s e) object.now f) }
@@ -197,8 +198,9 @@ fn challenge_of(alloc: Global, object: &Object, node: u32, place: usize) -> Resu
     of_store!(object, store => stores::challenge(alloc, store, node, place))
 }
 
-/// `uint8_t bulwynef_store_challenge(struct bulwynef_handle *store, uint32_t node, size_t place, struct bulwynef_handle *text)`: the
-/// challenge at the place, from 0, of those against the node that no item answers; 116 where there are fewer.
+/// `uint8_t bulwynef_store_challenge(struct bulwynef_handle *store, uint32_t node, size_t place, struct bulwynef_handle *text)`: gives the
+/// challenge at the place, from 0, among those against the node that no item answers. They are in the order of their encodings. It refuses
+/// with 44 if the node is not listed, and with 116 if there are fewer.
 #[unsafe(no_mangle)]
 pub extern "C" fn bulwynef_store_challenge(
     alloc: Global,

@@ -13,7 +13,7 @@ use ref_programs::{Relay, Tally};
 use replay_verifier::Program;
 use std::alloc::Global;
 
-/// The number of what was answered: 0, and the node is written; or the refusal's number.
+/// Checks a proof. It returns 0 and writes the node, or it returns the number of the refusal.
 fn checked<P: Program>(
     alloc: Global,
     program: &P,
@@ -32,9 +32,10 @@ fn checked<P: Program>(
     }
 }
 
-/// `uint8_t bulwynef_check_proof(uint8_t program, const uint8_t *directory, size_t directory_len, const uint8_t *proof, size_t
-/// proof_len, uint32_t *node)`: 0, and the node that the proof convicts, where nodes follow the program (1 Tally, 2 Relay, 3 Mailbox);
-/// or why it is refused. Memory that is asked for is given back before it returns.
+/// `uint8_t bulwynef_check_proof(uint8_t program, const uint8_t *directory, size_t directory_len, const uint8_t *proof, size_t proof_len,
+/// uint32_t *node)`: returns 0 and writes the node that the proof convicts, if nodes follow the program (1 Tally, 2 Relay, 3 Mailbox). It
+/// refuses with 113 if there is no such program, and else as `byte_calls::check_proof` does. All memory that it asks for is given back
+/// before it returns.
 #[unsafe(no_mangle)]
 pub extern "C" fn bulwynef_check_proof(
     alloc: Global,

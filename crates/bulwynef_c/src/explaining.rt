@@ -1,4 +1,4 @@
-//! Explanations, as texts for a person to read, with the program's name and the sum of the directory's text before them.
+//! Explanations, as texts for a person to read. The program's name, and the sum of the directory's encoding, come before them.
 
 ghost use Rattle.std.specs.Prelude.{◌≡◌, ◌⊎◌, IfErr, IfOk, false, is_some, true};
 ghost use Rattle.byte_calls.specs.declared.refusal.Refusal.{Refusal as TheRefusal};
@@ -16,7 +16,7 @@ use mailbox::Mailbox;
 use ref_programs::{Relay, Tally};
 use std::alloc::Global;
 
-/// What a store says of each node, and why.
+/// Returns the text of what a store says of each node, and why.
 fn explained(alloc: Global, object: &Object) -> Result<Vec<u8>, Refusal>
     ensures told { IfOk result (λ text. IsStoreUnder (ExplainsAll text.items) object.now) }
     ensures refused { IfErr result (λ f. StoreRefuses (λ S p s e. e ≡ Memory) object.now f) }
@@ -35,8 +35,8 @@ fn explained(alloc: Global, object: &Object) -> Result<Vec<u8>, Refusal>
     }
 }
 
-/// `uint8_t bulwynef_store_explain(struct bulwynef_handle *store, struct bulwynef_handle *text)`: what the items say of each listed
-/// node, and why.
+/// `uint8_t bulwynef_store_explain(struct bulwynef_handle *store, struct bulwynef_handle *text)`: gives the text of what the items say of
+/// each listed node, and why.
 #[unsafe(no_mangle)]
 pub extern "C" fn bulwynef_store_explain(alloc: Global, store: &mut Handle, text: &mut Handle) -> u8
     ensures text { result ≡ 0 → Is (λ x. Is (IsText (λ t. IsStoreUnder (ExplainsAll t) x)) text.new.value) store.old.value }
@@ -48,7 +48,7 @@ pub extern "C" fn bulwynef_store_explain(alloc: Global, store: &mut Handle, text
     put_answer!(alloc, store, text, object => explained(alloc, &object))
 }
 
-/// Whom a proof convicts, and why, where nodes follow the program with this number.
+/// Returns the text of whom a proof convicts, and why, if nodes follow the program with this number.
 fn explained_proof(
     alloc: Global,
     program: u8,
@@ -67,9 +67,9 @@ fn explained_proof(
     }
 }
 
-/// `uint8_t bulwynef_explain_proof(uint8_t program, const uint8_t *directory, size_t directory_len, const uint8_t *proof, size_t
-/// proof_len, struct bulwynef_handle *text)`: whom a proof convicts, and why, where nodes follow the program (1 Tally, 2 Relay,
-/// 3 Mailbox).
+/// `uint8_t bulwynef_explain_proof(uint8_t program, const uint8_t *directory, size_t directory_len, const uint8_t *proof, size_t proof_len,
+/// struct bulwynef_handle *text)`: gives the text of whom a proof convicts, and why, if nodes follow the program (1 Tally, 2 Relay, 3
+/// Mailbox). It refuses with 113 if there is no such program, and else as `byte_calls::check_proof` does.
 #[unsafe(no_mangle)]
 pub extern "C" fn bulwynef_explain_proof(
     alloc: Global,

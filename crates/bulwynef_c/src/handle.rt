@@ -1,4 +1,4 @@
-//! Handles: what a caller in C holds of an object.
+//! Handles. A caller in C holds an object by a handle.
 
 ghost use Rattle.std.specs.Prelude.{◌≡◌, Option, Some, None, IsSome, is_some};
 ghost use Rattle.bulwynef_c.specs.declared.object.Object.{Object as TheObject};
@@ -10,8 +10,8 @@ use crate::object::Object;
 use std::alloc::{Allocator, Global};
 use std::marker::Model;
 
-/// A place of the caller's, behind which lies an object or nothing. In C it is `struct bulwynef_handle { void *at; bool is_open; }`, and
-/// zeros are one behind which nothing lies.
+/// A struct of the caller's, behind which lies an object or nothing. In C it is `struct bulwynef_handle { void *at; bool is_open; }`.
+/// Zeros are a handle behind which nothing lies.
 #[repr(C)]
 #[derive(Drop)]
 pub struct Handle {
@@ -26,7 +26,7 @@ impl Model for Handle {
 }
 
 impl Handle {
-    /// A handle behind which nothing lies.
+    /// Returns a handle behind which nothing lies.
     pub fn none(alloc: Global) -> Handle
         ensures { result.value ≡ None }
     {
@@ -37,7 +37,7 @@ impl Handle {
         }
     }
 
-    /// A handle to what a pointer owns.
+    /// Returns a handle to what a pointer owns.
     fn of_loose(loose: Loose<Object, Global>) -> Handle
         ensures { result.value ≡ Some loose.value }
     {
@@ -49,7 +49,7 @@ impl Handle {
         }
     }
 
-    /// The pointer to what lies there.
+    /// Returns the pointer to what lies there.
     fn into_loose(self) -> Loose<Object, Global>
         requires { IsSome self.value }
         ensures { Some result.value ≡ self.value }
@@ -65,21 +65,21 @@ impl Handle {
         }
     }
 
-    /// Whether something lies there.
+    /// Returns whether something lies there.
     pub fn is_open(&mut self) -> bool
         ensures { (result ≡ is_some self.old.value) × (self.new.value ≡ self.old.value) }
     {
         self.is_open
     }
 
-    /// A handle to the object.
+    /// Returns a handle to the object.
     pub fn of(value: Box<Object, Global>) -> Handle
         ensures { result.value ≡ Some value.value }
     {
         Handle::of_loose(Loose::of(value))
     }
 
-    /// The object, where something lies there.
+    /// Returns the object that lies there.
     pub fn into_box(self) -> Box<Object, Global>
         requires { IsSome self.value }
         ensures { Some result.value ≡ self.value }

@@ -14,8 +14,9 @@ use crate::taking::{put, refusal_number};
 use byte_calls::{Refusal, items};
 use std::alloc::Global;
 
-/// `uint8_t bulwynef_statement_of(const uint8_t *item, size_t item_len, size_t place, struct bulwynef_handle *text)`: the statement at the
-/// place, from 0, of those that an item has signatures of, as an item of tag 1; 116 where there are fewer.
+/// `uint8_t bulwynef_statement_of(const uint8_t *item, size_t item_len, size_t place, struct bulwynef_handle *text)`: gives the statement at
+/// the place, from 0, among those whose signatures the item holds. The statement is an item of tag 1. It refuses as the item's encoding is
+/// refused (40 to 43), and then with 116 if there are fewer.
 #[unsafe(no_mangle)]
 pub extern "C" fn bulwynef_statement_of(
     alloc: Global,
@@ -37,9 +38,10 @@ pub extern "C" fn bulwynef_statement_of(
     }
 }
 
-/// `uint8_t bulwynef_audit_challenge(const uint8_t *first, size_t first_len, const uint8_t *last, size_t last_len, struct
-/// bulwynef_handle *text)`: the demand for a node's log up to the entry of its statement `last`, from that of its statement `first` or,
-/// where that is empty, from the beginning (an item of tag 3).
+/// `uint8_t bulwynef_audit_challenge(const uint8_t *first, size_t first_len, const uint8_t *last, size_t last_len, struct bulwynef_handle
+/// *text)`: gives an audit challenge, an item of tag 3. It asks a node for its log up to the entry of its statement `last`: from the entry
+/// of its statement `first` on, or from the beginning if `first` is empty. It refuses as `byte_calls::items::audit_challenge` does (40 to
+/// 43, 48).
 #[unsafe(no_mangle)]
 pub extern "C" fn bulwynef_audit_challenge(
     alloc: Global,
@@ -61,8 +63,9 @@ pub extern "C" fn bulwynef_audit_challenge(
     }
 }
 
-/// `uint8_t bulwynef_send_challenge(const uint8_t *message, size_t message_len, struct bulwynef_handle *text)`: the demand to acknowledge
-/// the message of an item, a message or an acknowledgement (an item of tag 4).
+/// `uint8_t bulwynef_send_challenge(const uint8_t *message, size_t message_len, struct bulwynef_handle *text)`: gives a send challenge, an
+/// item of tag 4. It asks for the acknowledgement of the message of an item: of a send challenge or an acknowledgement. It refuses as the
+/// item's encoding is refused (40 to 43), and with 41 if it is that of another item.
 #[unsafe(no_mangle)]
 pub extern "C" fn bulwynef_send_challenge(alloc: Global, message: &[u8], text: &mut Handle) -> u8
     ensures text { result ≡ 0 → Is (IsText (λ t. sending_text message.now ≡ Ok t)) text.new.value }

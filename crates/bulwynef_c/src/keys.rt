@@ -11,9 +11,9 @@ use crate::taking::refusal_number;
 use byte_calls::{Refusal, nodes};
 use std::alloc::Global;
 
-/// `uint8_t bulwynef_public_key(uint32_t lms_type, uint32_t ots_type, const uint8_t *key_id, size_t key_id_len, const uint8_t *seed,
-/// size_t seed_len, uint8_t *key, size_t key_len)`: the 56 bytes of the public key (RFC 8554, section 5.3) of a seed. 117 where the room
-/// has another length.
+/// `uint8_t bulwynef_public_key(uint32_t lms_type, uint32_t ots_type, const uint8_t *key_id, size_t key_id_len, const uint8_t *seed, size_t
+/// seed_len, uint8_t *key, size_t key_len)`: writes the 56 bytes of the public key (RFC 8554, section 5.3) of a seed. It refuses first with
+/// 117 if the room is not 56 bytes, and then as `byte_calls::nodes::public_key` does (2, 3, 117, 4).
 #[tactic(auto, using(crate::proofs::Rooms::in_room))]
 #[unsafe(no_mangle)]
 pub extern "C" fn bulwynef_public_key(

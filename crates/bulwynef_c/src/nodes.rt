@@ -1,4 +1,4 @@
-//! Nodes behind handles: how they begin and what they do by themselves.
+//! Nodes behind handles: how they begin, and what they do by themselves.
 
 ghost use Rattle.std.specs.Prelude.{◌≡◌, ◌⊎◌, IfErr, IfOk, Ok, OnErr, OnOk, false, is_some, true};
 ghost use Rattle.outcome.specs.Outcome.{Fails};
@@ -22,7 +22,7 @@ use mailbox::Mailbox;
 use ref_programs::{Relay, Tally};
 use std::alloc::Global;
 
-/// A node of the program with this number, by the key.
+/// Begins a node that follows the program with this number, and signs by the key.
 fn node_by(
     alloc: Global,
     program: u8,
@@ -52,8 +52,16 @@ fn node_by(
 
 /// `uint8_t bulwynef_node_new(uint8_t program, const uint8_t *directory, size_t directory_len, uint32_t id, uint64_t first_seq, uint32_t
 /// lms_type, uint32_t ots_type, const uint8_t *key_id, size_t key_id_len, const uint8_t *seed, size_t seed_len, struct bulwynef_handle
-/// *node)`: node `id` of the directory, which follows the program and signs by the key of the seed; its log begins with the number
+/// *node)`: begins node `id` of the directory, which follows the program and signs by the key of the seed. Its log begins with the number
 /// `first_seq`.
+///
+/// It reports the first of these:
+///
+/// - 114, if the handle is open.
+/// - The refusal of the key (2, 3, 117, 4).
+/// - 113, if there is no such program.
+/// - The refusal of the directory's encoding (2, 3, 20 to 26).
+/// - 30, if the directory does not list the node, and 31, if it does not list the key for the node.
 #[unsafe(no_mangle)]
 pub extern "C" fn bulwynef_node_new(
     alloc: Global,
@@ -98,8 +106,9 @@ fn tick(object: &mut Object, moment: u64, entropy: &[u8]) -> Result<(), Refusal>
     }
 }
 
-/// `uint8_t bulwynef_node_timer(struct bulwynef_handle *node, uint64_t moment, const uint8_t *entropy, size_t entropy_len)`: the
-/// node's timer ticks. What it sends waits ([`bulwynef_node_waiting`](crate::speaking::bulwynef_node_waiting)).
+/// `uint8_t bulwynef_node_timer(struct bulwynef_handle *node, uint64_t moment, const uint8_t *entropy, size_t entropy_len)`: ticks the
+/// node's timer. The messages that the node sends wait ([`bulwynef_node_waiting`](crate::speaking::bulwynef_node_waiting)). It refuses as
+/// `byte_calls::nodes::tick` does (117, 36, 37).
 #[unsafe(no_mangle)]
 pub extern "C" fn bulwynef_node_timer(
     alloc: Global,
@@ -135,7 +144,8 @@ fn checkpoint_of(object: &mut Object) -> Result<u64, Refusal>
     }
 }
 
-/// `uint8_t bulwynef_node_checkpoint(struct bulwynef_handle *node, uint64_t *seq)`: logs a checkpoint, and tells its number.
+/// `uint8_t bulwynef_node_checkpoint(struct bulwynef_handle *node, uint64_t *seq)`: logs a checkpoint, and writes its number. It refuses
+/// with 37 if the log is full.
 #[unsafe(no_mangle)]
 pub extern "C" fn bulwynef_node_checkpoint(alloc: Global, node: &mut Handle, seq: &mut u64) -> u8
     ensures done { result ≡ 0 → Both (NodeBecomes (λ S p n m. checkpointed p n ≡ Ok (m, seq.new))) node.old.value node.new.value }
@@ -171,7 +181,8 @@ fn rekey(object: &mut Object, key: SecretKey) -> Result<(), Refusal>
 }
 
 /// `uint8_t bulwynef_node_next_key(struct bulwynef_handle *node, uint32_t lms_type, uint32_t ots_type, const uint8_t *key_id, size_t
-/// key_id_len, const uint8_t *seed, size_t seed_len)`: the node signs by the key of the seed from now on.
+/// key_id_len, const uint8_t *seed, size_t seed_len)`: makes the node sign by the key of the seed from now on. It refuses first by the key
+/// (2, 3, 117, 4), then with 110 or 111 by the handle, and then with 31 if the key is none of the node's, or is or was in use.
 #[unsafe(no_mangle)]
 pub extern "C" fn bulwynef_node_next_key(
     alloc: Global,
@@ -212,7 +223,8 @@ fn remaining_of(object: &Object) -> Result<u32, Refusal>
     }
 }
 
-/// `uint8_t bulwynef_node_remaining(struct bulwynef_handle *node, uint32_t *leaves)`: how many statements the key in use still signs.
+/// `uint8_t bulwynef_node_remaining(struct bulwynef_handle *node, uint32_t *leaves)`: writes how many statements the key in use can still
+/// sign.
 #[unsafe(no_mangle)]
 pub extern "C" fn bulwynef_node_remaining(alloc: Global, node: &mut Handle, leaves: &mut u32) -> u8
     ensures told { result ≡ 0 → Is (IsNode (λ S p n. leaves.new ≡ leaves_left n.account.ring)) node.old.value }

@@ -1,4 +1,4 @@
-//! What a handle stands for.
+//! What lies behind handles.
 
 use commitment::Node;
 use indexed_store::IndexedStore;
@@ -8,11 +8,14 @@ use ref_programs::{Relay, Tally};
 /// What lies behind a handle.
 #[derive(Drop)]
 pub enum Object {
-    /// A store of evidence, of nodes that follow Tally; and the sum of its directory's text, in digits, as it was opened by it.
+    /// A store of evidence, whose nodes follow Tally. Beside it is the SHA-256, in hexadecimal digits, of the encoding of its directory by which
+    /// it was opened.
     TallyStore(IndexedStore<Tally>, [u8; 64]),
-    /// A store of evidence, of nodes that follow Relay; and the sum of its directory's text, in digits, as it was opened by it.
+    /// A store of evidence, whose nodes follow Relay. Beside it is the SHA-256, in hexadecimal digits, of the encoding of its directory by which
+    /// it was opened.
     RelayStore(IndexedStore<Relay>, [u8; 64]),
-    /// A store of evidence, of nodes that follow Mailbox; and the sum of its directory's text, in digits, as it was opened by it.
+    /// A store of evidence, whose nodes follow Mailbox. Beside it is the SHA-256, in hexadecimal digits, of the encoding of its directory by
+    /// which it was opened.
     MailboxStore(IndexedStore<Mailbox>, [u8; 64]),
     /// A node that follows Tally.
     TallyNode(Node<Tally>),
@@ -20,6 +23,6 @@ pub enum Object {
     RelayNode(Node<Relay>),
     /// A node that follows Mailbox.
     MailboxNode(Node<Mailbox>),
-    /// A text that was answered.
+    /// Bytes that a call gave.
     Text(Vec<u8>),
 }

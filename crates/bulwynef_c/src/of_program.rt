@@ -10,7 +10,7 @@ use indexed_store::IndexedStore;
 use mailbox::Mailbox;
 use ref_programs::{Relay, Tally};
 
-/// What is done alike with a store, whichever program its nodes follow; no other object has it done.
+/// Does the same with a store, whichever program its nodes follow. It refuses any other object with `OtherKind`.
 macro_rules! of_store {
     ($object:expr, $store:ident => $done:expr) => {
         match $object {
@@ -24,7 +24,7 @@ macro_rules! of_store {
 
 pub(crate) use of_store;
 
-/// The store, where it is one of Tally.
+/// Returns the store if its nodes follow Tally, else `OtherKind`.
 pub(crate) fn tally_store(object: &Object) -> Result<&IndexedStore<Tally>, Refusal>
     ensures store { IfOk result (λ s. IsTallyStore (λ t d. t ≡ s.now) object.now) }
     ensures other { IfErr result (λ f. (f ≡ OtherKind) × (IsTallyStore (λ s d. ⊤) object.now → ⊥)) }
@@ -35,7 +35,7 @@ pub(crate) fn tally_store(object: &Object) -> Result<&IndexedStore<Tally>, Refus
     }
 }
 
-/// The store, where it is one of Relay.
+/// Returns the store if its nodes follow Relay, else `OtherKind`.
 pub(crate) fn relay_store(object: &Object) -> Result<&IndexedStore<Relay>, Refusal>
     ensures store { IfOk result (λ s. IsRelayStore (λ t d. t ≡ s.now) object.now) }
     ensures other { IfErr result (λ f. (f ≡ OtherKind) × (IsRelayStore (λ s d. ⊤) object.now → ⊥)) }
@@ -46,7 +46,7 @@ pub(crate) fn relay_store(object: &Object) -> Result<&IndexedStore<Relay>, Refus
     }
 }
 
-/// The store, where it is one of Mailbox.
+/// Returns the store if its nodes follow Mailbox, else `OtherKind`.
 pub(crate) fn mailbox_store(object: &Object) -> Result<&IndexedStore<Mailbox>, Refusal>
     ensures store { IfOk result (λ s. IsMailboxStore (λ t d. t ≡ s.now) object.now) }
     ensures other { IfErr result (λ f. (f ≡ OtherKind) × (IsMailboxStore (λ s d. ⊤) object.now → ⊥)) }

@@ -17,7 +17,7 @@ pub enum Followed {
     Mailbox,
 }
 
-/// The program with this number.
+/// Returns the program with this number, or `BadProgram` if none has it.
 pub(crate) fn program_of(number: u8) -> Result<Followed, Refusal>
     ensures program { IfOk result (λ p. IsNumberOf number p) }
     ensures none { IfErr result (λ f. (f ≡ BadProgram) × IsNoProgram number) }
@@ -30,7 +30,7 @@ pub(crate) fn program_of(number: u8) -> Result<Followed, Refusal>
     }
 }
 
-/// The program's name.
+/// Returns the program's name.
 pub(crate) fn name_of(program: Followed) -> &'static str
     ensures { result.now ≡ program_name program }
 {

@@ -1,4 +1,4 @@
-//! Nodes behind handles: what they say to one another and to witnesses, and what they logged.
+//! Nodes behind handles: what they say to one another and to witnesses, and what they have logged.
 
 ghost use Rattle.std.specs.Prelude.{◌≡◌, ◌⊎◌, IfErr, IfOk, Ok, OnErr, OnOk, false, is_some, true};
 ghost use Rattle.outcome.specs.Outcome.{Fails};
@@ -29,8 +29,8 @@ fn waiting(object: &Object, place: usize) -> Result<u64, Refusal>
     }
 }
 
-/// `uint8_t bulwynef_node_waiting(struct bulwynef_handle *node, size_t place, uint64_t *seq)`: the number of the message that waits for
-/// its acknowledgement at the place, from 0; 116 where fewer wait.
+/// `uint8_t bulwynef_node_waiting(struct bulwynef_handle *node, size_t place, uint64_t *seq)`: writes the number of the message at the
+/// place, from 0, among those that wait for their acknowledgements. It refuses with 116 if fewer wait.
 #[unsafe(no_mangle)]
 pub extern "C" fn bulwynef_node_waiting(
     alloc: Global,
@@ -69,8 +69,9 @@ fn message_text(alloc: Global, object: &Object, seq: u64) -> Result<Vec<u8>, Ref
     }
 }
 
-/// `uint8_t bulwynef_node_message(struct bulwynef_handle *node, uint64_t seq, struct bulwynef_handle *text)`: a message that the node
-/// sent, as a challenge to acknowledge it (an item of tag 4).
+/// `uint8_t bulwynef_node_message(struct bulwynef_handle *node, uint64_t seq, struct bulwynef_handle *text)`: gives a message that the node
+/// sent, as a send challenge, an item of tag 4. It refuses with 116 if the node sent no message with this number, and with 42 if the message
+/// is above the limits of an item.
 #[unsafe(no_mangle)]
 pub extern "C" fn bulwynef_node_message(
     alloc: Global,
@@ -99,8 +100,8 @@ fn log_of(alloc: Global, object: &Object) -> Result<Vec<u8>, Refusal>
     }
 }
 
-/// `uint8_t bulwynef_node_history(struct bulwynef_handle *node, struct bulwynef_handle *text)`: the entries of the node's log, in their
-/// order, each as a segment has it.
+/// `uint8_t bulwynef_node_history(struct bulwynef_handle *node, struct bulwynef_handle *text)`: gives the entries of the node's log, in
+/// their order, each as a segment has it. It refuses with 42 if an entry is too long for a segment.
 #[unsafe(no_mangle)]
 pub extern "C" fn bulwynef_node_history(alloc: Global, node: &mut Handle, text: &mut Handle) -> u8
     ensures text { result ≡ 0 → Is (λ x. Is (IsText (λ t. IsNode (λ S p n. t ≡ log_text n) x)) text.new.value) node.old.value }
@@ -131,8 +132,9 @@ fn reply(
 }
 
 /// `uint8_t bulwynef_node_answer(struct bulwynef_handle *node, const uint8_t *challenge, size_t challenge_len, const uint8_t *entropy,
-/// size_t entropy_len, struct bulwynef_handle *text)`: to a message, its acknowledgement (an item of tag 5); to an audit, a segment (tag
-/// 2). Where memory ran out for the text alone (99) the node has answered, and the same call again gives the same answer.
+/// size_t entropy_len, struct bulwynef_handle *text)`: answers a challenge. The answer to a send challenge is an acknowledgement, an item of
+/// tag 5. The answer to an audit challenge is a segment, an item of tag 2. It refuses as `byte_calls::nodes::answer` does. If it returns 99,
+/// the node is as it was, or it has answered and memory ran out for the text alone. Then the same call again gives the same answer.
 #[unsafe(no_mangle)]
 pub extern "C" fn bulwynef_node_answer(
     alloc: Global,
@@ -145,7 +147,7 @@ pub extern "C" fn bulwynef_node_answer(
     ensures still_open { is_some text.old.value ≡ true → result ≡ 114 }
     ensures number { is_some text.old.value ≡ false → (result ≡ 0 → ⊥) → (result ≡ 99) ⊎ Says (NodeRefuses (λ S p n e. ReplyFails challenge.now entropy.now p n e)) node.old.value result }
     ensures kept { (result ≡ 0 → ⊥) → (result ≡ 99 → ⊥) → node.new.value ≡ node.old.value }
-    // Where memory ran out the node is as it was, or as behind the answer, which is then lost.
+    // If memory runs out, the node is as it was, or it has answered and the answer is lost.
     ensures spent { result ≡ 99 → (node.new.value ≡ node.old.value) ⊎ Both (NodeBecomes (λ S p n m. HasReplied challenge.now entropy.now p n m)) node.old.value node.new.value }
     ensures refused { (result ≡ 0 → ⊥) → text.new.value ≡ text.old.value }
 {
@@ -179,8 +181,9 @@ fn accept(alloc: Global, object: &mut Object, ack: &[u8]) -> Result<(), Refusal>
     }
 }
 
-/// `uint8_t bulwynef_node_accept_ack(struct bulwynef_handle *node, const uint8_t *ack, size_t ack_len)`: accepts an acknowledgement
-/// (an item of tag 5): its message waits no longer. It is one that a store takes, of a message that the node sent, byte by byte.
+/// `uint8_t bulwynef_node_accept_ack(struct bulwynef_handle *node, const uint8_t *ack, size_t ack_len)`: accepts an acknowledgement, an item
+/// of tag 5: its message waits no longer. A store takes the acknowledgement, and its message is, byte by byte, one that the node sent. It
+/// refuses as `byte_calls::nodes::accept` does (40 to 43, 38).
 #[unsafe(no_mangle)]
 pub extern "C" fn bulwynef_node_accept_ack(alloc: Global, node: &mut Handle, ack: &[u8]) -> u8
     ensures done { result ≡ 0 → Both (NodeBecomes (λ S p n m. Accepts ack.now n m)) node.old.value node.new.value }

@@ -1,4 +1,4 @@
-//! Stores of evidence behind handles: what is handed to them.
+//! Stores of evidence behind handles: what they are given.
 
 ghost use Rattle.std.specs.Prelude.{◌≡◌, ◌⊎◌, ⊤, IfErr, IfOk, OnErr, Ok, false, is_some, true};
 ghost use Rattle.byte_calls.specs.declared.refusal.Refusal.{Refusal as TheRefusal};
@@ -18,7 +18,7 @@ use mailbox::Mailbox;
 use ref_programs::{Relay, Tally};
 use std::alloc::Global;
 
-/// A store of the program with this number.
+/// Creates a store, whose nodes follow the program with this number.
 fn object_of(alloc: Global, program: u8, directory: &[u8]) -> Result<Object, Refusal>
     ensures made { IfOk result (λ x. IsStoreOf program directory.now x) }
     ensures refused { IfErr result (λ f. OpenFails program directory.now f) }
@@ -40,8 +40,9 @@ fn object_of(alloc: Global, program: u8, directory: &[u8]) -> Result<Object, Ref
     }
 }
 
-/// `uint8_t bulwynef_store_open(uint8_t program, const uint8_t *directory, size_t directory_len, struct bulwynef_handle *store)`: a
-/// store without items, under the directory of the text, of nodes that follow the program (1 Tally, 2 Relay, 3 Mailbox).
+/// `uint8_t bulwynef_store_open(uint8_t program, const uint8_t *directory, size_t directory_len, struct bulwynef_handle *store)`: creates a
+/// store without items, under the directory with this encoding. Its nodes follow the program (1 Tally, 2 Relay, 3 Mailbox). It refuses with
+/// 114 if the handle is open, then with 113 if there is no such program, and then as the encoding is refused (2, 3, 20 to 26).
 #[unsafe(no_mangle)]
 pub extern "C" fn bulwynef_store_open(
     alloc: Global,
@@ -63,7 +64,7 @@ pub extern "C" fn bulwynef_store_open(
     }
 }
 
-/// Adds the items of a store's text.
+/// Adds the items of a store's export.
 fn import_into(object: &mut Object, text: &[u8]) -> Result<u64, Refusal>
     ensures joined { IfOk result (λ new. StoreBecomes (Joins text.now new) object.old object.new) }
     ensures refused { IfErr result (λ f. StoreRefuses (λ S p s e. ImportFails text.now s e) object.old f) }
@@ -77,8 +78,8 @@ fn import_into(object: &mut Object, text: &[u8]) -> Result<u64, Refusal>
     }
 }
 
-/// `uint8_t bulwynef_store_import(struct bulwynef_handle *store, const uint8_t *text, size_t text_len, uint64_t *added)`: adds the items
-/// of a store's export, all or none.
+/// `uint8_t bulwynef_store_import(struct bulwynef_handle *store, const uint8_t *text, size_t text_len, uint64_t *added)`: adds the items of
+/// a store's export, all or none, and writes how many are new. It refuses as the export is refused (40 to 49, 60, 61).
 #[unsafe(no_mangle)]
 pub extern "C" fn bulwynef_store_import(
     alloc: Global,
@@ -105,7 +106,7 @@ pub extern "C" fn bulwynef_store_import(
     }
 }
 
-/// Adds the item of a text.
+/// Adds the item with this encoding.
 fn take_into(alloc: Global, object: &mut Object, text: &[u8]) -> Result<bool, Refusal>
     ensures taken { IfOk result (λ new. StoreBecomes (TakesItem text.now (flag new)) object.old object.new) }
     ensures refused { IfErr result (λ f. StoreRefuses (λ S p s e. TakeFails text.now s e) object.old f) }
@@ -119,8 +120,9 @@ fn take_into(alloc: Global, object: &mut Object, text: &[u8]) -> Result<bool, Re
     }
 }
 
-/// `uint8_t bulwynef_store_take(struct bulwynef_handle *store, const uint8_t *item, size_t item_len, uint8_t *is_new)`: adds an item,
-/// and tells whether it is new (1) or was there (0).
+/// `uint8_t bulwynef_store_take(struct bulwynef_handle *store, const uint8_t *item, size_t item_len, uint8_t *is_new)`: adds an item, and
+/// writes 1 if it is new, or 0 if the store has it already. It refuses as the item's encoding is refused (40 to 43), and then as the item is
+/// (44 to 49).
 #[unsafe(no_mangle)]
 pub extern "C" fn bulwynef_store_take(
     alloc: Global,
@@ -161,8 +163,9 @@ fn merge_into(object: &mut Object, other: &Object) -> Result<u64, Refusal>
     }
 }
 
-/// `uint8_t bulwynef_store_merge(struct bulwynef_handle *store, struct bulwynef_handle *other, uint64_t *added)`: adds the items of
-/// another store under the same directory, all or none.
+/// `uint8_t bulwynef_store_merge(struct bulwynef_handle *store, struct bulwynef_handle *other, uint64_t *added)`: adds the items of another
+/// store under the same directory, all or none, and writes how many are new. It refuses with 111 two stores of two programs, and with 112
+/// two stores under two directories.
 #[unsafe(no_mangle)]
 pub extern "C" fn bulwynef_store_merge(
     alloc: Global,

@@ -1,4 +1,4 @@
-//! What lies behind a handle, taken out and put there.
+//! How what lies behind a handle is taken out, and put there.
 
 ghost use Rattle.std.specs.Prelude.{◌≡◌, None, Some, option_map};
 ghost use Rattle.byte_calls.specs.Refusals.{number_of as refusal_number};
@@ -9,7 +9,7 @@ use byte_calls::Refusal;
 use std::alloc::Global;
 use std::mem::replace;
 
-/// What lies behind a handle, which is closed then; none where it is closed.
+/// Takes out what lies behind a handle, and closes it. It returns `None` if the handle is closed.
 pub(crate) fn taken(alloc: Global, handle: &mut Handle) -> Option<Box<Object, Global>>
     ensures given { option_map (λ b. b.value) result ≡ handle.old.value }
     ensures closed { handle.new.value ≡ None }
@@ -21,14 +21,14 @@ pub(crate) fn taken(alloc: Global, handle: &mut Handle) -> Option<Box<Object, Gl
     Some(old.into_box())
 }
 
-/// The number of a refusal, which is none of success.
+/// Returns the number of a refusal, which is not 0.
 pub(crate) fn refusal_number(refusal: Refusal) -> u8
     ensures { (result ≡ refusal_number refusal) × (result ≡ 0 → ⊥) }
 {
     refusal.number()
 }
 
-/// Puts an object behind a handle that is closed.
+/// Puts an object behind a handle that is closed. It returns 0, or 99 if memory runs out.
 pub(crate) fn put(alloc: Global, handle: &mut Handle, object: Object) -> u8
     requires { handle.old.value ≡ None }
     ensures put { result ≡ 0 → handle.new.value ≡ Some object }
@@ -44,7 +44,7 @@ pub(crate) fn put(alloc: Global, handle: &mut Handle, object: Object) -> u8
     }
 }
 
-/// Puts the text that is answered of what lies behind a handle where it is wanted, and what was behind the handle back.
+/// Asks what lies behind a handle, and puts it back. It puts the answer, which is a text, behind another handle, which must be closed.
 macro_rules! put_answer {
     ($alloc:expr, $handle:expr, $text:expr, $object:ident => $answer:expr) => {{
         if $text.is_open() {
@@ -64,7 +64,7 @@ macro_rules! put_answer {
 
 pub(crate) use put_answer;
 
-/// `void bulwynef_close(struct bulwynef_handle *handle)`: whatever lies behind the handle is let go; a closed one stays closed.
+/// `void bulwynef_close(struct bulwynef_handle *handle)`: closes the handle, and frees what lies behind it. A closed handle stays closed.
 #[unsafe(no_mangle)]
 pub extern "C" fn bulwynef_close(alloc: Global, handle: &mut Handle)
     ensures { handle.new.value ≡ None }

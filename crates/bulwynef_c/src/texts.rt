@@ -1,4 +1,4 @@
-//! Texts that were answered.
+//! Texts: the bytes that calls gave.
 
 ghost use Rattle.std.specs.Prelude.{◌≡◌, ◌⊎◌, length};
 ghost use Rattle.bulwynef_c.specs.declared.object.Object.{Object as TheObject};
@@ -12,7 +12,7 @@ use crate::taking::{refusal_number, taken};
 use byte_calls::Refusal;
 use std::alloc::Global;
 
-/// How many bytes a text has; none of what is no text.
+/// Returns how many bytes the text has, or 0 if the object is no text.
 fn len_of(object: &Object) -> usize
     ensures { Lends object.now result }
 {
@@ -22,7 +22,7 @@ fn len_of(object: &Object) -> usize
     }
 }
 
-/// `size_t bulwynef_text_len(struct bulwynef_handle *text)`: 0 where it is no text.
+/// `size_t bulwynef_text_len(struct bulwynef_handle *text)`: returns how many bytes the text has, or 0 if it is closed or no text.
 #[unsafe(no_mangle)]
 pub extern "C" fn bulwynef_text_len(alloc: Global, text: &mut Handle) -> usize
     ensures len { (x : TheObject) → text.old.value ≡ Some x → Lends x result }
@@ -52,8 +52,8 @@ fn copy_of(object: &Object, out: &mut [u8]) -> Result<(), Refusal>
     Ok(())
 }
 
-/// `uint8_t bulwynef_text_copy(struct bulwynef_handle *text, uint8_t *out, size_t out_len)`: the room has just the text's length.
-/// Refused with 110, 111, and 117 where the room has another length.
+/// `uint8_t bulwynef_text_copy(struct bulwynef_handle *text, uint8_t *out, size_t out_len)`: copies the text to a room of just its length.
+/// It refuses with 110 (closed), 111 (no text), and 117 if the room has another length.
 #[unsafe(no_mangle)]
 pub extern "C" fn bulwynef_text_copy(alloc: Global, text: &mut Handle, out: &mut [u8]) -> u8
     ensures copied { result ≡ 0 → Is (IsText (λ t. out.new ≡ t)) text.old.value }

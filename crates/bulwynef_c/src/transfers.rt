@@ -26,7 +26,7 @@ fn outlined(alloc: Global, object: &Object) -> Result<Vec<u8>, Refusal>
     of_store!(object, store => transfers::outline(alloc, store))
 }
 
-/// `uint8_t bulwynef_store_outline(struct bulwynef_handle *store, struct bulwynef_handle *text)`: the store's outline: the digest of
+/// `uint8_t bulwynef_store_outline(struct bulwynef_handle *store, struct bulwynef_handle *text)`: gives the store's outline: the digest of
 /// each of its 256 buckets.
 #[unsafe(no_mangle)]
 pub extern "C" fn bulwynef_store_outline(alloc: Global, store: &mut Handle, text: &mut Handle) -> u8
@@ -46,7 +46,7 @@ fn summed(alloc: Global, object: &Object) -> Result<Vec<u8>, Refusal>
     of_store!(object, store => transfers::summary(alloc, store))
 }
 
-/// `uint8_t bulwynef_store_summary(struct bulwynef_handle *store, struct bulwynef_handle *text)`: the summary that lists all of the
+/// `uint8_t bulwynef_store_summary(struct bulwynef_handle *store, struct bulwynef_handle *text)`: gives the summary that lists all of the
 /// store's items.
 #[unsafe(no_mangle)]
 pub extern "C" fn bulwynef_store_summary(alloc: Global, store: &mut Handle, text: &mut Handle) -> u8
@@ -66,8 +66,8 @@ fn shortened_by(alloc: Global, object: &Object, outline: &[u8]) -> Result<Vec<u8
     of_store!(object, store => transfers::short_summary(alloc, store, outline))
 }
 
-/// `uint8_t bulwynef_store_short_summary(struct bulwynef_handle *store, const uint8_t *outline, size_t outline_len, struct
-/// bulwynef_handle *text)`: the store's summary against another one's outline.
+/// `uint8_t bulwynef_store_short_summary(struct bulwynef_handle *store, const uint8_t *outline, size_t outline_len, struct bulwynef_handle
+/// *text)`: gives the store's summary against the outline of another store. It refuses as the outline's encoding is refused (40, 43, 60).
 #[unsafe(no_mangle)]
 pub extern "C" fn bulwynef_store_short_summary(
     alloc: Global,
@@ -91,8 +91,9 @@ fn packed_by(alloc: Global, object: &Object, summary: &[u8]) -> Result<Vec<u8>, 
     of_store!(object, store => transfers::pack(alloc, store, summary))
 }
 
-/// `uint8_t bulwynef_store_pack(struct bulwynef_handle *store, const uint8_t *summary, size_t summary_len, struct
-/// bulwynef_handle *text)`: what another one's summary does not name of the store.
+/// `uint8_t bulwynef_store_pack(struct bulwynef_handle *store, const uint8_t *summary, size_t summary_len, struct bulwynef_handle *text)`:
+/// gives the pack of those items of the store that a summary does not name. It refuses as the summary's encoding is refused (40, 41, 43, 60
+/// to 62).
 #[unsafe(no_mangle)]
 pub extern "C" fn bulwynef_store_pack(
     alloc: Global,
@@ -122,8 +123,8 @@ fn apply_to(alloc: Global, object: &mut Object, pack: &[u8]) -> Result<u64, Refu
     }
 }
 
-/// `uint8_t bulwynef_store_apply(struct bulwynef_handle *store, const uint8_t *pack, size_t pack_len, uint64_t *added)`: adds the items of
-/// a pack, all or none.
+/// `uint8_t bulwynef_store_apply(struct bulwynef_handle *store, const uint8_t *pack, size_t pack_len, uint64_t *added)`: adds the items of a
+/// pack, all or none, and writes how many are new. It refuses as the pack's encoding is refused (40 to 49, 60, 61).
 #[unsafe(no_mangle)]
 pub extern "C" fn bulwynef_store_apply(
     alloc: Global,

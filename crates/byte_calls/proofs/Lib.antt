@@ -1,9 +1,13 @@
 pub mod Accepted
 pub mod Checked
+pub mod Counted
 pub mod Demanded
 pub mod Evident
+pub mod Following
+pub mod Fronts
 pub mod Logged
 pub mod Replied
+pub mod Secrets
 pub mod TakenItems
 pub mod Told
 pub mod Unanswered

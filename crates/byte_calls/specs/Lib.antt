@@ -1,7 +1,10 @@
 pub mod Checks
 pub mod Explanations
 pub mod ItemTexts
+pub mod JournalLaws
+pub mod Journals
 pub mod Nodes
 pub mod Refusals
 pub mod Stores
 pub mod Transfers
+pub mod within

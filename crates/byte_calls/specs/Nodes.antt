@@ -1,4 +1,4 @@
--- Nodes, by the texts and numbers that are handed to them.
+-- Nodes, by the encodings and numbers that they are given.
 use Rattle.std.specs.Prelude.{◌≡◌, ◌⊎◌, ◌==◌, ℕ, nat_eq, nat_lt, Bool, false, List, length, Option, None, Some, is_some, Result, Ok, Err, if◌then◌else◌}
 use Rattle.std.specs.List.{All, flat_map}
 use Rattle.std.specs.Map.{lookup}
@@ -27,18 +27,19 @@ use Rattle.byte_calls.specs.declared.refusal.Refusal.TheVariants as refusal
 use Rattle.byte_calls.specs.Refusals.{of_answering, of_beginning, of_directory, of_node, of_reading}
 use Rattle.byte_calls.specs.Stores.{valid_item_of}
 
--- What there is, or the refusal where there is nothing.
+-- What there is, or the refusal if there is nothing.
 abbrev pub known : {A : Type 0} → Refusal → Option A → Result A Refusal
 known f None = Err f
 known f (Some x) = Ok x
 
--- Bytes that have to be so many.
+-- The bytes if there are so many, else the refusal.
 abbrev pub of_length : ℕ → List ℕ → Result (List ℕ) Refusal
 of_length n bytes = if length bytes == n then Ok bytes else Err refusal.WrongLength
 
 -- ---- keys
 
--- The key of two typecodes, an identifier and a seed (RFC 8554, sections 4.1, 5.1 and appendix A). Trees above a height of 10 are not made.
+-- The key of two typecodes, an identifier of 16 bytes and a seed of 32 (RFC 8554, sections 4.1, 5.1 and appendix A), or the refusal. Trees above
+-- a height of 10 are not made.
 unfoldable pub key_of : ℕ → ℕ → List ℕ → List ℕ → Result PrivateKey Refusal
 key_of lms ots id seed = do
   tree ← known refusal.UnknownLmsType (lms_type_of lms)
@@ -47,7 +48,7 @@ key_of lms ots id seed = do
   secret ← of_length 32 seed
   if nat_lt 10 (height tree) then Err refusal.HeightTooLarge else Ok (new_key tree leaf name secret)
 
--- Its public key, as text.
+-- The encoding of its public key, or the refusal.
 unfoldable pub key_text_of : ℕ → ℕ → List ℕ → List ℕ → Result (List ℕ) Refusal
 key_text_of lms ots id seed = do
   key ← key_of lms ots id seed
@@ -55,14 +56,14 @@ key_text_of lms ots id seed = do
 
 -- ---- what a node does
 
--- The node that begins under the directory of a text.
+-- The node that begins under the directory with this encoding, or the refusal.
 unfoldable pub begun : {S : Type 0} → Meaning S → List ℕ → ℕ → ℕ → PrivateKey → Result (NodeState S) Refusal
 begun program text id first key = do
   directory ← told_as of_directory (directory_of text)
   ring ← told_as of_beginning (begins_by (keys_at directory id) key)
   Ok (new_node program directory id ring first)
 
--- The node once its timer has ticked.
+-- The node once its timer has ticked, or the refusal.
 unfoldable pub ticked_by : {S : Type 0} → Meaning S → NodeState S → ℕ → List ℕ → Result (NodeState S) Refusal
 ticked_by program n moment entropy = do
   bytes ← of_length 32 entropy
@@ -73,11 +74,11 @@ ticked_by program n moment entropy = do
 abbrev pub log_text : {S : Type 0} → NodeState S → List ℕ
 log_text n = flat_map entry_spelling n.account.entries
 
--- Why they are not written: memory ran out, or an entry is too long for a segment.
+-- Why the entries are not written: memory ran out, or an entry is too long for a segment.
 abbrev pub RefusesLog : {S : Type 0} → NodeState S → Refusal → Type 0
 RefusesLog n f = (f ≡ refusal.Memory) ⊎ ((f ≡ refusal.TooLong) × ¬ (All FitsEntry n.account.entries))
 
--- The acknowledgement that an item is.
+-- The acknowledgement that the item is, or the refusal if it is another item.
 abbrev pub ack_in : Fields → Result AckItem Refusal
 ack_in (form.Auth a) = Err refusal.BadTag
 ack_in (form.Segment s) = Err refusal.BadTag
@@ -85,16 +86,17 @@ ack_in (form.Audit c) = Err refusal.BadTag
 ack_in (form.Send m) = Err refusal.BadTag
 ack_in (form.Ack a) = Ok a
 
--- The same, where the item is evidence under the directory, as a store takes it.
+-- The same if it is evidence under the directory, as a store takes it, else the refusal.
 abbrev pub evident : Listing → AckItem → Result AckItem Refusal
 evident ds a = if is_some (fault_of ds (form.Ack a)) then Err refusal.BadAck else Ok a
 
+-- The acknowledgement that the item is if it is evidence, else the refusal.
 unfoldable pub evident_in : Listing → Fields → Result AckItem Refusal
 evident_in ds x = do
   a ← ack_in x
   evident ds a
 
--- The acknowledgement that the item of a text is, where it is evidence.
+-- The acknowledgement with this encoding if it is evidence, else the refusal.
 unfoldable pub evident_ack : Listing → List ℕ → Result AckItem Refusal
 evident_ack ds text = do
   x ← told_as of_reading (item_of text)
@@ -105,6 +107,7 @@ abbrev pub is_as_sent : Message → Option Message → Bool
 is_as_sent m None = false
 is_as_sent m (Some sent) = is_same_message sent m
 
+-- The node sent this message, byte by byte.
 abbrev pub is_sent : {S : Type 0} → NodeState S → Message → Bool
 is_sent n m = is_as_sent m (lookup (nat_eq m.seq) n.account.sent)
 
@@ -112,20 +115,20 @@ is_sent n m = is_as_sent m (lookup (nat_eq m.seq) n.account.sent)
 abbrev pub answered_by : {S : Type 0} → NodeState S → ℕ → NodeState S
 answered_by n seq = record { directory = n.directory; account = acknowledged n.account seq; state = n.state }
 
--- The node once the acknowledgement of a text is accepted.
+-- The node once it has accepted the acknowledgement with this encoding, or the refusal.
 unfoldable pub accepted : {S : Type 0} → NodeState S → List ℕ → Result (NodeState S) Refusal
 accepted n text = do
   a ← evident_ack n.directory text
   if is_sent n a.message then Ok (answered_by n a.message.seq) else Err refusal.BadAck
 
--- The text is that of an acknowledgement that a store of the same directory takes, and its message is one that the node sent.
+-- The bytes encode an acknowledgement that a store of the same directory takes. Its message is one that the node sent.
 pub record AcknowledgesSent {S : Type 0} (n : NodeState S) (text : List ℕ) : Type 0 where
   pub item : AckItem
   pub spelled : text ≡ spelling (form.Ack item)
   pub valid : IsValid n.directory (form.Ack item)
   pub sent : lookup (nat_eq item.message.seq) n.account.sent ≡ Some item.message
 
--- A valid challenge without a fault was answered: by a valid item that answers it, and as the node answers.
+-- The node answered a valid challenge without a fault by a valid item that answers it. It answered as is defined for nodes.
 pub record Replies {S : Type 0} (program : Meaning S) (challenge entropy : List ℕ) (item : Fields) (old new : NodeState S) : Type 0 where
   pub asked : Fields
   pub bytes : List ℕ
@@ -137,12 +140,13 @@ pub record Replies {S : Type 0} (program : Meaning S) (challenge entropy : List 
   pub answers : Answers old.directory asked item
   pub done : IsAnswered program old asked bytes new item sent
 
--- Why a node does not answer the valid challenge of a text.
+-- Why a node does not answer the valid challenge with this encoding.
 abbrev pub RefusesAsked : {S : Type 0} → Meaning S → List ℕ → List ℕ → NodeState S → Refusal → Type 0
 RefusesAsked program challenge bytes n f =
     (asked : Fields) × (e : AnswerFault) × (valid_item_of n.directory challenge ≡ Ok asked) × IsRefused program n asked bytes e × (f ≡ of_answering e)
 
--- Why the challenge of a text is not answered: for the entropy's length; else for the text or its item; else as a node refuses.
+-- Why the challenge with this encoding is not answered. It is refused for the entropy's length, else as its encoding or its item is, else as a
+-- node refuses.
 abbrev pub RefusesReply : {S : Type 0} → Meaning S → List ℕ → List ℕ → NodeState S → Refusal → Type 0
 RefusesReply program challenge entropy n f =
     (of_length 32 entropy ≡ Err f) ⊎ ((bytes : List ℕ) × (of_length 32 entropy ≡ Ok bytes) × ((valid_item_of n.directory challenge ≡ Err f) ⊎ RefusesAsked program challenge bytes n f))

@@ -1,4 +1,4 @@
--- The number and the name of each refusal, and the names of lower crates' refusals here.
+-- The number and the name of each refusal, and which refusal stands for each one of the lower crates.
 use Rattle.std.specs.Prelude.{ℕ, List, codes}
 use Rattle.authenticators.specs.declared.fault.DirectoryFault.{DirectoryFault}
 use Rattle.authenticators.specs.declared.fault.DirectoryFault.TheVariants as listing
@@ -23,10 +23,12 @@ use Rattle.commitment.specs.declared.fault.NodeFault.{NodeFault}
 use Rattle.commitment.specs.declared.fault.NodeFault.TheVariants as node
 use Rattle.challenges.specs.declared.fault.AnswerFault.{AnswerFault}
 use Rattle.challenges.specs.declared.fault.AnswerFault.TheVariants as answering
+use Rattle.node_journals.specs.declared.fault.RebuildFault.{RebuildFault}
+use Rattle.node_journals.specs.declared.fault.RebuildFault.TheVariants as rebuilding
 use Rattle.byte_calls.specs.declared.refusal.Refusal.{Refusal}
 use Rattle.byte_calls.specs.declared.refusal.Refusal.TheVariants as refusal
 
--- The number that is told.
+-- The number of a refusal.
 abbrev pub number_of : Refusal → ℕ
 number_of refusal.UnknownLmsType = 2
 number_of refusal.UnknownOtsType = 3
@@ -76,8 +78,15 @@ number_of refusal.StillOpen = 114
 number_of refusal.NotExposed = 115
 number_of refusal.OutOfRange = 116
 number_of refusal.WrongLength = 117
+number_of refusal.Damaged = 122
+number_of refusal.OtherProgram = 123
+number_of refusal.JournalDirectory = 124
+number_of refusal.EmptyJournal = 126
+number_of refusal.NoBeginning = 127
+number_of refusal.OtherKey = 128
+number_of refusal.BadRecord = 129
 
--- The name that is told.
+-- The name of a refusal.
 abbrev pub name_of : Refusal → List ℕ
 name_of refusal.UnknownLmsType = codes "UnknownLmsType"
 name_of refusal.UnknownOtsType = codes "UnknownOtsType"
@@ -127,8 +136,15 @@ name_of refusal.StillOpen = codes "StillOpen"
 name_of refusal.NotExposed = codes "NotExposed"
 name_of refusal.OutOfRange = codes "OutOfRange"
 name_of refusal.WrongLength = codes "WrongLength"
+name_of refusal.Damaged = codes "Damaged"
+name_of refusal.OtherProgram = codes "OtherProgram"
+name_of refusal.JournalDirectory = codes "OtherDirectory"
+name_of refusal.EmptyJournal = codes "EmptyJournal"
+name_of refusal.NoBeginning = codes "NoBeginning"
+name_of refusal.OtherKey = codes "OtherKey"
+name_of refusal.BadRecord = codes "BadRecord"
 
--- A directory's refusal.
+-- The refusal of a directory.
 abbrev pub of_directory : DirectoryFault → Refusal
 of_directory listing.BadMagic = refusal.DirectoryMagic
 of_directory listing.Truncated = refusal.DirectoryTruncated
@@ -172,7 +188,7 @@ of_proof proof.NoContradiction = refusal.NoContradiction
 of_proof proof.Conforms = refusal.Conforms
 of_proof proof.Memory = refusal.Memory
 
--- A container's refusal, wherever in it.
+-- The refusal of a container, at whichever item of it.
 abbrev pub of_cause : Cause → Refusal
 of_cause cause.Truncated = refusal.Truncated
 of_cause cause.BadTag = refusal.BadTag
@@ -206,7 +222,7 @@ of_summary summing.NotAscending = refusal.NotAscending
 of_summary summing.NothingKept = refusal.NothingKept
 of_summary summing.Memory = refusal.Memory
 
--- The refusal of a seed.
+-- Why no key is made of a seed.
 abbrev pub of_making : MakeFault → Refusal
 of_making making.HeightTooLarge = refusal.HeightTooLarge
 of_making making.Memory = refusal.Memory
@@ -237,3 +253,15 @@ of_answering answering.NotInLog = refusal.NotInLog
 of_answering answering.KeySpent = refusal.KeySpent
 of_answering answering.LogFull = refusal.LogFull
 of_answering answering.Memory = refusal.Memory
+
+-- Why no node is rebuilt.
+abbrev pub of_rebuilding : RebuildFault → Refusal
+of_rebuilding rebuilding.UnknownNode = refusal.NodeNotListed
+of_rebuilding rebuilding.WrongKey = refusal.WrongKey
+of_rebuilding rebuilding.Memory = refusal.Memory
+of_rebuilding rebuilding.EmptyJournal = refusal.EmptyJournal
+of_rebuilding rebuilding.NoBeginning = refusal.NoBeginning
+of_rebuilding rebuilding.OtherProgram = refusal.OtherProgram
+of_rebuilding rebuilding.OtherDirectory = refusal.JournalDirectory
+of_rebuilding rebuilding.OtherKey = refusal.OtherKey
+of_rebuilding rebuilding.BadRecord = refusal.BadRecord

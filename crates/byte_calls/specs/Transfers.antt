@@ -1,4 +1,4 @@
--- What stores give one another, by the texts that are handed to them.
+-- What stores give one another, by the encodings that they are given.
 use Rattle.std.specs.Prelude.{ℕ, List, Result, Ok}
 use Rattle.outcome.specs.Outcome.{◌>>=◌, told_as}
 use Rattle.evidence_set.specs.ItemSets.{Items}
@@ -8,13 +8,13 @@ use Rattle.transfer.specs.SummaryTexts.{outline_of_text, summary_of, summary_tex
 use Rattle.byte_calls.specs.declared.refusal.Refusal.{Refusal}
 use Rattle.byte_calls.specs.Refusals.{of_summary}
 
--- The text of the items' summary against the outline of a text.
+-- The encoding of the items' summary against the outline with this encoding, or the refusal.
 unfoldable pub shortened : Items → List ℕ → Result (List ℕ) Refusal
 shortened E text = do
   outline ← told_as of_summary (outline_of_text text)
   Ok (summary_text (short_summary E outline))
 
--- The text of the pack of the items that the summary of a text does not name.
+-- The encoding of the pack of the items that the summary with this encoding does not name, or the refusal.
 unfoldable pub packed : Items → List ℕ → Result (List ℕ) Refusal
 packed E text = do
   summary ← told_as of_summary (summary_of text)

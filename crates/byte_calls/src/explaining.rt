@@ -1,5 +1,5 @@
-//! Explanations, as texts for a person to read: under what the verdict is given, and what it is. Of the sentences contracts say how those of
-//! an exposed node begin.
+//! Explanations, as texts for a person to read. A text says what the verdict is based on, and what it is. Contracts say of the sentences only
+//! how those of an exposed node begin.
 
 ghost use Rattle.std.specs.Prelude.{◌≡◌, ◌⊎◌, ◌++◌, IfErr, IfOk, OnOk, Err};
 ghost use Rattle.sentences.specs.Texts.{text_of};
@@ -15,7 +15,7 @@ use replay_verifier::Program;
 use sha2::{Digest, Sha256};
 use std::alloc::{AllocError, Global};
 
-/// The SHA-256 of a text, in lower-case digits.
+/// Returns the SHA-256 of the bytes, in 64 lower-case hexadecimal digits.
 pub fn sum_of(text: &[u8]) -> [u8; 64]
     ensures { result ≡ sum_of text.now }
 {
@@ -26,7 +26,7 @@ pub fn sum_of(text: &[u8]) -> [u8; 64]
     sum
 }
 
-/// Writes under what a verdict is given: the program's name and the sum of the directory's text, a line each.
+/// Writes what a verdict is based on: the program's name and the sum of the directory's encoding, in a line each.
 fn put_basis(text: &mut Vec<u8>, name: &str, directory: &[u8; 64]) -> Result<(), AllocError>
     ensures { OnOk result (text.new.items ≡ text.old.items ++ basis_text name.now directory.now) }
 {
@@ -37,7 +37,7 @@ fn put_basis(text: &mut Vec<u8>, name: &str, directory: &[u8; 64]) -> Result<(),
     text.extend_from_slice(b"\n")
 }
 
-/// The text of an explanation behind these two lines.
+/// Returns these two lines, and the text of an explanation after them.
 fn text_under_basis(
     alloc: Global,
     name: &str,
@@ -53,8 +53,8 @@ fn text_under_basis(
     Ok(text)
 }
 
-/// What the items say of each node that the directory lists, and why; before it the program's name and the sum of the directory's text,
-/// which are handed in.
+/// Returns a text that says what the items say of each node that the directory lists, and why. Two lines come first: `program NAME` and
+/// `directory SUM`. The caller gives the program's name, and the sum of the directory's encoding in digits. It refuses with `Memory` (99) alone.
 pub fn store<P: Program, S: Evidence<P>>(
     alloc: Global,
     program: &P,
@@ -70,8 +70,9 @@ pub fn store<P: Program, S: Evidence<P>>(
     Ok(text)
 }
 
-/// Whom a proof convicts, and why; before it the program's name, which is handed in, and the sum of the directory's text. The directory and
-/// the proof are given by their texts. Refused as [`check_proof`](crate::check_proof) is.
+/// Returns a text that says whom a proof convicts, and why. Two lines come first: `program NAME` and `directory SUM`. The caller gives the
+/// program's name. The sum is the SHA-256 of the directory's encoding. The directory and the proof are given by their encodings. It refuses as
+/// [`check_proof`](crate::check_proof) does.
 pub fn proof<P: Program>(
     alloc: Global,
     program: &P,

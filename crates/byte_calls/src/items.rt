@@ -1,5 +1,5 @@
-//! Items of evidence, by their texts: the statements that they hold, and the challenges that are made of them. Nothing is verified here: a
-//! store verifies what it takes.
+//! Items of evidence, by their encodings: the statements that they hold, and the challenges that are made of them. Nothing is verified here.
+//! A store verifies what it takes.
 
 ghost use Rattle.std.specs.Prelude.{◌≡◌, ◌≤◌, ◌∷◌, [], IfOk, IfSome, Ok, length};
 ghost use Rattle.outcome.specs.Outcome.{Gives};
@@ -22,7 +22,7 @@ use std::alloc::Global;
 
 // ---- statements
 
-/// What a node says of its log, lent.
+/// A statement of a node. Its signature is lent.
 #[derive(Clone, Copy)]
 struct Said<'a> {
     node: NodeId,
@@ -31,7 +31,7 @@ struct Said<'a> {
     sig: &'a ByteString,
 }
 
-/// A statement by its parts, as an item.
+/// Returns the statement of these parts, as an item.
 fn auth_of_parts(node: NodeId, seq: u64, hash: Hash, sig: ByteString) -> Item
     requires { length sig ≤ LONGEST_SIGNATURE_TEXT }
     ensures { result.fields ≡ form.Auth (says node seq hash sig) }
@@ -50,7 +50,7 @@ fn auth_of_parts(node: NodeId, seq: u64, hash: Hash, sig: ByteString) -> Item
     item
 }
 
-/// The statement, as an item.
+/// Returns the statement, as an item.
 fn auth_item(alloc: Global, said: &Said<'_>) -> Result<Item, Refusal>
     requires { length said.now.sig.now ≤ LONGEST_SIGNATURE_TEXT }
     ensures { Gives Memory (λ item. item.fields) result (Ok (form.Auth (says said.now.node said.now.seq said.now.hash said.now.sig.now))) }
@@ -59,7 +59,7 @@ fn auth_item(alloc: Global, said: &Said<'_>) -> Result<Item, Refusal>
     Ok(auth_of_parts(said.node, said.seq, said.hash, sig))
 }
 
-/// The one at the place, of one statement.
+/// Returns the statement at the place, of one.
 fn of_one(alloc: Global, place: usize, only: &Said<'_>) -> Result<Item, Refusal>
     requires { length only.now.sig.now ≤ LONGEST_SIGNATURE_TEXT }
     ensures { Gives Memory (λ item. item.fields) result (said_at (says only.now.node only.now.seq only.now.hash only.now.sig.now ∷ []) place) }
@@ -70,7 +70,7 @@ fn of_one(alloc: Global, place: usize, only: &Said<'_>) -> Result<Item, Refusal>
     }
 }
 
-/// The one at the place, of two statements.
+/// Returns the statement at the place, of two.
 fn of_two(alloc: Global, place: usize, first: &Said<'_>, second: &Said<'_>) -> Result<Item, Refusal>
     requires first { length first.now.sig.now ≤ LONGEST_SIGNATURE_TEXT }
     requires second { length second.now.sig.now ≤ LONGEST_SIGNATURE_TEXT }
@@ -83,7 +83,7 @@ fn of_two(alloc: Global, place: usize, first: &Said<'_>, second: &Said<'_>) -> R
     }
 }
 
-/// The statement of a segment's end.
+/// Returns the statement of a segment's last entry.
 fn end_said(segment: &Segment) -> Said<'_>
     ensures { (says result.node result.seq result.hash result.sig.now ≡ end_of segment.now) × (result.sig.now ≡ segment.now.sig) }
 {
@@ -95,7 +95,7 @@ fn end_said(segment: &Segment) -> Said<'_>
     }
 }
 
-/// A statement that stands alone.
+/// Returns a statement that stands alone.
 fn auth_said(a: &Authenticator) -> Said<'_>
     ensures { (says result.node result.seq result.hash result.sig.now ≡ a.now) × (result.sig.now ≡ a.now.sig) }
 {
@@ -107,7 +107,7 @@ fn auth_said(a: &Authenticator) -> Said<'_>
     }
 }
 
-/// A statement that an audit challenge of the node names.
+/// Returns a statement that an audit challenge of the node names.
 fn named_said(node: NodeId, statement: &Statement) -> Said<'_>
     ensures { (says result.node result.seq result.hash result.sig.now ≡ named node statement.now) × (result.sig.now ≡ statement.now.sig) }
 {
@@ -119,7 +119,7 @@ fn named_said(node: NodeId, statement: &Statement) -> Said<'_>
     }
 }
 
-/// The sender's statement of a message.
+/// Returns the sender's statement of a message.
 fn sent_said(message: &Message) -> Said<'_>
     ensures { (says result.node result.seq result.hash result.sig.now ≡ sent message.now) × (result.sig.now ≡ message.now.sig) }
 {
@@ -131,7 +131,7 @@ fn sent_said(message: &Message) -> Said<'_>
     }
 }
 
-/// The receiver's statement of an acknowledged message.
+/// Returns the receiver's statement of an acknowledged message.
 fn received_said(ack: &AckItem) -> Said<'_>
     ensures { (says result.node result.seq result.hash result.sig.now ≡ acknowledged ack.now) × (result.sig.now ≡ ack.now.sig) }
 {
@@ -143,7 +143,7 @@ fn received_said(ack: &AckItem) -> Said<'_>
     }
 }
 
-/// The one at the place, of those that an audit challenge names.
+/// Returns the statement at the place, of those that an audit challenge names.
 fn of_audit(alloc: Global, place: usize, challenge: &AuditChallenge) -> Result<Item, Refusal>
     requires { FitsAudit challenge.now }
     ensures { Gives Memory (λ item. item.fields) result (said_at (statements_of (form.Audit challenge.now)) place) }
@@ -155,7 +155,7 @@ fn of_audit(alloc: Global, place: usize, challenge: &AuditChallenge) -> Result<I
     }
 }
 
-/// The one at the place, of those that an item has signatures of.
+/// Returns the statement at the place, of those whose signatures an item holds.
 fn of_item(alloc: Global, place: usize, item: &Item) -> Result<Item, Refusal>
     ensures { Gives Memory (λ item. item.fields) result (said_at (statements_of item.now.fields) place) }
 {
@@ -168,9 +168,15 @@ fn of_item(alloc: Global, place: usize, item: &Item) -> Result<Item, Refusal>
     }
 }
 
-/// The statement at the place, from 0, of those that the item of a text has signatures of, as the text of an item: of a statement that one,
-/// of a segment that of its last entry, of an audit challenge those that it names, of a message its sender's, and of an acknowledgement
-/// that and its receiver's. It is refused as the text is (40 to 43), and with `OutOfRange` (116) where there are fewer.
+/// Returns the encoding of the statement at the place, from 0, among those whose signatures the item holds:
+///
+/// - A statement holds itself.
+/// - A segment holds that of its last entry.
+/// - An audit challenge holds those that it names, the earlier one first.
+/// - A send challenge holds that of the message's sender.
+/// - An acknowledgement holds that of the message's sender, and then that of its receiver.
+///
+/// It refuses as the item's encoding is refused (40 to 43), and then with `OutOfRange` (116) if there are fewer.
 #[tactic(auto, unfolding(crate::specs::ItemTexts::statement_text))]
 pub fn statement_of(alloc: Global, item: &[u8], place: usize) -> Result<Vec<u8>, Refusal>
     ensures { Gives Memory (λ text. text.items) result (statement_text item.now place) }
@@ -183,9 +189,9 @@ pub fn statement_of(alloc: Global, item: &[u8], place: usize) -> Result<Vec<u8>,
 
 // ---- challenges
 
-/// The statement of the item of a text.
+/// Reads the encoding of a statement. It refuses with `BadTag` if it is another item.
 #[tactic(auto, unfolding(crate::specs::ItemTexts::auth_of))]
-fn read_auth(alloc: Global, text: &[u8]) -> Result<Authenticator, Refusal>
+pub(crate) fn read_auth(alloc: Global, text: &[u8]) -> Result<Authenticator, Refusal>
     ensures exact { Gives Memory (λ a. a) result (auth_of text.now) }
     ensures fits { IfOk result (λ a. FitsAuth a) }
 {
@@ -196,7 +202,7 @@ fn read_auth(alloc: Global, text: &[u8]) -> Result<Authenticator, Refusal>
     Ok(statement)
 }
 
-/// The same, and none of an empty text.
+/// Reads the same, or returns `None` if there are no bytes.
 #[tactic(auto, unfolding(crate::specs::ItemTexts::earlier_of))]
 fn read_earlier(alloc: Global, text: &[u8]) -> Result<Option<Authenticator>, Refusal>
     ensures exact { Gives Memory (λ a. a) result (earlier_of text.now) }
@@ -209,7 +215,7 @@ fn read_earlier(alloc: Global, text: &[u8]) -> Result<Option<Authenticator>, Ref
     Ok(Some(statement))
 }
 
-/// The demand for a log between two statements.
+/// Returns the audit challenge from the first statement, if there is one, to the last.
 fn demanded(first: Option<Authenticator>, last: Authenticator) -> Result<Item, Refusal>
     requires first { IfSome first FitsAuth }
     requires last { FitsAuth last }
@@ -222,9 +228,14 @@ fn demanded(first: Option<Authenticator>, last: Authenticator) -> Result<Item, R
     }
 }
 
-/// The text of the demand for the log of a node up to the entry of its statement `last`: from the entry of its statement `first`, or from
-/// the beginning where `first` is empty. Both are texts of items. It is refused as `first` is (40 to 43; `BadTag` (41) of another item too),
-/// then as `last` is, then with `BadRange` (48) where the two are of two nodes, or the number of `first` is not the smaller one.
+/// Returns the encoding of an audit challenge. It asks a node for its log up to the entry of its statement `last`: from the entry of its
+/// statement `first` on, or from the beginning if `first` is empty. Both are encodings of items.
+///
+/// It reports the first of these, or `Memory` (99) if memory runs out:
+///
+/// - The refusal of the encoding `first` (40 to 43), or `BadTag` (41) if it is that of another item.
+/// - The same of `last`.
+/// - `BadRange` (48), if the two are of two nodes, or if the number of `first` is not the smaller one.
 #[tactic(auto, unfolding(crate::specs::ItemTexts::demand_text))]
 pub fn audit_challenge(alloc: Global, first: &[u8], last: &[u8]) -> Result<Vec<u8>, Refusal>
     ensures { Gives Memory (λ text. text.items) result (demand_text first.now last.now) }
@@ -236,7 +247,7 @@ pub fn audit_challenge(alloc: Global, first: &[u8], last: &[u8]) -> Result<Vec<u
     Ok(text)
 }
 
-/// The message of an item.
+/// Returns the message of a send challenge or of an acknowledgement, else `BadTag`.
 fn message_of(item: Item) -> Result<Message, Refusal>
     ensures exact { Gives Memory (λ m. m) result (message_in item.fields) }
     ensures fits { IfOk result (λ m. FitsMessage m) }
@@ -248,7 +259,7 @@ fn message_of(item: Item) -> Result<Message, Refusal>
     }
 }
 
-/// The demand to acknowledge a message.
+/// Returns the send challenge of a message.
 fn sending(message: Message) -> Item
     requires { FitsMessage message }
     ensures { result.fields ≡ form.Send message }
@@ -259,8 +270,9 @@ fn sending(message: Message) -> Item
     }
 }
 
-/// The text of the demand to acknowledge the message of the item of a text, a message or an acknowledgement. It is refused as the text is
-/// (40 to 43), and with `BadTag` (41) where it is another item.
+/// Returns the encoding of a send challenge, which asks for the acknowledgement of a message. `message` is the encoding of an item that has
+/// the message: a send challenge or an acknowledgement. It refuses as this encoding is refused (40 to 43), and then with `BadTag` (41) if it is
+/// that of another item.
 #[tactic(auto, unfolding(crate::specs::ItemTexts::sending_text))]
 pub fn send_challenge(alloc: Global, message: &[u8]) -> Result<Vec<u8>, Refusal>
     ensures { Gives Memory (λ text. text.items) result (sending_text message.now) }

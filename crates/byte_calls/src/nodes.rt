@@ -1,4 +1,4 @@
-//! Nodes: what is handed to them, and what they answer, as texts and numbers.
+//! Nodes: what they are given, and what they answer, as encodings and numbers.
 
 ghost use Rattle.std.specs.Prelude.{◌≡◌, ◌⊎◌, ◌++◌, IfErr, IfOk, List, None, OnErr, OnOk, Some, nat_eq, slice_get};
 ghost use Rattle.std.specs.List.{All, flat_map};
@@ -32,8 +32,8 @@ use log_chain::{Entry, FieldWriter, LONGEST_CONTENT};
 use replay_verifier::Program;
 use std::alloc::Global;
 
-/// Bytes that have to be 32.
-fn seed_of(bytes: &[u8]) -> Result<[u8; 32], Refusal>
+/// Returns the bytes, or `WrongLength` if there are not 32.
+pub(crate) fn seed_of(bytes: &[u8]) -> Result<[u8; 32], Refusal>
     ensures { Gives Memory (λ seed. seed) result (of_length 32 bytes.now) }
 {
     match <[u8; 32]>::try_from(bytes) {
@@ -42,7 +42,7 @@ fn seed_of(bytes: &[u8]) -> Result<[u8; 32], Refusal>
     }
 }
 
-/// Bytes that have to be 16.
+/// Returns the bytes, or `WrongLength` if there are not 16.
 fn key_id_of(bytes: &[u8]) -> Result<[u8; 16], Refusal>
     ensures { Gives Memory (λ id. id) result (of_length 16 bytes.now) }
 {
@@ -52,8 +52,15 @@ fn key_id_of(bytes: &[u8]) -> Result<[u8; 16], Refusal>
     }
 }
 
-/// The key of two typecodes (RFC 8554, sections 4.1 and 5.1), an identifier of 16 bytes and a seed of 32; no leaf of it has signed. It is
-/// refused, in this order, with `UnknownLmsType` (2), `UnknownOtsType` (3), `WrongLength` (117), and `HeightTooLarge` (4).
+/// Makes the key of two typecodes (RFC 8554, sections 4.1 and 5.1), an identifier of 16 bytes and a seed of 32. No leaf of it has signed.
+///
+/// It reports the first of these:
+///
+/// - `UnknownLmsType` (2) or `UnknownOtsType` (3), if a typecode is unknown.
+/// - `WrongLength` (117), if the identifier or the seed has another length.
+/// - `HeightTooLarge` (4), if the tree is higher than 10.
+///
+/// `Memory` (99) may come in place of the key.
 #[tactic(auto, unfolding(crate::specs::Nodes::key_of))]
 pub fn secret_key(
     alloc: Global,
@@ -81,7 +88,7 @@ pub fn secret_key(
     }
 }
 
-/// The 56 bytes of the public key of such a key. Refused as [`secret_key`].
+/// Returns the 56 bytes of the public key of such a key (RFC 8554, section 5.3). It refuses as [`secret_key`] does.
 #[tactic(auto, unfolding(crate::specs::Nodes::key_text_of))]
 pub fn public_key(
     alloc: Global,
@@ -96,8 +103,13 @@ pub fn public_key(
     Ok(key.public_key().to_bytes())
 }
 
-/// Begins node `id` of the directory of a text: its log has INIT with the number `first_seq`. It is refused as the text is (2, 3, 20 to
-/// 26), then with `NodeNotListed` (30) and `WrongKey` (31).
+/// Begins node `id` of the directory with this encoding. Its log has INIT with the number `first_seq`.
+///
+/// It reports the first of these, or `Memory` (99) if memory runs out:
+///
+/// - The refusal of the directory's encoding (2, 3, 20 to 26).
+/// - `NodeNotListed` (30), if the directory does not list the node.
+/// - `WrongKey` (31), if the directory does not list the key for the node, or the key has signed already.
 #[tactic(auto, unfolding(crate::specs::Nodes::begun))]
 pub fn begin<P: Program + Drop>(
     alloc: Global,
@@ -116,8 +128,16 @@ pub fn begin<P: Program + Drop>(
     }
 }
 
-/// Ticks the node's timer. What the node sends waits in it ([`waiting`], [`message`]). `entropy` is 32 random bytes, fresh for each call.
-/// Refused with `WrongLength` (117), `KeySpent` (36) and `LogFull` (37).
+/// Ticks the node's timer. The messages that the node sends wait in it ([`waiting`], [`message`]). `entropy` is 32 random bytes, fresh for
+/// each call.
+///
+/// It reports the first of these, and a refused call changes nothing:
+///
+/// - `WrongLength` (117), if `entropy` has another length.
+/// - `KeySpent` (36), if the key has fewer leaves than there are messages.
+/// - `LogFull` (37), if the log has no room for the entries.
+///
+/// `Memory` (99) may come in place of the result, or of the last two.
 #[tactic(auto, unfolding(crate::specs::Nodes::ticked_by))]
 pub fn tick<P: Program + Drop>(
     node: &mut Node<P>,
@@ -131,7 +151,7 @@ pub fn tick<P: Program + Drop>(
     Ok(())
 }
 
-/// Logs a checkpoint, and answers its number. Refused with `LogFull` (37).
+/// Logs a checkpoint, and returns its number. It refuses with `LogFull` (37) if the log is full. A refused call changes nothing.
 pub fn checkpoint<P: Program + Drop>(node: &mut Node<P>) -> Result<u64, Refusal>
     ensures done { IfOk result (λ seq. checkpointed P.means node.old ≡ Ok (node.new, seq)) }
     ensures refused { IfErr result (λ f. Fails Memory f (told_as of_node (checkpointed P.means node.old))) }
@@ -141,7 +161,8 @@ pub fn checkpoint<P: Program + Drop>(node: &mut Node<P>) -> Result<u64, Refusal>
     Ok(seq)
 }
 
-/// Signs by this key from now on. Refused with `WrongKey` (31).
+/// Makes the node sign by this key from now on. It refuses with `WrongKey` (31) if the directory does not list the key for the node, if the
+/// key is or was in use, or if it has signed already. A refused call changes nothing.
 pub fn next_key<P: Program + Drop>(node: &mut Node<P>, key: SecretKey) -> Result<(), Refusal>
     ensures { Leaves Memory result node.old node.new (known WrongKey (rekeyed node.old key)) }
 {
@@ -151,7 +172,8 @@ pub fn next_key<P: Program + Drop>(node: &mut Node<P>, key: SecretKey) -> Result
     }
 }
 
-/// The number of the message that waits for its acknowledgement at the place, from 0. `OutOfRange` (116) where fewer wait.
+/// Returns the number of the message at the place, from 0, among those that wait for their acknowledgements. It refuses with `OutOfRange`
+/// (116) if fewer wait.
 pub fn waiting<P: Program + Drop>(node: &Node<P>, place: usize) -> Result<u64, Refusal>
     ensures told { IfOk result (λ seq. slice_get node.now.account.unacknowledged place ≡ Some seq) }
     ensures refused { IfErr result (λ f. (f ≡ OutOfRange) × (slice_get node.now.account.unacknowledged place ≡ None)) }
@@ -162,7 +184,8 @@ pub fn waiting<P: Program + Drop>(node: &Node<P>, place: usize) -> Result<u64, R
     }
 }
 
-/// The text of a message that the node sent, as a challenge to acknowledge it. `OutOfRange` (116) where none has this number.
+/// Returns the encoding of a message that the node sent, as a send challenge. It refuses with `OutOfRange` (116) if the node sent no message
+/// with this number, and with `TooLong` (42) if the message is above the limits of an item.
 pub fn message<P: Program + Drop>(
     alloc: Global,
     node: &Node<P>,
@@ -208,8 +231,8 @@ fn put_entries(writer: &mut FieldWriter, entries: &[Entry]) -> Result<(), Refusa
     Ok(())
 }
 
-/// The entries of the node's log, in their order, each as a segment has it. Nothing is signed for that: an audit is answered by a segment
-/// with a signature ([`answer`]). `TooLong` (42) where an entry is too long for a segment.
+/// Returns the entries of the node's log, in their order, each as a segment has it. The node signs nothing for that. It answers an audit
+/// challenge by a signed segment ([`answer`]). The call refuses with `TooLong` (42) if an entry is too long for a segment.
 pub fn history<P: Program + Drop>(alloc: Global, node: &Node<P>) -> Result<Vec<u8>, Refusal>
     ensures text { IfOk result (λ text. text.items ≡ log_text node.now) }
     ensures refused { IfErr result (λ f. RefusesLog node.now f) }
@@ -219,7 +242,7 @@ pub fn history<P: Program + Drop>(alloc: Global, node: &Node<P>) -> Result<Vec<u
     Ok(writer.finish())
 }
 
-/// What the node answers to a checked challenge.
+/// Returns what the node answers to a checked challenge.
 fn reply<P: Program + Drop>(
     alloc: Global,
     node: &mut Node<P>,
@@ -240,9 +263,15 @@ fn reply<P: Program + Drop>(
     }
 }
 
-/// Answers the challenge of a text by an item that closes it: a message by its acknowledgement, an audit by a segment of the log. The
-/// same message again has the same acknowledgement. Refused with `WrongLength` (117), as the text and its item are (40 to 49), and as a
-/// node refuses to answer (70 to 72, 36, 37).
+/// Answers the challenge with this encoding, by an item that closes it. The answer to a send challenge is the acknowledgement of its message.
+/// The answer to an audit challenge is a segment of the log. The same message again gets the same acknowledgement. `entropy` is 32 random
+/// bytes, fresh for each call.
+///
+/// It reports the first of these, or `Memory` (99) if memory runs out. A refused call changes nothing:
+///
+/// - `WrongLength` (117), if `entropy` has another length.
+/// - The refusal of the encoding (40 to 43), or of its item (44 to 49).
+/// - `NoAnswerNeeded` (72), `NotForMe` (70), `NotInLog` (71), `KeySpent` (36) or `LogFull` (37), as `challenges::answer` refuses.
 pub fn answer<P: Program + Drop>(
     alloc: Global,
     node: &mut Node<P>,
@@ -261,7 +290,7 @@ pub fn answer<P: Program + Drop>(
 
 // ---- acknowledgements
 
-/// The acknowledgement that an item is.
+/// Returns the acknowledgement that the item is, or `BadTag` if it is another item.
 fn ack_of(item: Item) -> Result<AckItem, Refusal>
     ensures { Gives Memory (λ ack. ack) result (ack_in item.fields) }
 {
@@ -271,7 +300,7 @@ fn ack_of(item: Item) -> Result<AckItem, Refusal>
     Ok(ack)
 }
 
-/// The same, where the item is evidence under the directory.
+/// Returns the same if the item is evidence under the directory, else `BadAck`.
 #[tactic(auto, unfolding(crate::specs::Nodes::evident_in))]
 fn evident<P: Program>(
     alloc: Global,
@@ -291,7 +320,7 @@ fn evident<P: Program>(
     ack_of(checked.into_item())
 }
 
-/// The acknowledgement of a text, where it is evidence under the directory.
+/// Reads the encoding of an acknowledgement, if it is evidence under the directory.
 #[tactic(auto, unfolding(crate::specs::Nodes::evident_ack))]
 fn read_ack<P: Program>(
     alloc: Global,
@@ -307,7 +336,7 @@ fn read_ack<P: Program>(
     evident(alloc, program, directory, item)
 }
 
-/// Whether the two messages are the same in all six fields.
+/// Returns whether the two messages are the same in all six fields.
 fn is_same(one: &Message, other: &Message) -> bool
     ensures { result ≡ is_same_message one.now other.now }
 {
@@ -319,7 +348,7 @@ fn is_same(one: &Message, other: &Message) -> bool
         && one.payload == other.payload
 }
 
-/// Whether the node sent this very message.
+/// Returns whether the node sent this very message.
 fn is_sent<P: Program + Drop>(node: &Node<P>, message: &Message) -> bool
     ensures { result ≡ is_sent node.now message.now }
 {
@@ -329,9 +358,13 @@ fn is_sent<P: Program + Drop>(node: &Node<P>, message: &Message) -> bool
     }
 }
 
-/// Accepts the acknowledgement of a text: its message waits no longer. It is refused as the text is (40 to 43), with `BadTag` (41) where
-/// it is another item, and with `BadAck` (38) where it is no evidence under the node's directory, or its message is not, byte by byte, one
-/// that the node sent.
+/// Accepts the acknowledgement with this encoding: its message waits no longer.
+///
+/// It reports the first of these, or `Memory` (99) if memory runs out. A refused call changes nothing:
+///
+/// - The refusal of the encoding (40 to 43).
+/// - `BadTag` (41), if it is another item.
+/// - `BadAck` (38), if it is no evidence under the node's directory, or if its message is not, byte by byte, one that the node sent.
 #[tactic(auto, unfolding(crate::specs::Nodes::accepted))]
 pub fn accept<P: Program + Drop>(
     alloc: Global,

@@ -1,10 +1,10 @@
-//! Refusals: each has a number and a name.
+//! Refusals. Each has a number and a name.
 
 ghost use Rattle.std.specs.Prelude.{◌≡◌};
 ghost use Rattle.byte_calls.specs.Refusals.{name_of, number_of};
 
-/// Why a call is refused. The numbers and the names are those of the crate that refuses; 110 and above are told of handles, and of
-/// what is asked of them.
+/// Why a call is refused. The numbers and the names are those of the crate that refuses. Refusals from 110 on concern handles, and what is
+/// asked of them.
 #[derive(Clone, Copy, Debug, PartialEq, Eq)]
 pub enum Refusal {
     /// The LMS typecode of a key is not known.
@@ -19,7 +19,7 @@ pub enum Refusal {
     DuplicateKey,
     /// The directory lists more nodes than it may.
     TooManyNodes,
-    /// The directory does not begin as one.
+    /// The first bytes are not those of a directory.
     DirectoryMagic,
     /// The directory is cut off.
     DirectoryTruncated,
@@ -31,13 +31,13 @@ pub enum Refusal {
     UnlistedNode,
     /// The node that is to begin is not listed in the directory.
     NodeNotListed,
-    /// The key is none of the node's, was used by it before, or has signed already.
+    /// The key is none of the node's keys, is or was in use, or has signed already.
     WrongKey,
     /// The message is for another node.
     NotMine,
     /// The sender is not listed in the directory, or is this node.
     UnknownSender,
-    /// The message's signature names no key of the sender's, or is not valid by the one that it names.
+    /// No key of the sender verifies the message's signature.
     MessageSignature,
     /// The payload of a message is too long.
     PayloadTooLong,
@@ -45,13 +45,13 @@ pub enum Refusal {
     KeySpent,
     /// The log is full.
     LogFull,
-    /// The acknowledgement is of no message that was sent, or is not valid for it.
+    /// The acknowledgement is for no message that the node sent, or it is not valid.
     BadAck,
-    /// Another message of this number was received.
+    /// Another message of this sender with this number was received.
     NumberTaken,
     /// A text is cut off.
     Truncated,
-    /// A tag, a flag or a form is none of those that there are, or not the one that is asked for.
+    /// A tag, a flag or a form is unknown, or is not the one that is asked for.
     BadTag,
     /// A length or a count is above its limit.
     TooLong,
@@ -73,7 +73,7 @@ pub enum Refusal {
     NoContradiction,
     /// The segment that a proof presents conforms.
     Conforms,
-    /// A text does not begin as what it is read as.
+    /// The first bytes of a text are not those of what it is read as.
     BadMagic,
     /// The items of a store, or the digests of a summary, do not ascend.
     NotAscending,
@@ -89,11 +89,11 @@ pub enum Refusal {
     Memory,
     /// The handle is closed.
     Closed,
-    /// The handle is of something else, or of another program.
+    /// The handle is open for something else, or for another program.
     OtherKind,
     /// The two stores are under two directories.
     OtherDirectory,
-    /// The program is none of those that there are.
+    /// The program is unknown.
     BadProgram,
     /// The handle is open.
     StillOpen,
@@ -101,12 +101,26 @@ pub enum Refusal {
     NotExposed,
     /// There is nothing at this place or with this number.
     OutOfRange,
-    /// The bytes, or the room for them, are not as many as they have to be.
+    /// The bytes, or the room for them, have another length than they must have.
     WrongLength,
+    /// The journal is damaged in a way that no crash causes.
+    Damaged,
+    /// The journal is of another program.
+    OtherProgram,
+    /// The journal is of another directory.
+    JournalDirectory,
+    /// The journal has no text.
+    EmptyJournal,
+    /// The first text of the journal does not say how a node began.
+    NoBeginning,
+    /// None of the seeds makes a key that the journal names.
+    OtherKey,
+    /// A text of the journal is no record.
+    BadRecord,
 }
 
 impl Refusal {
-    /// The number that is told.
+    /// Returns the number of the refusal. No two refusals have the same number.
     pub fn number(&self) -> u8
         ensures { result ≡ number_of self.now }
     {
@@ -159,10 +173,17 @@ impl Refusal {
             Refusal::NotExposed => 115,
             Refusal::OutOfRange => 116,
             Refusal::WrongLength => 117,
+            Refusal::Damaged => 122,
+            Refusal::OtherProgram => 123,
+            Refusal::JournalDirectory => 124,
+            Refusal::EmptyJournal => 126,
+            Refusal::NoBeginning => 127,
+            Refusal::OtherKey => 128,
+            Refusal::BadRecord => 129,
         }
     }
 
-    /// The name that is told.
+    /// Returns the name of the refusal. Two refusals may have the same name: 24 and 40 are both `Truncated`.
     pub fn name(&self) -> &'static str
         ensures { result.now ≡ name_of self.now }
     {
@@ -215,6 +236,13 @@ impl Refusal {
             Refusal::NotExposed => "NotExposed",
             Refusal::OutOfRange => "OutOfRange",
             Refusal::WrongLength => "WrongLength",
+            Refusal::Damaged => "Damaged",
+            Refusal::OtherProgram => "OtherProgram",
+            Refusal::JournalDirectory => "OtherDirectory",
+            Refusal::EmptyJournal => "EmptyJournal",
+            Refusal::NoBeginning => "NoBeginning",
+            Refusal::OtherKey => "OtherKey",
+            Refusal::BadRecord => "BadRecord",
         }
     }
 }

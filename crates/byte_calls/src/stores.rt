@@ -1,4 +1,4 @@
-//! Stores of evidence: what is handed to them, and what they answer, as bytes and numbers.
+//! Stores of evidence: what they are given, and what they answer, as encodings and numbers.
 
 ghost use Rattle.std.specs.Prelude.{◌≡◌, ◌+◌, ◌⊎◌, ◌↔◌, false, true, IfErr, IfOk, IfSome, IsSome, OnErr, OnOk, map};
 ghost use Rattle.outcome.specs.Outcome.{Fails, Gives, told_as};
@@ -26,7 +26,7 @@ use proofs::Proof;
 use replay_verifier::Program;
 use std::alloc::Global;
 
-/// A store without items, under the directory of a text. It is refused as the text is.
+/// Creates a store without items, under the directory with this encoding. It refuses as the encoding is refused (2, 3, 20 to 26).
 #[tactic(auto, unfolding(crate::specs::Stores::opened))]
 pub fn open<P: Program, S: Evidence<P>>(alloc: Global, directory: &[u8]) -> Result<S, Refusal>
     ensures { Gives Memory S.contents result (opened directory.now) }
@@ -36,7 +36,8 @@ pub fn open<P: Program, S: Evidence<P>>(alloc: Global, directory: &[u8]) -> Resu
     Ok(store)
 }
 
-/// Adds the items of the text of a set, all or none, and answers how many are new.
+/// Adds the items of the encoding of a set, all or none, and returns how many are new. It refuses as the encoding is refused (40 to 49, 60,
+/// 61).
 pub fn import<P: Program, S: Evidence<P>>(
     store: &mut S,
     program: &P,
@@ -51,8 +52,8 @@ pub fn import<P: Program, S: Evidence<P>>(
     Ok(new)
 }
 
-/// Adds the items of another store under the same directory, all or none, and answers how many are new. `OtherDirectory` where it is
-/// under another one.
+/// Adds the items of another store under the same directory, all or none, and returns how many are new. It refuses with `OtherDirectory`
+/// (112) if the other store is under another directory.
 pub fn merge<P: Program, S: Evidence<P>>(store: &mut S, other: &S) -> Result<u64, Refusal>
     ensures told { IfOk result (λ new. count (S.contents store.old).items + new ≡ count (S.contents store.new).items) }
     ensures joined { OnOk result (S.contents store.new ≡ with_items (S.contents store.old) (Join (S.contents store.old).items (S.contents other.now).items)) }
@@ -67,7 +68,7 @@ pub fn merge<P: Program, S: Evidence<P>>(store: &mut S, other: &S) -> Result<u64
     Ok(new)
 }
 
-/// What the items say of the node. `UnknownNode` (44) where the directory does not list it.
+/// Returns what the items say of the node. It refuses with `UnknownNode` (44) if the directory does not list the node.
 pub fn indication<P: Program, S: Evidence<P>>(store: &S, node: u32) -> Result<Indication, Refusal>
     ensures told { IfOk result (λ i. IsIndication (S.contents store.now).directory P.means (S.contents store.now).items node i) }
     ensures listed { OnOk result (is_listed (S.contents store.now).directory node ≡ true) }
@@ -77,7 +78,7 @@ pub fn indication<P: Program, S: Evidence<P>>(store: &S, node: u32) -> Result<In
     Ok(indication)
 }
 
-/// A proof that convicts the node, where the items expose it.
+/// Returns a proof that convicts the node if the items expose it, else `None`.
 fn found_proof<P: Program, S: Evidence<P>>(store: &S, node: u32) -> Result<Option<Proof>, Refusal>
     ensures some { IfOk result (λ p. IsSome p ↔ IsExposed (S.contents store.now).directory P.means (S.contents store.now).items node) }
     ensures convicts { IfOk result (λ p. IfSome p (λ q. Convicts (S.contents store.now).directory P.means node q.parts)) }
@@ -91,7 +92,8 @@ fn found_proof<P: Program, S: Evidence<P>>(store: &S, node: u32) -> Result<Optio
     }
 }
 
-/// The text of a proof that convicts the node, where the items expose it. `UnknownNode` (44) where the directory does not list it.
+/// Returns the encoding of a proof that convicts the node if the items expose it, else `None`. It refuses with `UnknownNode` (44) if the
+/// directory does not list the node.
 pub fn proof<P: Program, S: Evidence<P>>(
     alloc: Global,
     store: &S,
@@ -111,7 +113,7 @@ pub fn proof<P: Program, S: Evidence<P>>(
     }
 }
 
-/// The challenges against the node that no item answers.
+/// Returns the challenges against the node that no item answers.
 fn unanswered<P: Program, S: Evidence<P>>(store: &S, node: u32) -> Result<Vec<&Item>, Refusal>
     ensures all { IfOk result (λ found. AreUnanswered (S.contents store.now) node (map (λ i. i.now) found.items)) }
     ensures listed { OnOk result (is_listed (S.contents store.now).directory node ≡ true) }
@@ -124,8 +126,9 @@ fn unanswered<P: Program, S: Evidence<P>>(store: &S, node: u32) -> Result<Vec<&I
     }
 }
 
-/// The text of the challenge at the place, from 0, of those against the node that no item answers, in the order of their bytes.
-/// `UnknownNode` (44) where the directory does not list the node, `OutOfRange` (116) where there are fewer.
+/// Returns the encoding of the challenge at the place, from 0, among those against the node that no item answers. They are in the order of
+/// their encodings. It refuses with `UnknownNode` (44) if the directory does not list the node, and then with `OutOfRange` (116) if there are
+/// fewer.
 pub fn challenge<P: Program, S: Evidence<P>>(
     alloc: Global,
     store: &S,
@@ -146,7 +149,8 @@ pub fn challenge<P: Program, S: Evidence<P>>(
     }
 }
 
-/// Reads an item, checks it, and adds it; and answers whether it is new.
+/// Reads an item, checks it, and adds it. Returns whether it is new. It refuses as the encoding is refused (40 to 43), and then as the item
+/// is (44 to 49).
 pub fn take<P: Program, S: Evidence<P>>(
     alloc: Global,
     store: &mut S,
@@ -162,7 +166,7 @@ pub fn take<P: Program, S: Evidence<P>>(
     Ok(new)
 }
 
-/// The item of a text, checked under the directory.
+/// Reads the encoding of an item, and checks the item under the directory.
 #[tactic(auto, unfolding(crate::specs::Stores::valid_item_of))]
 pub(crate) fn read_item<P: Program>(
     alloc: Global,
@@ -179,7 +183,7 @@ pub(crate) fn read_item<P: Program>(
     Ok(checked)
 }
 
-/// The one text of the items.
+/// Returns the store's export: the one encoding of its set of items.
 pub fn export<P: Program, S: Evidence<P>>(store: &S) -> Result<Vec<u8>, Refusal>
     ensures text { IfOk result (λ text. text.items ≡ export_of (S.contents store.now).items) }
     ensures refused { IfErr result (λ f. f ≡ Memory) }

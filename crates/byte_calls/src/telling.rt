@@ -1,8 +1,8 @@
-//! How the refusals of lower crates are told.
+//! The refusals of lower crates, as refusals of this one.
 
 ghost use Rattle.std.specs.Prelude.{◌≡◌};
 ghost use Rattle.byte_calls.specs.declared.refusal.Refusal.TheVariants.{Memory};
-ghost use Rattle.byte_calls.specs.Refusals.{of_answering, of_asking, of_beginning, of_directory, of_import, of_item, of_making, of_node, of_proof, of_reading, of_summary};
+ghost use Rattle.byte_calls.specs.Refusals.{of_answering, of_asking, of_beginning, of_directory, of_import, of_item, of_making, of_node, of_proof, of_reading, of_rebuilding, of_summary};
 
 use crate::refusal::Refusal;
 use authenticators::DirectoryFault;
@@ -13,6 +13,7 @@ use evidence::{AskFault, NewStoreRefused, TakeRefused, UnknownNode};
 use evidence_item::ItemFault;
 use item_forms::{DecodeFault, TooLong};
 use lms_sign::MakeFault;
+use node_journals::RebuildFault;
 use proofs::ProofFault;
 use replay_verifier::Program;
 use std::alloc::AllocError;
@@ -187,6 +188,24 @@ impl From<AnswerFault> for Refusal {
             AnswerFault::KeySpent => Refusal::KeySpent,
             AnswerFault::LogFull => Refusal::LogFull,
             AnswerFault::Memory => Refusal::Memory,
+        }
+    }
+}
+
+impl From<RebuildFault> for Refusal {
+    ghost from_gives = { λ f e. e ≡ of_rebuilding f };
+
+    fn from(f: RebuildFault) -> Refusal {
+        match f {
+            RebuildFault::UnknownNode => Refusal::NodeNotListed,
+            RebuildFault::WrongKey => Refusal::WrongKey,
+            RebuildFault::Memory => Refusal::Memory,
+            RebuildFault::EmptyJournal => Refusal::EmptyJournal,
+            RebuildFault::NoBeginning => Refusal::NoBeginning,
+            RebuildFault::OtherProgram => Refusal::OtherProgram,
+            RebuildFault::OtherDirectory => Refusal::JournalDirectory,
+            RebuildFault::OtherKey => Refusal::OtherKey,
+            RebuildFault::BadRecord => Refusal::BadRecord,
         }
     }
 }

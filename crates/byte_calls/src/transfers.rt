@@ -1,4 +1,4 @@
-//! What stores give one another: outlines, summaries and packs, as texts.
+//! What stores give one another: outlines, summaries and packs, as encodings.
 
 ghost use Rattle.std.specs.Prelude.{◌≡◌, ◌+◌, IfErr, IfOk, OnErr, OnOk};
 ghost use Rattle.outcome.specs.Outcome.{Fails, Gives, told_as};
@@ -20,7 +20,7 @@ use replay_verifier::Program;
 use std::alloc::Global;
 use transfer::{Outline, Pack, Summary};
 
-/// The text of the store's outline.
+/// Returns the encoding of the store's outline, 8,200 bytes.
 pub fn outline<P: Program, S: Evidence<P>>(alloc: Global, store: &S) -> Result<Vec<u8>, Refusal>
     ensures text { IfOk result (λ text. text.items ≡ outline_text (outline_of (S.contents store.now).items)) }
     ensures refused { IfErr result (λ f. f ≡ Memory) }
@@ -30,7 +30,7 @@ pub fn outline<P: Program, S: Evidence<P>>(alloc: Global, store: &S) -> Result<V
     Ok(text)
 }
 
-/// The text of the summary that lists all of the store's items.
+/// Returns the encoding of the summary that lists all of the store's items.
 pub fn summary<P: Program, S: Evidence<P>>(alloc: Global, store: &S) -> Result<Vec<u8>, Refusal>
     ensures text { IfOk result (λ text. text.items ≡ summary_text (whole_summary (S.contents store.now).items)) }
     ensures refused { IfErr result (λ f. f ≡ Memory) }
@@ -40,7 +40,7 @@ pub fn summary<P: Program, S: Evidence<P>>(alloc: Global, store: &S) -> Result<V
     Ok(text)
 }
 
-/// The text of the store's summary against the outline of a text. It is refused as the text is (40, 43, 60).
+/// Returns the encoding of the store's summary against an outline. It refuses as the outline's encoding is refused (40, 43, 60).
 #[tactic(auto, unfolding(crate::specs::Transfers::shortened))]
 pub fn short_summary<P: Program, S: Evidence<P>>(
     alloc: Global,
@@ -55,7 +55,8 @@ pub fn short_summary<P: Program, S: Evidence<P>>(
     Ok(text)
 }
 
-/// The text of the pack of what the summary of a text does not name of the store. It is refused as the text is (40, 41, 43, 60 to 62).
+/// Returns the encoding of the pack of those items of the store that a summary does not name. It refuses as the summary's encoding is refused
+/// (40, 41, 43, 60 to 62).
 #[tactic(auto, unfolding(crate::specs::Transfers::packed))]
 pub fn pack<P: Program, S: Evidence<P>>(
     alloc: Global,
@@ -70,7 +71,7 @@ pub fn pack<P: Program, S: Evidence<P>>(
     Ok(text)
 }
 
-/// Adds the items of the text of a pack, all or none, and answers how many are new. It is refused as the text is (40 to 49, 60, 61).
+/// Adds the items of a pack, all or none, and returns how many are new. It refuses as the pack's encoding is refused (40 to 49, 60, 61).
 pub fn apply<P: Program, S: Evidence<P>>(
     alloc: Global,
     store: &mut S,

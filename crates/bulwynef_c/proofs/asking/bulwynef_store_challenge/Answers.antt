@@ -1,0 +1,8 @@
+use Rattle.std.proofs.Common.{inr}
+use Rattle.bulwynef_c.specs.Calls.{ChallengeFails}
+use Rattle.bulwynef_c.specs.Handles.{StoreRefuses}
+use Rattle.bulwynef_c.proofs.Saying.{said}
+use Rattle.bulwynef_c.proofs.asking.bulwynef_store_challenge.Goals as goal
+
+pub returns-in-Err-clause-number : goal.returns-in-Err-clause-number
+returns-in-Err-clause-number c = λ closed refused. inr (said (StoreRefuses (λ S p s e. ChallengeFails c.args.node c.args.place s e)) c.deref.result.now c.in-Some.object.value c.args.store.now.value c.in-Err.refusal c.refusal_number-in-Err.result c.in-Some.ensures.given c.deref.ensures c.refusal_number-in-Err.ensures.0 c.in-Err.ensures.refused)
