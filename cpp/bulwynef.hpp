@@ -56,23 +56,23 @@ inline const char *told(uint8_t number) {
     case 20: return "DuplicateNode: The directory lists a node twice.";
     case 21: return "DuplicateKey: The directory lists a key twice.";
     case 22: return "TooManyNodes: The directory lists more nodes than it may.";
-    case 23: return "BadMagic: The directory does not begin as one.";
+    case 23: return "BadMagic: The first bytes are not those of a directory.";
     case 24: return "Truncated: The directory is cut off.";
     case 25: return "Trailing: Bytes are left over after the directory.";
     case 26: return "KeyCount: The directory lists a node with no key, or with more than it may have.";
     case 27: return "UnlistedNode: A key is of a node that is not listed.";
     case 30: return "UnknownNode: The node that is to begin is not listed in the directory.";
-    case 31: return "WrongKey: The key is none of the node's, was used by it before, or has signed already.";
+    case 31: return "WrongKey: The key is none of the node's keys, is or was in use, or has signed already.";
     case 32: return "NotMine: The message is for another node.";
     case 33: return "UnknownSender: The sender is not listed in the directory, or is this node.";
-    case 34: return "BadSignature: The message's signature names no key of the sender's, or is not valid by the one that it names.";
+    case 34: return "BadSignature: No key of the sender verifies the message's signature.";
     case 35: return "PayloadTooLong: The payload of a message is too long.";
     case 36: return "KeySpent: The key in use has too few leaves left.";
     case 37: return "LogFull: The log is full.";
-    case 38: return "BadAck: The acknowledgement is of no message that was sent, or is not valid for it.";
-    case 39: return "NumberTaken: Another message of this number was received.";
+    case 38: return "BadAck: The acknowledgement is for no message that the node sent, or it is not valid.";
+    case 39: return "NumberTaken: Another message of this sender with this number was received.";
     case 40: return "Truncated: A text is cut off.";
-    case 41: return "BadTag: A tag, a flag or a form is none of those that there are, or not the one that is asked for.";
+    case 41: return "BadTag: A tag, a flag or a form is unknown, or is not the one that is asked for.";
     case 42: return "TooLong: A length or a count is above its limit.";
     case 43: return "Trailing: Bytes are left over.";
     case 44: return "UnknownNode: A node is not listed.";
@@ -83,7 +83,7 @@ inline const char *told(uint8_t number) {
     case 49: return "BadSignature: A signature of an item is not valid.";
     case 50: return "NoContradiction: The parts of a proof do not contradict each other, or are of two nodes.";
     case 51: return "Conforms: The segment that a proof presents conforms.";
-    case 60: return "BadMagic: A text does not begin as what it is read as.";
+    case 60: return "BadMagic: The first bytes of a text are not those of what it is read as.";
     case 61: return "NotAscending: The items of a store, or the digests of a summary, do not ascend.";
     case 62: return "NothingKept: No bucket of a short summary is kept.";
     case 70: return "NotForMe: The challenge is against another node.";
@@ -91,13 +91,20 @@ inline const char *told(uint8_t number) {
     case 72: return "NoAnswerNeeded: The item is no challenge.";
     case 99: return "Memory: A growth of memory was refused.";
     case 110: return "Closed: The handle is closed.";
-    case 111: return "OtherKind: The handle is of something else, or of another program.";
+    case 111: return "OtherKind: The handle is open for something else, or for another program.";
     case 112: return "OtherDirectory: The two stores are under two directories.";
-    case 113: return "BadProgram: The program is none of those that there are.";
+    case 113: return "BadProgram: The program is unknown.";
     case 114: return "StillOpen: The handle is open.";
     case 115: return "NotExposed: The items do not expose the node.";
     case 116: return "OutOfRange: There is nothing at this place or with this number.";
-    case 117: return "WrongLength: The bytes, or the room for them, are not as many as they have to be.";
+    case 117: return "WrongLength: The bytes, or the room for them, have another length than they must have.";
+    case 122: return "Damaged: The journal is damaged in a way that no crash causes.";
+    case 123: return "OtherProgram: The journal is of another program.";
+    case 124: return "OtherDirectory: The journal is of another directory.";
+    case 126: return "EmptyJournal: The journal has no text.";
+    case 127: return "NoBeginning: The first text of the journal does not say how a node began.";
+    case 128: return "OtherKey: None of the seeds makes a key that the journal names.";
+    case 129: return "BadRecord: A text of the journal is no record.";
     }
     return "Unknown: The number is none that there is.";
 }
@@ -306,12 +313,57 @@ class Store {
     inner::Handle at_;
 };
 
-/* A node that follows its program, logs what comes and goes, and signs it. */
+/* The texts of a node's journal. The host owns the file, and keeps to the order of the steps in bulwynef.h, "nodes that survive". It makes
+ * the record of a call, and writes and syncs the record's block. Then it makes the call of the node, with the same input and the same
+ * entropy. Last it sends what the node answers. */
+
+/* The open block of a text, which stands for it in a journal. */
+inline Bytes journal_block(View text) { return inner::text(bulwynef_journal_block, text.data(), text.size()); }
+/* The place of the closed gate in the bytes of a journal. What is behind the gate counts for nothing. */
+inline std::size_t journal_end(View journal) { return inner::number<std::size_t>(bulwynef_journal_end, journal.data(), journal.size()); }
+/* The first text: how the node begins. It has the public key, and no seed. */
+inline Bytes node_beginning(View directory, uint32_t id, const Key &key, Program program, uint64_t first_seq = 1) {
+    return inner::text(bulwynef_node_beginning, uint8_t(program), directory.data(), directory.size(), id, first_seq, key.lms_type,
+                       key.ots_type, key.id.data(), key.id.size(), key.seed.data(), key.seed.size());
+}
+/* The record of Node::timer. */
+inline Bytes record_timer(uint64_t moment, const Entropy &entropy) {
+    return inner::text(bulwynef_record_timer, moment, entropy.data(), entropy.size());
+}
+/* The record of Node::answer, if it is given a message. An audit changes nothing of the node, and has no record. */
+inline Bytes record_answer(View challenge, const Entropy &entropy) {
+    return inner::text(bulwynef_record_answer, challenge.data(), challenge.size(), entropy.data(), entropy.size());
+}
+/* The record of an acknowledgement that Node::accept_ack accepted. */
+inline Bytes record_ack(View ack) { return inner::text(bulwynef_record_ack, ack.data(), ack.size()); }
+/* The record of Node::checkpoint. */
+inline Bytes record_checkpoint() { return inner::text(bulwynef_record_checkpoint); }
+/* The record of Node::next_key. It has the public key, and no seed. */
+inline Bytes record_next_key(const Key &key) {
+    return inner::text(bulwynef_record_next_key, key.lms_type, key.ots_type, key.id.data(), key.id.size(), key.seed.data(),
+                       key.seed.size());
+}
+
+/* A node that follows its program, logs what comes and goes, and signs it. It ends with its process, unless a journal has each call that
+ * changed it. If a call is refused by 99 (Memory) and its record is written, close the node and rebuild it. */
 class Node {
   public:
     Node(View directory, uint32_t id, const Key &key, Program program, uint64_t first_seq = 1) {
         inner::done(bulwynef_node_new(uint8_t(program), directory.data(), directory.size(), id, first_seq, key.lms_type, key.ots_type,
                                       key.id.data(), key.id.size(), key.seed.data(), key.seed.size(), at_.get()));
+    }
+    /* The node of a journal's bytes: it began as the first text says, and did what the further ones record. Each key that the journal names
+       is among these. */
+    static Node rebuild(View directory, const std::vector<Key> &keys, View journal, Program program) {
+        Node node;
+        Bytes secrets;
+        for (const Key &key : keys) {
+            secrets.insert(secrets.end(), key.id.begin(), key.id.end());
+            secrets.insert(secrets.end(), key.seed.begin(), key.seed.end());
+        }
+        inner::done(bulwynef_node_rebuild(uint8_t(program), directory.data(), directory.size(), secrets.data(), secrets.size(),
+                                          journal.data(), journal.size(), node.at_.get()));
+        return node;
     }
     /* The timer ticks; what the node sends waits. */
     void timer(uint64_t moment, const Entropy &entropy = random_bytes<BULWYNEF_ENTROPY_LEN>()) {
@@ -341,9 +393,15 @@ class Node {
         inner::done(bulwynef_node_next_key(at_.get(), key.lms_type, key.ots_type, key.id.data(), key.id.size(), key.seed.data(),
                                            key.seed.size()));
     }
+    /* Whether a statement is another node's, or one that this node signed. If a witness holds one that the node does not know, the journal
+       is an old copy, and none of the node's keys may ever sign again. Nothing is verified of the statement here. */
+    bool knows(View statement) {
+        return inner::number<uint8_t>(bulwynef_node_knows, at_.get(), statement.data(), statement.size()) == 1;
+    }
     void close() { at_.close(); }
 
   private:
+    Node() = default;
     inner::Handle at_;
 };
 

@@ -43,6 +43,20 @@ struct Cases {
         const auto id = array<BULWYNEF_KEY_ID_LEN>(place + 2);
         return {id, array<BULWYNEF_SEED_LEN>(place + 3), uint32_t(number(place)), uint32_t(number(place + 1))};
     }
+    // The keys of a text of secrets, each an identifier and a seed. The journal has their types.
+    std::vector<Key> keys(std::size_t place) const {
+        std::vector<Key> found;
+        const Bytes &secrets = text(place);
+        constexpr std::size_t size = BULWYNEF_KEY_ID_LEN + BULWYNEF_SEED_LEN;
+        if (secrets.size() % size != 0) throw std::logic_error("another length");
+        for (auto at = secrets.begin(); at != secrets.end(); at += size) {
+            Key key{};
+            std::copy_n(at, BULWYNEF_KEY_ID_LEN, key.id.begin());
+            std::copy_n(at + BULWYNEF_KEY_ID_LEN, BULWYNEF_SEED_LEN, key.seed.begin());
+            found.push_back(key);
+        }
+        return found;
+    }
     Answer answer();
 };
 
@@ -91,6 +105,19 @@ Answer Cases::answer() {
         {"node_checkpoint", [&] { return node().checkpoint(); }},
         {"node_remaining", [&] { return uint64_t(node().remaining()); }},
         {"node_next_key", [&] { node().next_key(key(2)); return Answer(); }},
+        {"journal_block", [&] { return journal_block(text(1)); }},
+        {"journal_end", [&] { return uint64_t(journal_end(text(1))); }},
+        {"node_beginning", [&] { return node_beginning(text(2), uint32_t(number(3)), key(5), program(1), number(4)); }},
+        {"record_timer", [&] { return record_timer(number(1), array<BULWYNEF_ENTROPY_LEN>(2)); }},
+        {"record_answer", [&] { return record_answer(text(1), array<BULWYNEF_ENTROPY_LEN>(2)); }},
+        {"record_ack", [&] { return record_ack(text(1)); }},
+        {"record_checkpoint", [&] { return record_checkpoint(); }},
+        {"record_next_key", [&] { return record_next_key(key(1)); }},
+        {"node_rebuild", [&] {
+             nodes.insert_or_assign(words[1], Node::rebuild(text(3), keys(4), text(5), program(2)));
+             return Answer();
+         }},
+        {"node_knows", [&] { return uint64_t(node().knows(text(2))); }},
     };
     return calls.at(words[0])();
 }
@@ -127,6 +154,10 @@ int main() {
         if (all.empty() || all[0] == "#") continue;
         if (all[0] == "text") {
             cases.texts[all.at(1)] = decoded(all.size() > 2 ? all[2] : "");
+            continue;
+        }
+        if (all[0] == "zeros") {
+            cases.texts[all.at(1)] = Bytes(std::stoull(all.at(2)));
             continue;
         }
         const auto equals = std::find(all.begin(), all.end(), "=");

@@ -1,5 +1,5 @@
-// What bulwynef.hpp keeps: handles are moved and closed once, and a child of fork is refused its parent's. Ends with 1 at the first that is
-// not so.
+// What bulwynef.hpp keeps: handles are moved and closed once, a child of fork is refused its parent's, and a node is rebuilt of its
+// journal. Ends with 1 at the first that is not so.
 #include <bulwynef.hpp>
 
 #include <cstdio>
@@ -57,5 +57,17 @@ int main() {
     int status = 0;
     hold(waitpid(child, &status, 0) == child && WIFEXITED(status) && WEXITSTATUS(status) == 7, "a child of fork is refused");
     hold(node.remaining() == 32, "the parent goes on");
+
+    Bytes journal;
+    for (const Bytes &text : {node_beginning(listed, 1, key, Program::tally), record_checkpoint()}) {
+        const Bytes block = journal_block(text);
+        journal.insert(journal.end(), block.begin(), block.end());
+    }
+    journal.push_back(0);
+    hold(journal_end(journal) == journal.size() - 1, "a journal ends with its closed gate");
+    node.checkpoint();
+    Node back = Node::rebuild(listed, {key}, journal, Program::tally);
+    hold(back.history() == node.history(), "a node of a journal is as the one that went on");
+    hold(refused_by([&] { Node::rebuild(listed, {}, journal, Program::tally); }) == BULWYNEF_REFUSED_OTHER_KEY, "but not without its key");
     return 0;
 }

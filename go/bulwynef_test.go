@@ -1,6 +1,7 @@
 package bulwynef
 
 import (
+	"bytes"
 	"errors"
 	"fmt"
 	"runtime"
@@ -83,6 +84,50 @@ func TestWhatIsClosedStaysClosed(t *testing.T) {
 	node, _ := NewNode(listed, 1, first, Tally, 1)
 	node.Close()
 	if _, err := node.Answer(nil); err != RefusedClosed {
+		t.Error(err)
+	}
+}
+
+func TestANodeIsRebuiltOfItsJournal(t *testing.T) {
+	listed, first, second := scene(t)
+	entropy, err := NewEntropy()
+	if err != nil {
+		t.Fatal(err)
+	}
+	beginning, _ := NodeBeginning(listed, 1, first, Tally, 1)
+	tick, _ := RecordTimer(5, entropy)
+	var journal []byte
+	for _, text := range [][]byte{beginning, tick} {
+		block, err := JournalBlock(text)
+		if err != nil {
+			t.Fatal(err)
+		}
+		journal = append(journal, block...)
+	}
+	journal = append(journal, 0)
+	if end, err := JournalEnd(journal); end != len(journal)-1 || err != nil {
+		t.Error(end, err)
+	}
+	one, _ := NewNode(listed, 1, first, Tally, 1)
+	if err := one.TimerWith(5, entropy); err != nil {
+		t.Fatal(err)
+	}
+	back, err := RebuildNode(listed, []*Key{second, first}, journal, Tally)
+	if err != nil {
+		t.Fatal(err)
+	}
+	defer back.Close()
+	wanted, _ := one.History()
+	if found, err := back.History(); !bytes.Equal(found, wanted) || err != nil {
+		t.Error(found, err)
+	}
+	waiting, _ := one.Waiting()
+	message, _ := one.Message(waiting[0])
+	statement, _ := StatementOf(message, 0)
+	if knows, err := back.Knows(statement); !knows || err != nil {
+		t.Error(knows, err)
+	}
+	if _, err := RebuildNode(listed, []*Key{second}, journal, Tally); err != RefusedOtherKey {
 		t.Error(err)
 	}
 }

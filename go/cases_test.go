@@ -43,6 +43,19 @@ func (it *cases) key(words []string) *Key {
 	return key
 }
 
+// keys gives the keys of a text of secrets, each an identifier and a seed. The journal has their types.
+func (it *cases) keys(word string) (found []*Key) {
+	for secrets := it.text(word); len(secrets) > 0; {
+		key := &Key{}
+		copy(key.ID[:], secrets)
+		secrets = secrets[len(key.ID):]
+		copy(key.Seed[:], secrets)
+		secrets = secrets[len(key.Seed):]
+		found = append(found, key)
+	}
+	return found
+}
+
 func (it *cases) entropy(word string) (entropy Entropy) {
 	copy(entropy[:], it.text(word))
 	return entropy
@@ -118,6 +131,11 @@ func (it *cases) ofNode(w []string) (any, error) {
 		it.nodes[w[1]] = node
 		return nil, err
 	}
+	if w[0] == "node_rebuild" {
+		node, err := RebuildNode(it.text(w[3]), it.keys(w[4]), it.text(w[5]), Program(number(w[2])))
+		it.nodes[w[1]] = node
+		return nil, err
+	}
 	node := it.nodes[w[1]]
 	switch w[0] {
 	case "node_timer":
@@ -140,8 +158,38 @@ func (it *cases) ofNode(w []string) (any, error) {
 		return uint64(leaves), err
 	case "node_next_key":
 		return nil, node.NextKey(it.key(w[2:]))
+	case "node_knows":
+		return flag(node.Knows(it.text(w[2])))
 	}
 	panic("no such call: " + w[0])
+}
+
+// ofJournal answers what belongs to no handle: a block, an end, and the texts of a journal. If it is none of these, the answer is false.
+func (it *cases) ofJournal(w []string) (any, error, bool) {
+	var made []byte
+	var err error
+	switch w[0] {
+	case "journal_end":
+		end, err := JournalEnd(it.text(w[1]))
+		return uint64(end), err, true
+	case "journal_block":
+		made, err = JournalBlock(it.text(w[1]))
+	case "node_beginning":
+		made, err = NodeBeginning(it.text(w[2]), uint32(number(w[3])), it.key(w[5:]), Program(number(w[1])), number(w[4]))
+	case "record_timer":
+		made, err = RecordTimer(number(w[1]), it.entropy(w[2]))
+	case "record_answer":
+		made, err = RecordAnswer(it.text(w[1]), it.entropy(w[2]))
+	case "record_ack":
+		made, err = RecordAck(it.text(w[1]))
+	case "record_checkpoint":
+		made, err = RecordCheckpoint()
+	case "record_next_key":
+		made, err = RecordNextKey(it.key(w[1:]))
+	default:
+		return nil, nil, false
+	}
+	return made, err, true
 }
 
 func (it *cases) answer(w []string) (any, error) {
@@ -164,6 +212,9 @@ func (it *cases) answer(w []string) (any, error) {
 	}
 	if strings.HasPrefix(w[0], "store_") {
 		return it.ofStore(w)
+	}
+	if made, err, is := it.ofJournal(w); is {
+		return made, err
 	}
 	return it.ofNode(w)
 }
@@ -208,6 +259,8 @@ func TestEachCallAnswersAsTheCasesSay(t *testing.T) {
 				t.Fatal(err)
 			}
 			it.texts[words[1]] = text
+		case "zeros":
+			it.texts[words[1]] = make([]byte, number(words[2]))
 		default:
 			calls++
 			asked, wanted, _ := strings.Cut(lines.Text(), " = ")

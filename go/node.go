@@ -5,8 +5,10 @@ import "C"
 
 import "crypto/rand"
 
-// A Node follows its program, logs what comes and goes, and signs it. It does not outlive its process. Goroutines may share one: it has a
-// lock, and one call at a time.
+// A Node follows its program, logs what comes and goes, and signs it. It ends with its process, unless a journal has each call that changed
+// it: then RebuildNode gives it back. If a call is refused as RefusedMemory and its record is written, close the node and rebuild it.
+// Goroutines may share one: it has a lock, and one call at a time. If it has a journal, they bring a lock that is held from a record to the
+// end of its call.
 type Node struct{ *opened }
 
 // NewNode gives node id of the directory, which signs by the key; its log begins with the number firstSeq.
@@ -21,7 +23,8 @@ func NewNode(directory []byte, id uint32, key *Key, program Program, firstSeq ui
 	return it, nil
 }
 
-func fresh() (Entropy, error) {
+// NewEntropy gives random bytes for one call that signs, and for its record.
+func NewEntropy() (Entropy, error) {
 	var entropy Entropy
 	_, err := rand.Read(entropy[:])
 	return entropy, err
@@ -29,7 +32,7 @@ func fresh() (Entropy, error) {
 
 // Timer ticks; what the node sends waits.
 func (it *Node) Timer(moment uint64) error {
-	entropy, err := fresh()
+	entropy, err := NewEntropy()
 	if err != nil {
 		return err
 	}
@@ -60,7 +63,7 @@ func (it *Node) Message(seq uint64) ([]byte, error) {
 // Answer gives to a message its acknowledgement, to an audit a segment of the log; what was answered before, as it was. After
 // RefusedMemory the same call again answers it.
 func (it *Node) Answer(challenge []byte) ([]byte, error) {
-	entropy, err := fresh()
+	entropy, err := NewEntropy()
 	if err != nil {
 		return nil, err
 	}

@@ -20,54 +20,61 @@ func (it Refusal) Name() string {
 // The refusals.
 // made by checks/reference/refusals.py
 const (
-	RefusedUnknownLmsType      Refusal = 2
-	RefusedUnknownOtsType      Refusal = 3
-	RefusedHeightTooLarge      Refusal = 4
-	RefusedDuplicateNode       Refusal = 20
-	RefusedDuplicateKey        Refusal = 21
-	RefusedTooManyNodes        Refusal = 22
-	RefusedDirectoryBadMagic   Refusal = 23
-	RefusedDirectoryTruncated  Refusal = 24
-	RefusedDirectoryTrailing   Refusal = 25
-	RefusedKeyCount            Refusal = 26
-	RefusedUnlistedNode        Refusal = 27
-	RefusedNodeUnknownNode     Refusal = 30
-	RefusedWrongKey            Refusal = 31
-	RefusedNotMine             Refusal = 32
-	RefusedUnknownSender       Refusal = 33
-	RefusedMessageBadSignature Refusal = 34
-	RefusedPayloadTooLong      Refusal = 35
-	RefusedKeySpent            Refusal = 36
-	RefusedLogFull             Refusal = 37
-	RefusedBadAck              Refusal = 38
-	RefusedNumberTaken         Refusal = 39
-	RefusedTruncated           Refusal = 40
-	RefusedBadTag              Refusal = 41
-	RefusedTooLong             Refusal = 42
-	RefusedTrailing            Refusal = 43
-	RefusedUnknownNode         Refusal = 44
-	RefusedSelfMessage         Refusal = 45
-	RefusedEmptySegment        Refusal = 46
-	RefusedBadStart            Refusal = 47
-	RefusedBadRange            Refusal = 48
-	RefusedBadSignature        Refusal = 49
-	RefusedNoContradiction     Refusal = 50
-	RefusedConforms            Refusal = 51
-	RefusedBadMagic            Refusal = 60
-	RefusedNotAscending        Refusal = 61
-	RefusedNothingKept         Refusal = 62
-	RefusedNotForMe            Refusal = 70
-	RefusedNotInLog            Refusal = 71
-	RefusedNoAnswerNeeded      Refusal = 72
-	RefusedMemory              Refusal = 99
-	RefusedClosed              Refusal = 110
-	RefusedOtherKind           Refusal = 111
-	RefusedOtherDirectory      Refusal = 112
-	RefusedBadProgram          Refusal = 113
-	RefusedStillOpen           Refusal = 114
-	RefusedNotExposed          Refusal = 115
-	RefusedOutOfRange          Refusal = 116
-	RefusedWrongLength         Refusal = 117
+	RefusedUnknownLmsType        Refusal = 2
+	RefusedUnknownOtsType        Refusal = 3
+	RefusedHeightTooLarge        Refusal = 4
+	RefusedDuplicateNode         Refusal = 20
+	RefusedDuplicateKey          Refusal = 21
+	RefusedTooManyNodes          Refusal = 22
+	RefusedDirectoryBadMagic     Refusal = 23
+	RefusedDirectoryTruncated    Refusal = 24
+	RefusedDirectoryTrailing     Refusal = 25
+	RefusedKeyCount              Refusal = 26
+	RefusedUnlistedNode          Refusal = 27
+	RefusedNodeUnknownNode       Refusal = 30
+	RefusedWrongKey              Refusal = 31
+	RefusedNotMine               Refusal = 32
+	RefusedUnknownSender         Refusal = 33
+	RefusedMessageBadSignature   Refusal = 34
+	RefusedPayloadTooLong        Refusal = 35
+	RefusedKeySpent              Refusal = 36
+	RefusedLogFull               Refusal = 37
+	RefusedBadAck                Refusal = 38
+	RefusedNumberTaken           Refusal = 39
+	RefusedTruncated             Refusal = 40
+	RefusedBadTag                Refusal = 41
+	RefusedTooLong               Refusal = 42
+	RefusedTrailing              Refusal = 43
+	RefusedUnknownNode           Refusal = 44
+	RefusedSelfMessage           Refusal = 45
+	RefusedEmptySegment          Refusal = 46
+	RefusedBadStart              Refusal = 47
+	RefusedBadRange              Refusal = 48
+	RefusedBadSignature          Refusal = 49
+	RefusedNoContradiction       Refusal = 50
+	RefusedConforms              Refusal = 51
+	RefusedBadMagic              Refusal = 60
+	RefusedNotAscending          Refusal = 61
+	RefusedNothingKept           Refusal = 62
+	RefusedNotForMe              Refusal = 70
+	RefusedNotInLog              Refusal = 71
+	RefusedNoAnswerNeeded        Refusal = 72
+	RefusedMemory                Refusal = 99
+	RefusedClosed                Refusal = 110
+	RefusedOtherKind             Refusal = 111
+	RefusedOtherDirectory        Refusal = 112
+	RefusedBadProgram            Refusal = 113
+	RefusedStillOpen             Refusal = 114
+	RefusedNotExposed            Refusal = 115
+	RefusedOutOfRange            Refusal = 116
+	RefusedWrongLength           Refusal = 117
+	RefusedDamaged               Refusal = 122
+	RefusedOtherProgram          Refusal = 123
+	RefusedJournalOtherDirectory Refusal = 124
+	RefusedEmptyJournal          Refusal = 126
+	RefusedNoBeginning           Refusal = 127
+	RefusedOtherKey              Refusal = 128
+	RefusedBadRecord             Refusal = 129
 )
 
 // end
@@ -88,7 +95,7 @@ func (it Refusal) told() (name, sentence string) {
 	case 22:
 		return "TooManyNodes", "The directory lists more nodes than it may."
 	case 23:
-		return "BadMagic", "The directory does not begin as one."
+		return "BadMagic", "The first bytes are not those of a directory."
 	case 24:
 		return "Truncated", "The directory is cut off."
 	case 25:
@@ -100,13 +107,13 @@ func (it Refusal) told() (name, sentence string) {
 	case 30:
 		return "UnknownNode", "The node that is to begin is not listed in the directory."
 	case 31:
-		return "WrongKey", "The key is none of the node's, was used by it before, or has signed already."
+		return "WrongKey", "The key is none of the node's keys, is or was in use, or has signed already."
 	case 32:
 		return "NotMine", "The message is for another node."
 	case 33:
 		return "UnknownSender", "The sender is not listed in the directory, or is this node."
 	case 34:
-		return "BadSignature", "The message's signature names no key of the sender's, or is not valid by the one that it names."
+		return "BadSignature", "No key of the sender verifies the message's signature."
 	case 35:
 		return "PayloadTooLong", "The payload of a message is too long."
 	case 36:
@@ -114,13 +121,13 @@ func (it Refusal) told() (name, sentence string) {
 	case 37:
 		return "LogFull", "The log is full."
 	case 38:
-		return "BadAck", "The acknowledgement is of no message that was sent, or is not valid for it."
+		return "BadAck", "The acknowledgement is for no message that the node sent, or it is not valid."
 	case 39:
-		return "NumberTaken", "Another message of this number was received."
+		return "NumberTaken", "Another message of this sender with this number was received."
 	case 40:
 		return "Truncated", "A text is cut off."
 	case 41:
-		return "BadTag", "A tag, a flag or a form is none of those that there are, or not the one that is asked for."
+		return "BadTag", "A tag, a flag or a form is unknown, or is not the one that is asked for."
 	case 42:
 		return "TooLong", "A length or a count is above its limit."
 	case 43:
@@ -142,7 +149,7 @@ func (it Refusal) told() (name, sentence string) {
 	case 51:
 		return "Conforms", "The segment that a proof presents conforms."
 	case 60:
-		return "BadMagic", "A text does not begin as what it is read as."
+		return "BadMagic", "The first bytes of a text are not those of what it is read as."
 	case 61:
 		return "NotAscending", "The items of a store, or the digests of a summary, do not ascend."
 	case 62:
@@ -158,11 +165,11 @@ func (it Refusal) told() (name, sentence string) {
 	case 110:
 		return "Closed", "The handle is closed."
 	case 111:
-		return "OtherKind", "The handle is of something else, or of another program."
+		return "OtherKind", "The handle is open for something else, or for another program."
 	case 112:
 		return "OtherDirectory", "The two stores are under two directories."
 	case 113:
-		return "BadProgram", "The program is none of those that there are."
+		return "BadProgram", "The program is unknown."
 	case 114:
 		return "StillOpen", "The handle is open."
 	case 115:
@@ -170,7 +177,21 @@ func (it Refusal) told() (name, sentence string) {
 	case 116:
 		return "OutOfRange", "There is nothing at this place or with this number."
 	case 117:
-		return "WrongLength", "The bytes, or the room for them, are not as many as they have to be."
+		return "WrongLength", "The bytes, or the room for them, have another length than they must have."
+	case 122:
+		return "Damaged", "The journal is damaged in a way that no crash causes."
+	case 123:
+		return "OtherProgram", "The journal is of another program."
+	case 124:
+		return "OtherDirectory", "The journal is of another directory."
+	case 126:
+		return "EmptyJournal", "The journal has no text."
+	case 127:
+		return "NoBeginning", "The first text of the journal does not say how a node began."
+	case 128:
+		return "OtherKey", "None of the seeds makes a key that the journal names."
+	case 129:
+		return "BadRecord", "A text of the journal is no record."
 	}
 	return "Unknown", "The number is none that this version knows."
 }

@@ -73,6 +73,46 @@ extern "C" {
         seed: Text,
         seed_len: usize,
     ) -> u8;
+    pub fn bulwynef_journal_block(text: Text, text_len: usize, block: H) -> u8;
+    pub fn bulwynef_journal_end(journal: Text, journal_len: usize, end: *mut usize) -> u8;
+    pub fn bulwynef_node_beginning(
+        program: u8,
+        directory: Text,
+        directory_len: usize,
+        id: u32,
+        first_seq: u64,
+        lms_type: u32,
+        ots_type: u32,
+        key_id: Text,
+        key_id_len: usize,
+        seed: Text,
+        seed_len: usize,
+        text: H,
+    ) -> u8;
+    pub fn bulwynef_record_timer(moment: u64, entropy: Text, entropy_len: usize, text: H) -> u8;
+    pub fn bulwynef_record_answer(challenge: Text, challenge_len: usize, entropy: Text, entropy_len: usize, text: H) -> u8;
+    pub fn bulwynef_record_ack(ack: Text, ack_len: usize, text: H) -> u8;
+    pub fn bulwynef_record_checkpoint(text: H) -> u8;
+    pub fn bulwynef_record_next_key(
+        lms_type: u32,
+        ots_type: u32,
+        key_id: Text,
+        key_id_len: usize,
+        seed: Text,
+        seed_len: usize,
+        text: H,
+    ) -> u8;
+    pub fn bulwynef_node_rebuild(
+        program: u8,
+        directory: Text,
+        directory_len: usize,
+        secrets: Text,
+        secrets_len: usize,
+        journal: Text,
+        journal_len: usize,
+        node: H,
+    ) -> u8;
+    pub fn bulwynef_node_knows(node: H, statement: Text, statement_len: usize, knows: *mut u8) -> u8;
     pub fn bulwynef_text_len(text: H) -> usize;
     pub fn bulwynef_text_copy(text: H, out: *mut u8, out_len: usize) -> u8;
     pub fn bulwynef_close(handle: H);

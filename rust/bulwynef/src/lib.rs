@@ -28,13 +28,16 @@ mod error;
 mod ffi;
 mod handle;
 mod items;
+mod journal;
 mod node;
 mod refusal;
 mod store;
 
 pub use error::Error;
 pub use items::{audit_challenge, check_proof, directory, explain_proof, send_challenge, statement_of, statements_of, Statements};
-pub use node::{Entropy, Key, LmsType, Node, OtsType, PublicKey, Waiting};
+pub use journal::{journal_block, journal_end, node_beginning};
+pub use journal::{record_ack, record_answer, record_checkpoint, record_next_key, record_timer};
+pub use node::{fresh_entropy, Entropy, Key, LmsType, Node, OtsType, PublicKey, Waiting};
 pub use refusal::Refusal;
 pub use store::{Challenges, Store};
 

@@ -23,7 +23,7 @@ pub enum LmsType {
 }
 
 impl LmsType {
-    fn code(self) -> u32 {
+    pub(crate) fn code(self) -> u32 {
         match self {
             LmsType::H5 => 5,
             LmsType::H10 => 6,
@@ -49,7 +49,7 @@ pub enum OtsType {
 }
 
 impl OtsType {
-    fn code(self) -> u32 {
+    pub(crate) fn code(self) -> u32 {
         match self {
             OtsType::W1 => 1,
             OtsType::W2 => 2,
@@ -66,12 +66,17 @@ fn random<const N: usize>() -> Result<[u8; N], Error> {
     Ok(bytes)
 }
 
+/// Random bytes for one call that signs, and for its record.
+pub fn fresh_entropy() -> Result<Entropy, Error> {
+    random()
+}
+
 /// A seed and what else makes a key. A seed signs in one node, in one process, once, so a key is not cloned.
 pub struct Key {
-    lms_type: LmsType,
-    ots_type: OtsType,
-    id: [u8; 16],
-    seed: [u8; 32],
+    pub(crate) lms_type: LmsType,
+    pub(crate) ots_type: OtsType,
+    pub(crate) id: [u8; 16],
+    pub(crate) seed: [u8; 32],
 }
 
 impl Key {
@@ -116,7 +121,9 @@ impl std::fmt::Debug for Key {
     }
 }
 
-/// A node that follows its program, logs what comes and goes, and signs it. It does not outlive its process.
+/// A node that follows its program, logs what comes and goes, and signs it. It ends with its process, unless a journal has each call that
+/// changed it: then [`Node::rebuild`] gives it back. If a call is refused as `Memory` and its record is written, drop the node and rebuild
+/// it.
 pub struct Node {
     handle: Handle,
 }
@@ -144,6 +151,27 @@ impl Node {
                 key.id.len(),
                 key.seed.as_ptr(),
                 key.seed.len(),
+                handle.get()?,
+            )
+        })?;
+        Ok(Node { handle })
+    }
+
+    /// The node of a journal's bytes: it began as the first text says, and did what the further ones record. Each key that the journal
+    /// names is among these.
+    pub fn rebuild(directory: &[u8], keys: &[&Key], journal: &[u8], program: Program) -> Result<Node, Refusal> {
+        let secrets: Vec<u8> = keys.iter().flat_map(|key| key.id.iter().chain(&key.seed)).copied().collect();
+        let mut handle = Handle::closed();
+        // SAFETY: each pointer has its length beside it, and the handle is closed.
+        done(unsafe {
+            ffi::bulwynef_node_rebuild(
+                program as u8,
+                directory.as_ptr(),
+                directory.len(),
+                secrets.as_ptr(),
+                secrets.len(),
+                journal.as_ptr(),
+                journal.len(),
                 handle.get()?,
             )
         })?;
@@ -236,6 +264,15 @@ impl Node {
                 key.seed.len(),
             )
         })
+    }
+
+    /// Whether a statement is another node's, or one that this node signed. If a witness holds one that the node does not know, the journal
+    /// is an old copy, and none of the node's keys may ever sign again. Nothing is verified of the statement here.
+    pub fn knows(&mut self, statement: &[u8]) -> Result<bool, Refusal> {
+        let mut knows = 0;
+        // SAFETY: the pointer has its length beside it, the handle is this node's, and `knows` is written to alone.
+        done(unsafe { ffi::bulwynef_node_knows(self.handle.get()?, statement.as_ptr(), statement.len(), &mut knows) })?;
+        Ok(knows == 1)
     }
 }
 

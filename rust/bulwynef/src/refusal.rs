@@ -57,23 +57,23 @@ refusals! {
     DuplicateNode = 20, "DuplicateNode", "The directory lists a node twice.";
     DuplicateKey = 21, "DuplicateKey", "The directory lists a key twice.";
     TooManyNodes = 22, "TooManyNodes", "The directory lists more nodes than it may.";
-    DirectoryBadMagic = 23, "BadMagic", "The directory does not begin as one.";
+    DirectoryBadMagic = 23, "BadMagic", "The first bytes are not those of a directory.";
     DirectoryTruncated = 24, "Truncated", "The directory is cut off.";
     DirectoryTrailing = 25, "Trailing", "Bytes are left over after the directory.";
     KeyCount = 26, "KeyCount", "The directory lists a node with no key, or with more than it may have.";
     UnlistedNode = 27, "UnlistedNode", "A key is of a node that is not listed.";
     NodeUnknownNode = 30, "UnknownNode", "The node that is to begin is not listed in the directory.";
-    WrongKey = 31, "WrongKey", "The key is none of the node's, was used by it before, or has signed already.";
+    WrongKey = 31, "WrongKey", "The key is none of the node's keys, is or was in use, or has signed already.";
     NotMine = 32, "NotMine", "The message is for another node.";
     UnknownSender = 33, "UnknownSender", "The sender is not listed in the directory, or is this node.";
-    MessageBadSignature = 34, "BadSignature", "The message's signature names no key of the sender's, or is not valid by the one that it names.";
+    MessageBadSignature = 34, "BadSignature", "No key of the sender verifies the message's signature.";
     PayloadTooLong = 35, "PayloadTooLong", "The payload of a message is too long.";
     KeySpent = 36, "KeySpent", "The key in use has too few leaves left.";
     LogFull = 37, "LogFull", "The log is full.";
-    BadAck = 38, "BadAck", "The acknowledgement is of no message that was sent, or is not valid for it.";
-    NumberTaken = 39, "NumberTaken", "Another message of this number was received.";
+    BadAck = 38, "BadAck", "The acknowledgement is for no message that the node sent, or it is not valid.";
+    NumberTaken = 39, "NumberTaken", "Another message of this sender with this number was received.";
     Truncated = 40, "Truncated", "A text is cut off.";
-    BadTag = 41, "BadTag", "A tag, a flag or a form is none of those that there are, or not the one that is asked for.";
+    BadTag = 41, "BadTag", "A tag, a flag or a form is unknown, or is not the one that is asked for.";
     TooLong = 42, "TooLong", "A length or a count is above its limit.";
     Trailing = 43, "Trailing", "Bytes are left over.";
     UnknownNode = 44, "UnknownNode", "A node is not listed.";
@@ -84,7 +84,7 @@ refusals! {
     BadSignature = 49, "BadSignature", "A signature of an item is not valid.";
     NoContradiction = 50, "NoContradiction", "The parts of a proof do not contradict each other, or are of two nodes.";
     Conforms = 51, "Conforms", "The segment that a proof presents conforms.";
-    BadMagic = 60, "BadMagic", "A text does not begin as what it is read as.";
+    BadMagic = 60, "BadMagic", "The first bytes of a text are not those of what it is read as.";
     NotAscending = 61, "NotAscending", "The items of a store, or the digests of a summary, do not ascend.";
     NothingKept = 62, "NothingKept", "No bucket of a short summary is kept.";
     NotForMe = 70, "NotForMe", "The challenge is against another node.";
@@ -92,13 +92,20 @@ refusals! {
     NoAnswerNeeded = 72, "NoAnswerNeeded", "The item is no challenge.";
     Memory = 99, "Memory", "A growth of memory was refused.";
     Closed = 110, "Closed", "The handle is closed.";
-    OtherKind = 111, "OtherKind", "The handle is of something else, or of another program.";
+    OtherKind = 111, "OtherKind", "The handle is open for something else, or for another program.";
     OtherDirectory = 112, "OtherDirectory", "The two stores are under two directories.";
-    BadProgram = 113, "BadProgram", "The program is none of those that there are.";
+    BadProgram = 113, "BadProgram", "The program is unknown.";
     StillOpen = 114, "StillOpen", "The handle is open.";
     NotExposed = 115, "NotExposed", "The items do not expose the node.";
     OutOfRange = 116, "OutOfRange", "There is nothing at this place or with this number.";
-    WrongLength = 117, "WrongLength", "The bytes, or the room for them, are not as many as they have to be.";
+    WrongLength = 117, "WrongLength", "The bytes, or the room for them, have another length than they must have.";
+    Damaged = 122, "Damaged", "The journal is damaged in a way that no crash causes.";
+    OtherProgram = 123, "OtherProgram", "The journal is of another program.";
+    JournalOtherDirectory = 124, "OtherDirectory", "The journal is of another directory.";
+    EmptyJournal = 126, "EmptyJournal", "The journal has no text.";
+    NoBeginning = 127, "NoBeginning", "The first text of the journal does not say how a node began.";
+    OtherKey = 128, "OtherKey", "None of the seeds makes a key that the journal names.";
+    BadRecord = 129, "BadRecord", "A text of the journal is no record.";
 }
 // end
 

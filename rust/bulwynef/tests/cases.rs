@@ -1,6 +1,7 @@
 //! bindings/cases.txt, by this crate. bindings/README.md says how a line is read.
 
 use bulwynef::{audit_challenge, check_proof, explain_proof, send_challenge, statement_of};
+use bulwynef::{journal_block, journal_end, node_beginning, record_ack, record_answer, record_checkpoint, record_next_key, record_timer};
 use bulwynef::{Key, LmsType, Node, OtsType, Program, Refusal, Store};
 use std::collections::HashMap;
 
@@ -50,6 +51,12 @@ impl Runner {
         Key::new(lms_type, ots_type, bytes(self.text(words[2])), bytes(self.text(words[3])))
     }
 
+    /// The keys of a text of secrets, each an identifier and a seed. The journal has their types.
+    fn keys(&self, word: &str) -> Vec<Key> {
+        let secrets = self.text(word).chunks(48);
+        secrets.map(|it| Key::new(LmsType::H5, OtsType::W8, bytes(&it[..16]), bytes(&it[16..]))).collect()
+    }
+
     fn store(&mut self, words: &[&str]) -> Result<Answer, Refusal> {
         if words[0] == "store_open" {
             let store = Store::new(self.text(words[3]), program(words[2]))?;
@@ -94,6 +101,13 @@ impl Runner {
             self.nodes.insert(words[1].into(), node);
             return Ok(Answer::Nothing);
         }
+        if words[0] == "node_rebuild" {
+            let keys = self.keys(words[4]);
+            let keys: Vec<&Key> = keys.iter().collect();
+            let node = Node::rebuild(self.text(words[3]), &keys, self.text(words[5]), program(words[2]))?;
+            self.nodes.insert(words[1].into(), node);
+            return Ok(Answer::Nothing);
+        }
         let mut node = self.nodes.remove(words[1]).expect("a node");
         let answer = self.asked_of(&mut node, words);
         self.nodes.insert(words[1].into(), node);
@@ -111,8 +125,27 @@ impl Runner {
             "node_checkpoint" => Answer::Number(node.checkpoint()?),
             "node_remaining" => Answer::Number(node.remaining()?.into()),
             "node_next_key" => node.next_key(&self.key(&words[2..])).map(|()| Answer::Nothing)?,
+            "node_knows" => flag(node.knows(self.text(words[2]))?),
             other => panic!("no such call: {other}"),
         })
+    }
+
+    /// What belongs to no handle: a block, an end, and the texts of a journal.
+    fn of_journal(&self, words: &[&str]) -> Result<Answer, Refusal> {
+        let text = |place: usize| self.text(words[place]);
+        Ok(Answer::Text(match words[0] {
+            "journal_block" => journal_block(text(1))?,
+            "journal_end" => return Ok(Answer::Number(journal_end(text(1))? as u64)),
+            "node_beginning" => {
+                node_beginning(text(2), number(words[3]) as u32, &self.key(&words[5..]), program(words[1]), number(words[4]))?
+            }
+            "record_timer" => record_timer(number(words[1]), &bytes(text(2)))?,
+            "record_answer" => record_answer(text(1), &bytes(text(2)))?,
+            "record_ack" => record_ack(text(1))?,
+            "record_checkpoint" => record_checkpoint()?,
+            "record_next_key" => record_next_key(&self.key(&words[1..]))?,
+            other => panic!("no such call: {other}"),
+        }))
     }
 
     fn answer(&mut self, words: &[&str]) -> Result<Answer, Refusal> {
@@ -127,6 +160,7 @@ impl Runner {
             }
             "send_challenge" => Answer::Text(send_challenge(self.text(words[1]))?),
             call if call.starts_with("store_") => self.store(words)?,
+            call if call.starts_with("record_") || call.starts_with("journal_") || call == "node_beginning" => self.of_journal(words)?,
             _ => self.node(words)?,
         })
     }
@@ -164,6 +198,8 @@ fn each_call_answers_as_the_cases_say() {
         let words: Vec<&str> = line.split_whitespace().collect();
         if words[0] == "text" {
             runner.texts.insert(words[1].into(), decoded(words.get(2).unwrap_or(&"")));
+        } else if words[0] == "zeros" {
+            runner.texts.insert(words[1].into(), vec![0; number(words[2]) as usize]);
         } else if words[0] != "#" {
             let equals = words.iter().position(|word| *word == "=").expect("an equals sign");
             assert!(runner.is_right(&words[..equals], &words[equals + 1..]), "line {}: another answer", place + 1);

@@ -16,6 +16,7 @@ fn of_c(parameter: &str) -> &'static str {
         _ if is("uint8_t") && pointer => "*mut u8",
         _ if is("uint32_t") && pointer => "*mut u32",
         _ if is("uint64_t") && pointer => "*mut u64",
+        _ if is("size_t") && pointer => "*mut usize",
         _ if is("uint8_t") => "u8",
         _ if is("uint32_t") => "u32",
         _ if is("uint64_t") => "u64",

@@ -1,6 +1,8 @@
-//! What is kept by types and at run time: handles go to other threads, and a child of fork is refused them.
+//! What is kept by types and at run time: handles go to other threads, a child of fork is refused them, and a node is rebuilt of its
+//! journal.
 
-use bulwynef::{directory, statements_of, Indication, Key, Node, Program, Refusal, Store};
+use bulwynef::{directory, fresh_entropy, journal_block, journal_end, node_beginning, record_timer, statements_of};
+use bulwynef::{Indication, Key, Node, Program, Refusal, Store};
 use std::thread;
 
 extern "C" {
@@ -60,6 +62,26 @@ fn a_child_of_fork_is_refused_its_parents_handles() {
         assert_eq!(status >> 8, 7);
     }
     assert_eq!(one.remaining(), Ok(32));
+}
+
+#[test]
+fn a_node_is_rebuilt_of_its_journal() {
+    let (listed, first, second) = scene();
+    let entropy = fresh_entropy().unwrap();
+    let texts = [node_beginning(&listed, 1, &first, Program::Tally, 1).unwrap(), record_timer(5, &entropy).unwrap()];
+    let mut journal: Vec<u8> = texts.iter().flat_map(|text| journal_block(text).unwrap()).collect();
+    journal.push(0);
+    assert_eq!(journal_end(&journal), Ok(journal.len() - 1));
+    let mut one = Node::new(&listed, 1, &first, Program::Tally).unwrap();
+    one.timer_with(5, &entropy).unwrap();
+    let mut back = Node::rebuild(&listed, &[&second, &first], &journal, Program::Tally).unwrap();
+    let seq = one.waiting().next().unwrap().unwrap();
+    let message = one.message(seq).unwrap();
+    assert_eq!((back.message(seq), back.history(), back.remaining()), (Ok(message.clone()), one.history(), Ok(31)));
+    for statement in statements_of(&message) {
+        assert_eq!(back.knows(&statement.unwrap()), Ok(true));
+    }
+    assert_eq!(Node::rebuild(&listed, &[&second], &journal, Program::Tally).err(), Some(Refusal::OtherKey));
 }
 
 #[test]
