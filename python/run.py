@@ -14,7 +14,7 @@ TOP = os.path.dirname(HERE)
 PYTHON = "/usr/bin/python3"
 PACKAGES = {"pip": "python3-pip", "pytest": "python3-pytest"}
 NETWORK = [f"{TOP}/examples/network/run.py", "--seconds", "12", "--mails", "48", "--w", "4"]
-FAULTS = [[], ["--faults", "drops=2,mangles=3,silent=5", "--kill"]]
+FAULTS = [[], ["--faults", "drops=2,mangles=3,silent=5", "--kill", "0.1"]]
 
 
 def has(module):

@@ -1,6 +1,7 @@
 """What several tests begin with: two nodes of Tally, a message and two acknowledgements of one node under one number."""
 
 import os
+import signal
 
 from bulwynef import Key, Node, Program, directory
 
@@ -29,3 +30,18 @@ def exchanged():
         assert one.waiting() == []
         one.timer(6)
         return message, ack, liar.answer(first_message(one))
+
+
+def in_a_child(does, seconds=60):
+    """A child that was forked off, and what it writes; it ends after some time."""
+    out, into = os.pipe()
+    child = os.fork()
+    if child == 0:
+        try:
+            os.close(out)
+            signal.alarm(seconds)
+            does(into)
+        finally:
+            os._exit(0)
+    os.close(into)
+    return child, open(out, "rb")

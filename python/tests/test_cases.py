@@ -6,8 +6,26 @@ import pytest
 from scene import TOP
 
 from bulwynef import Key, Node, Program, Refusal, Store, audit_challenge, check_proof, explain_proof, send_challenge, statement_of
+from bulwynef.library import SIZE, U8, Opened, call, text, told
 
 OUT_OF_RANGE, NOT_EXPOSED = 116, 115
+
+
+def sized(*texts):
+    """Each text with its length behind it."""
+    return [word for it in texts for word in (it, len(it))]
+
+
+class Rebuilt(Node):
+    """A node of the bytes of a journal."""
+
+    def __init__(self, program, directory, secrets, journal):
+        Opened.__init__(self)
+        with self._mine() as at:
+            call("node_rebuild", program, *sized(directory, secrets, journal), at)
+
+    def knows(self, statement):
+        return self._told(U8, "node_knows", *sized(statement))
 
 
 def at(found, place):
@@ -58,6 +76,18 @@ CALLS = {
     "node_checkpoint": lambda it, name: it.at[name].checkpoint(),
     "node_remaining": lambda it, name: it.at[name].remaining(),
     "node_next_key": lambda it, name, lms, ots, identifier, seed: it.at[name].next_key(Key(identifier, seed, lms, ots)),
+    "journal_block": lambda _, record: text("journal_block", *sized(record)),
+    "journal_end": lambda _, journal: told(SIZE, "journal_end", *sized(journal)),
+    "node_beginning": lambda _, program, directory, node, first, lms, ots, identifier, seed: text(
+        "node_beginning", program, *sized(directory), node, first, *Key(identifier, seed, lms, ots).words()
+    ),
+    "record_timer": lambda _, moment, entropy: text("record_timer", moment, *sized(entropy)),
+    "record_answer": lambda _, challenge, entropy: text("record_answer", *sized(challenge, entropy)),
+    "record_ack": lambda _, ack: text("record_ack", *sized(ack)),
+    "record_checkpoint": lambda _: text("record_checkpoint"),
+    "record_next_key": lambda _, lms, ots, identifier, seed: text("record_next_key", *Key(identifier, seed, lms, ots).words()),
+    "node_rebuild": lambda it, name, program, directory, secrets, journal: it.open(name, Rebuilt(program, directory, secrets, journal)),
+    "node_knows": lambda it, name, statement: it.at[name].knows(statement),
 }
 
 
@@ -71,18 +101,18 @@ class Runner:
     def value(self, word):
         return self.texts[word[1:]] if word.startswith("@") else int(word) if word.isdigit() else word
 
-    def answer(self, call, words):
+    def answer(self, asked, words):
         """The number, and what is answered beside it."""
         try:
-            told = CALLS[call](self, *map(self.value, words))
+            answer = CALLS[asked](self, *map(self.value, words))
         except Refusal as refusal:
             return [refusal.number]
-        return [0] if told is None else [0, told]
+        return [0] if answer is None else [0, answer]
 
     def is_right(self, line):
-        asked, _, told = line.partition(" = ")
-        call, *words = asked.split()
-        found, wanted = self.answer(call, words), told.split()
+        left, _, right = line.partition(" = ")
+        asked, *words = left.split()
+        found, wanted = self.answer(asked, words), right.split()
         if wanted[-1].startswith(">"):
             self.texts[wanted[-1][1:]] = found[-1]
             return found[0] == 0
@@ -96,6 +126,9 @@ def test_each_call_answers_as_the_cases_say():
             if line.startswith("text "):
                 _, name, *digits = line.split()
                 runner.texts[name] = bytes.fromhex("".join(digits))
+            elif line.startswith("zeros "):
+                _, name, count = line.split()
+                runner.texts[name] = bytes(int(count))
             elif not line.startswith("#"):
                 calls += 1
                 if not runner.is_right(line):

@@ -3,13 +3,12 @@
 import contextlib
 import ctypes
 import enum
-import itertools
 import operator
 import os
-import threading
-from typing import Any, Iterator, List, NamedTuple, Tuple, TypeVar
+from typing import Any, Dict, Iterator, List, NamedTuple, TypeVar
 
 from .errors import Refusal
+from .processes import Owned
 
 Self = TypeVar("Self", bound="Opened")
 
@@ -54,7 +53,7 @@ KEY = [Number("LMS type", U32), Number("LM-OTS type", U32), *TEXT, *TEXT]
 ROOM = [ctypes.POINTER(ctypes.c_char), Number("length", SIZE)]
 
 # What each call takes; each but two answers the number of a refusal, or 0.
-CALLS = {
+CALLS: Dict[str, List[Any]] = {
     "check_proof": [PROGRAM, *TEXT, *TEXT, ctypes.POINTER(U32)],
     "explain_proof": [PROGRAM, *TEXT, *TEXT, HANDLE],
     "statement_of": [*TEXT, PLACE, HANDLE],
@@ -86,6 +85,16 @@ CALLS = {
     "node_checkpoint": [HANDLE, ctypes.POINTER(U64)],
     "node_remaining": [HANDLE, ctypes.POINTER(U32)],
     "node_next_key": [HANDLE, *KEY],
+    "journal_block": [*TEXT, HANDLE],
+    "journal_end": [*TEXT, ctypes.POINTER(SIZE)],
+    "node_beginning": [PROGRAM, *TEXT, NODE, Number("first number", U64), *KEY, HANDLE],
+    "record_timer": [Number("moment", U64), *TEXT, HANDLE],
+    "record_answer": [*TEXT, *TEXT, HANDLE],
+    "record_ack": [*TEXT, HANDLE],
+    "record_checkpoint": [HANDLE],
+    "record_next_key": [*KEY, HANDLE],
+    "node_rebuild": [PROGRAM, *TEXT, *TEXT, *TEXT, HANDLE],
+    "node_knows": [HANDLE, *TEXT, ctypes.POINTER(U8)],
     "text_copy": [HANDLE, *ROOM],
 }
 
@@ -152,45 +161,20 @@ def each(at: Any) -> List[Any]:
             return found
 
 
-class Process:
-    """How often this process and those that it was forked off were forked off."""
-
-    forks = 0
-
-    @classmethod
-    def has_forked(cls) -> None:
-        cls.forks += 1
-
-    @classmethod
-    def name(cls) -> Tuple[int, int]:
-        """This process and none before it; the system's number alone may come again."""
-        return os.getpid(), cls.forks
-
-
-os.register_at_fork(after_in_child=Process.has_forked)
-
-
-class Opened:
+class Opened(Owned):
     """What lies behind a handle: a context manager that closes it.
 
     Threads may share it: it has a lock, and one call at a time. A child that was forked off may not: a call there is a RuntimeError, as
     parent and child would sign by one leaf of a key."""
 
-    _opened = itertools.count()
-
     def __init__(self) -> None:
-        self._handle, self._lock = Handle(), threading.RLock()
-        self._process, self._number = Process.name(), next(Opened._opened)
+        super().__init__()
+        self._handle = Handle()
 
     @contextlib.contextmanager
     def _mine(self, *others: "Opened") -> Iterator[Any]:
-        """The handle, while no other thread has it or the others, which every thread takes in one order."""
-        for it in (self, *others):
-            if it._process != Process.name():
-                raise RuntimeError("this handle was opened before fork, and is its parent's: open another one here, with a key of its own")
-        with contextlib.ExitStack() as held:
-            for it in sorted((self, *others), key=lambda it: it._number):
-                held.enter_context(it._lock)
+        """The handle, while no other thread has it or the others."""
+        with self._held(*others):
             yield ctypes.byref(self._handle)
 
     def _call(self, name: str, *words: Any) -> None:
@@ -208,9 +192,9 @@ class Opened:
     def close(self) -> None:
         """Lets go of what lies behind the handle. What is closed stays closed; each later call is refused (110). In a child that was
         forked off it does nothing."""
-        if self._process == Process.name():
-            with self._mine() as at:
-                LIBRARY.bulwynef_close(at)
+        if self._is_mine():
+            with self._held():
+                LIBRARY.bulwynef_close(ctypes.byref(self._handle))
 
     def __enter__(self: Self) -> Self:
         return self
@@ -219,14 +203,5 @@ class Opened:
         self.close()
 
     def __del__(self) -> None:
-        if getattr(self, "_number", None) is not None:
+        if hasattr(self, "_handle"):
             self.close()
-
-    def __copy__(self) -> "Opened":
-        raise TypeError("a handle is not copied: open another one")
-
-    def __deepcopy__(self, _: Any) -> "Opened":
-        raise TypeError("a handle is not copied: open another one")
-
-    def __reduce__(self) -> Any:
-        raise TypeError("a handle is not pickled: export its text")

@@ -49,8 +49,8 @@ def directory(nodes: Dict[int, Sequence[bytes]]) -> bytes:
 
 
 class Node(Opened):
-    """A node that follows its program, logs what comes and goes, and signs it. It does not outlive its process: its keys must not sign
-    in another one, and a child that is forked off is refused it."""
+    """A node that follows its program, logs what comes and goes, and signs it. It does not outlive its process, as `KeptNode` does: its
+    keys must not sign in another one, and a child that is forked off is refused it."""
 
     def __init__(self, directory: bytes, me: int, key: Key, program: Program, first_seq: int = 1) -> None:
         super().__init__()
