@@ -3,7 +3,7 @@
 #
 # RUN is a folder that all machines have under this name. Line N of RUN/stores, from 1 on, is the store's file. Its shard k goes to
 # RUN/parts/k/N.k-of-K, and what each shard counts to RUN/counts/N, last: where that stands, all parts of the store stand. RUN/how, where it
-# stands, has the words that say how items are dealt: `--by range --width W`, or `--extract`, for which RUN/nodes is the directory.
+# stands, has `--extract`, so that quotes go in place of segments; RUN/nodes is the directory for it.
 set -eu
 run=$1 count=$2 number=$3
 here=$(dirname "$0")

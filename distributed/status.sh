@@ -1,6 +1,5 @@
 #!/bin/sh
-# status.sh RUN K k --program NAME [WORDS..]: asks shard k of K, and writes the lines of its nodes to RUN/told/k; where RUN/how deals by ranges, those of all
-# nodes. It may run twice, and anywhere.
+# status.sh RUN K k --program NAME [WORDS..]: asks shard k of K, and writes the lines of its nodes to RUN/told/k. It may run twice, and anywhere.
 #
 # RUN/nodes is the directory; the words behind k go to `bulwynef status`. Before anything is asked each store's shard k must be
 # there, with as many items as `split` counted: a part that is lost, or of another K, ends the task with 1.
@@ -22,8 +21,7 @@ while [ "$number" -lt "$stores" ]; do
     [ "$found" = "$wanted" ] || lost "$part has $found items and not $wanted"
     set -- "$@" "$part"
 done
-case $(cat "$run/how" 2> /dev/null || true) in *range*) ;; *) set -- --part "$k/$count" "$@" ;; esac
 own=$(mktemp "$run/told/new.XXXXXX")
 trap 'rm -f "$own"' EXIT
-"${BULWYNEF:-$here/../crates/bulwynef/out/bulwynef}" status --directory "$run/nodes" "$@" > "$own" || [ $? = 3 ]
+"${BULWYNEF:-$here/../crates/bulwynef/out/bulwynef}" status --part "$k/$count" --directory "$run/nodes" "$@" > "$own" || [ $? = 3 ]
 mv -f "$own" "$run/told/$k"

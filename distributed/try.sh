@@ -1,6 +1,6 @@
 #!/bin/sh
 # try.sh [PROGRAM]: distributed runs on this machine alone. 200 stores (STORES) are asked in 8 shards (SHARDS) on three machines, which are three sshd
-# on loopback ports with keys of their own: by ranges, of extracts, and by nodes. The lines must be those of one process that is asked of all. In
+# on loopback ports with keys of their own: of extracts, and with whole segments. The lines must be those of one process that is asked of all. In
 # the last run one machine is killed in the middle; then a part is taken away, which must be seen.
 #
 # Wants Debian's packages openssh-server and parallel, which it installs where they are missing, and crates/bulwynef/out/bulwynef or PROGRAM.
@@ -69,26 +69,21 @@ begin() {
     ls "$room"/evidence/*.store > "$1/stores"
 }
 
-# ---- the same by three machines, of ranges, where the worst of all parts counts, and of extracts
+# ---- the same by three machines, of extracts
 
-# Asks all in a folder of its own, dealt by these words.
-is_equal() {
-    begin "$room/$1"
-    echo "$2" > "$room/$1/how"
-    status=0
-    "$here/run.sh" "$room/hosts" "$SHARDS" "$room/$1" --program tally > "$room/told" 2> "$room/errors" || status=$?
-    cmp "$room/wanted" "$room/told" || { cat "$room/errors" >&2; exit 1; }
-    [ "$status" = 3 ]
-    echo "equal: $(wc -l < "$room/told") nodes, dealt by $2; $(cat "$room/$1"/counts/* | awk '{ items += $2 } END { print items }') items in all parts"
-}
-is_equal ranges '--by range --width 4'
-is_equal extracts '--extract'
+run=$room/extracts
+begin "$run"
+echo --extract > "$run/how"
+status=0
+"$here/run.sh" "$room/hosts" "$SHARDS" "$run" --program tally > "$room/told" 2> "$room/errors" || status=$?
+cmp "$room/wanted" "$room/told" || { cat "$room/errors" >&2; exit 1; }
+[ "$status" = 3 ]
+echo "equal: $(wc -l < "$room/told") nodes, of extracts; $(cat "$run"/counts/* | awk '{ items += $2 } END { print items }') items in all parts"
+
+# ---- the same of whole segments, where one machine is killed once a quarter of the stores is split
 
 run=$room/run
 begin "$run"
-
-# ---- the same by nodes, where one machine is killed once a quarter of the stores is split
-
 (
     while [ "$(ls "$run/counts" 2> /dev/null | wc -l)" -lt $((STORES / 4)) ]; do sleep 0.05; done
     end "$last"
@@ -98,7 +93,7 @@ killer=$!
 status=0
 "$here/run.sh" "$room/hosts" "$SHARDS" "$run" --program tally > "$room/told" 2> "$room/errors" || status=$?
 wait "$killer"
-sort -n "$room/wanted" | cmp - "$room/told" || { cat "$room/errors" >&2; exit 1; }
+cmp "$room/wanted" "$room/told" || { cat "$room/errors" >&2; exit 1; }
 [ "$status" = 3 ]
 failed=$(awk 'NR > 1 && $7 != 0' "$run/split.log" "$run/status.log" | wc -l)
 [ "$failed" -gt 0 ] || { echo "try.sh: no try failed, so the killed machine had none" >&2; exit 1; }

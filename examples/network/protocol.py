@@ -11,8 +11,10 @@ HOST = "127.0.0.1"
 # a summary, a report, the export, an end
 ANSWER, TAKE, CHALLENGE, OUTLINE, PACK, REPORT, EXPORT, END = b"ATCOPRXE"
 LONGEST_FRAME = 1 << 28
-# the tags of items
+# the tags of items, the kinds of entries, and the kinds of records of a node's journal
 SEGMENT, AUDIT, MESSAGE, ACK = 2, 3, 4, 5
+SEND, RECV = 2, 3
+RECEIVED, TICKED, ACKNOWLEDGED, REKEYED = 1, 2, 4, 5
 
 
 # ---- frames: a length in four bytes, a letter, and the rest
@@ -125,6 +127,11 @@ def items_of(pack):
     return in_turn(pack[16:])
 
 
+def message_of(sender, receiver, seq_and_hash, signature, payload):
+    """The item of a message, of its fields."""
+    return bytes([MESSAGE]) + sender + receiver + seq_and_hash + with_length(signature) + with_length(payload)
+
+
 class Message:
     """Of whom and for whom the message of an item of tag 4 or 5 is, its number, and its payload."""
 
@@ -132,6 +139,16 @@ class Message:
         self.name = self.sender, self.receiver, self.seq = struct.unpack(">IIQ", item[1:17])
         _, at = field(item, 49)
         self.payload, _ = field(item, at)
+
+
+def received(record):
+    """The message of a record of a receipt, behind the entropy and its length."""
+    return record[37:]
+
+
+def acknowledged(record, message_of):
+    """The acknowledgement of a record of one: it has the message's number, and not the message."""
+    return bytes([ACK]) + message_of(int.from_bytes(record[5:13], "big"))[1:] + record[13:]
 
 
 def whose(statement):

@@ -2,32 +2,41 @@
 
 It writes and leaves mails for the others, sends what waits until it is acknowledged, and hands the statements that it gets to a witness.
 What nobody acknowledges it hands to both witnesses as a challenge, who give it the acknowledgement that they get. Relay 1 keeps the mails.
+
+Its node has a journal. One that was killed is the node that it was, sends again what waits, and hands on again the statements that its journal
+has.
 """
 
 import asyncio
+import hashlib
 import json
+import os
 import random
 import sys
 import time
 
 import protocol
-from bulwynef import Key, Node, Program, Refusal, statement_of
+from bulwynef import KeptNode, Key, Program, Refusal, statement_of, texts_in
 
 KEEPER = 1
 TRIES = 3
 KEY_SPENT = 36
-# How many messages are on their way at once, how many steps stand between checkpoints, and how many leaves a key keeps back
-AT_ONCE, STEPS, LEAST_LEAVES = 12, 32, 24
+# How many messages are on their way at once, how many statements are handed on at once, how many steps stand between checkpoints, and how
+# many leaves a key keeps back
+AT_ONCE, STATEMENTS, STEPS, LEAST_LEAVES = 12, 256, 32, 24
+
+
+# The moment that fetches mails; the first byte of one that leaves a mail, and what stands below that of one that writes one to seven bytes of it
+FETCH, LEAVES, WRITES = 0x80 << 56, 0x88, 0x80
 
 
 def wishes(text, to):
     """The moments of the timer that write a text and leave it for a node (docs/PROGRAMS.md)."""
     pieces = [text[at : at + 7] for at in range(0, len(text), 7)]
-    wanted = [int.from_bytes(bytes([0x80 + len(p)]) + bytes(7 - len(p)) + p, "big") for p in pieces]
-    return [*wanted, int.from_bytes(b"\x88\0\0\0" + to.to_bytes(4, "big"), "big")]
+    wanted = [int.from_bytes(bytes([WRITES + len(p)]) + bytes(7 - len(p)) + p, "big") for p in pieces]
+    return [*wanted, LEAVES << 56 | to]
 
 
-FETCH = 0x80 << 56
 # Who has a second node by its key; and of these, who drops mails.
 TWOFOLD, DROPS = ("drops", "forks", "mangles"), ("drops", "mangles")
 
@@ -41,21 +50,36 @@ class Relay:
     def __init__(self, told):
         self.me, self.told, self.fault = told["me"], told, told["fault"]
         self.ports = {int(node): port for node, port in told["ports"].items()}
-        self.keys = [Key(bytes.fromhex(key_id), bytes.fromhex(seed), *types) for key_id, seed, *types in told["keys"]]
+        keys = [Key(bytes.fromhex(key_id), bytes.fromhex(seed), *types) for key_id, seed, *types in told["keys"]]
         listed = bytes.fromhex(told["directory"])
         # Who modifies mails runs another program. Who drops them, or tells two histories, has a second node by its key.
         program = Program.RELAY if self.fault == "modifies" else Program.MAILBOX
-        self.node = Node(listed, self.me, self.keys.pop(0), program)
-        self.other = Node(listed, self.me, Key(*self.first_key()), program) if self.fault in TWOFOLD else None
+        journals = [told["journal"], told["journal"] + ".other"][: 1 + (self.fault in TWOFOLD)]
+        nodes = [KeptNode(path, program, listed, self.me, keys, may_begin=told["may_begin"]) for path in journals]
+        self.node, self.other = nodes[0], nodes[1] if nodes[1:] else None
         self.link = protocol.Link(told)
         self.random = random.Random(told["seed_of_link"] + 1)
         self.mails = self.mail_bytes = self.signatures = self.steps = self.refused = 0
         self.tries, self.due, self.sides, self.statements = {}, {}, {}, {}
-        self.began, self.is_over, self.fault_at = time.monotonic(), False, None
+        self.began, self.is_over, self.fault_at = time.monotonic() - told["age"], False, None
+        self.handed_on = os.open(told["handed_on"], os.O_WRONLY | os.O_CREAT | os.O_APPEND, 0o600)
+        for node, path in zip(nodes, journals):
+            self.take_up(node, texts_in(path)[1:])
+        # Those of the keys are left that no record goes over to.
+        self.keys = keys[1 + sum(text[0] == protocol.REKEYED for text in texts_in(journals[0])) :]
 
-    def first_key(self):
-        key_id, seed, *types = self.told["keys"][0]
-        return bytes.fromhex(key_id), bytes.fromhex(seed), *types
+    def take_up(self, node, records):
+        """Notes what a node's journal says: which node answered which message, the statements that the relay got, and the mails that it left."""
+        for record in records:
+            if record[0] == protocol.TICKED:
+                self.mails += record[33] == LEAVES
+                self.mail_bytes += record[33] - WRITES if WRITES < record[33] < LEAVES else 0
+            elif record[0] == protocol.RECEIVED:
+                message = protocol.received(record)
+                self.sides[protocol.Message(message).name] = node
+                self.note(statement_of(message))
+            elif record[0] == protocol.ACKNOWLEDGED:
+                self.note(statement_of(protocol.acknowledged(record, node.message), 1))
 
     def age(self):
         return time.monotonic() - self.began
@@ -136,14 +160,18 @@ class Relay:
             self.errs()
         self.renew()
         if self.random.random() < 0.4:
-            self.node.timer(FETCH)
+            self.tick([FETCH])
         else:
             text = f"mail {self.mails} of {self.me}: {'x' * self.random.randrange(100)}".encode()
-            for moment in wishes(text, self.random.choice([node for node in self.ports if node not in (self.me, KEEPER)])):
-                self.node.timer(moment)
+            self.tick(wishes(text, self.random.choice([node for node in self.ports if node not in (self.me, KEEPER)])))
             self.mails += 1
             self.mail_bytes += len(text)
         self.step()
+
+    def tick(self, moments):
+        """Ticks the timer at each moment, by one group of records."""
+        for refusal in filter(None, self.node.timer_all(moments)):
+            raise refusal
 
     async def fork(self):
         """Tells the keeper the other history: something else under the numbers that the first one has."""
@@ -163,7 +191,9 @@ class Relay:
         self.accept(await self.link.ask(self.ports[receiver], protocol.ANSWER, item, "messages"))
         if self.tries[seq] >= TRIES and seq in self.node.waiting():
             for port in self.told["witnesses"]:
-                self.accept(await self.link.ask(port, protocol.CHALLENGE, item, "challenges"))
+                ack = await self.link.ask(port, protocol.CHALLENGE, item, "challenges")
+                self.is_handed_on([item] if ack is not None else [])
+                self.accept(ack)
 
     def accept(self, ack):
         """Accepts an acknowledgement, whose statement goes to a witness."""
@@ -177,13 +207,18 @@ class Relay:
 
     async def hand_on(self):
         """Hands the statements that it keeps to a witness, who has them when he says so."""
-        items = list(self.statements)
+        items = list(self.statements)[:STATEMENTS]
         if not items:
             return
         body = b"".join(map(protocol.with_length, items))
         if await self.link.ask(self.random.choice(self.told["witnesses"]), protocol.TAKE, body, "statements") is not None:
+            self.is_handed_on(items)
             for item in items:
                 self.statements.pop(item, None)
+
+    def is_handed_on(self, items):
+        """Notes what a witness acknowledged, for whoever tests in the end that nothing of it is missing."""
+        os.write(self.handed_on, b"".join(hashlib.sha256(item).digest() for item in items))
 
     async def turn(self):
         wanted = self.age() / self.told["every"]
@@ -199,7 +234,8 @@ class Relay:
         await self.hand_on()
 
     async def live(self):
-        while not self.is_over:
+        """Works until it is told to end. A node that is closed for good is one more reason to end."""
+        while not self.is_over and not self.node.closed_by:
             await self.turn()
             await asyncio.sleep(0.05)
 
@@ -209,6 +245,8 @@ async def main():
     async with await protocol.serve(relay.ports[relay.me], relay.handle):
         print("ready", flush=True)
         await asyncio.wait_for(relay.live(), relay.told["seconds"] + 180)
+    if relay.node.closed_by:
+        raise Refusal(relay.node.closed_by)
 
 
 if __name__ == "__main__":

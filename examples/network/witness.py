@@ -1,88 +1,44 @@
 """A witness: a store of evidence in a process of its own.
 
 It takes the statements that relays hand it, challenges relays in turns to show their logs, hands challenges that nothing answers to their
-relays, and exchanges what it has with the other witness by outlines, summaries and packs. What it takes is on disk before it answers anybody,
-so one that was killed takes up again all that it told.
+relays, and exchanges what it has with the other witness by outlines, summaries and packs. Its store has a journal: what it takes is on disk
+before it answers anybody, so one that was killed takes up again all that it told.
 """
 
 import asyncio
 import json
-import os
 import sys
 import time
 
 import protocol
-from bulwynef import Indication, Program, Refusal, Store, audit_challenge, statements_of
+from bulwynef import Indication, KeptStore, Program, Refusal, audit_challenge, statements_of, texts_in
 
 # How many open challenges of a relay are handed to it in a turn
 AT_ONCE = 6
-
-
-class Kept:
-    """A file of items, each behind its length. What its writer had begun to write when it died is cut off: nobody was answered by it."""
-
-    def __init__(self, path):
-        self.file, self.is_behind = open(path, "ab+"), True
-        folder = os.open(os.path.dirname(os.path.abspath(path)), os.O_RDONLY)
-        os.fsync(folder)
-        os.close(folder)
-
-    def whole(self):
-        """The items that are there, before others are added."""
-        self.file.seek(0)
-        data, end = self.file.read(), 0
-        while end + 4 <= len(data) and protocol.field(data, end)[1] <= len(data):
-            end = protocol.field(data, end)[1]
-        self.file.truncate(end)
-        return protocol.in_turn(data[:end])
-
-    def add(self, item):
-        self.file.write(protocol.with_length(item))
-        self.is_behind = True
-
-    def sync(self):
-        """Returns once all is on disk that was added."""
-        if self.is_behind:
-            self.file.flush()
-            os.fsync(self.file.fileno())
-            self.is_behind = False
 
 
 class Witness:
     def __init__(self, told):
         self.told = told
         self.ports = {int(node): port for node, port in told["ports"].items()}
-        self.store = Store(bytes.fromhex(told["directory"]), Program.MAILBOX)
+        self.store = KeptStore(told["kept"], Program.MAILBOX, bytes.fromhex(told["directory"]))
         self.link = protocol.Link(told)
         # of each relay: the number and the latest statement that was seen, those up to which its log is here, and when it was exposed
         self.latest, self.shown, self.exposed_at = {}, {}, {}
         # by a message's name, its acknowledgement
         self.acks, self.asked_last, self.taken, self.refused = {}, set(), 0, 0
-        self.began, self.is_over, self.turns = time.monotonic(), False, 0
-        self.kept = Kept(told["kept"])
-        for item in self.kept.whole():
-            self.take_up(item)
-
-    def take_up(self, item):
-        """Takes an item that was kept."""
-        try:
-            self.taken += self.store.take(item)
+        self.began, self.is_over, self.turns = time.monotonic() - told["age"], False, 0
+        for item in texts_in(told["kept"])[2:]:
+            self.taken += 1
             self.notice(item)
-        except Refusal:
-            self.refused += 1
 
     # ---- what others ask
 
     def handle(self, kind, body):
-        """The answer, once all that it may come from is on disk."""
-        answer = self.answer(kind, body)
-        self.kept.sync()
-        return answer
-
-    def answer(self, kind, body):
+        """The answer. All that it may come from is on disk."""
         try:
             if kind == protocol.TAKE:
-                return self.take_all(body)
+                return self.take_all([*protocol.in_turn(body)])
             if kind == protocol.CHALLENGE:
                 self.take(body)
                 return self.acks.get(protocol.Message(body).name, b"")
@@ -90,30 +46,29 @@ class Witness:
                 return self.store.outline()
             if kind == protocol.PACK:
                 return self.store.pack(body)
+            if kind == protocol.REPORT:
+                return json.dumps(self.report()).encode()
+            if kind == protocol.EXPORT:
+                return self.store.export()
         except Refusal:
             self.refused += 1
             return None
-        if kind == protocol.REPORT:
-            return json.dumps(self.report()).encode()
-        if kind == protocol.EXPORT:
-            return self.store.export()
         self.is_over = self.is_over or kind == protocol.END
         return b""
 
-    def take_all(self, body):
-        """Takes each item; what is refused is no evidence, and is dropped."""
-        for item in protocol.in_turn(body):
-            try:
-                self.take(item)
-            except Refusal:
+    def take_all(self, items):
+        """Takes items as one group; what is refused is no evidence, and is dropped."""
+        for item, is_new in zip(items, self.store.take_all(items)):
+            if isinstance(is_new, Refusal):
                 self.refused += 1
+            else:
+                self.taken += is_new
+                self.notice(item)
         return b""
 
     def take(self, item):
         """Takes an item, and keeps in mind what it tells."""
-        if self.store.take(item):
-            self.taken += 1
-            self.kept.add(item)
+        self.taken += self.store.take(item)
         self.notice(item)
 
     def notice(self, item):
@@ -164,8 +119,6 @@ class Witness:
             if pack:
                 try:
                     self.taken += self.store.apply(pack)
-                    for item in protocol.items_of(pack):
-                        self.kept.add(item)
                 except Refusal:
                     self.refused += 1
 
@@ -183,7 +136,8 @@ class Witness:
             self.asked_last.update(node for node in nodes if node not in self.asked_last and self.audit(node))
 
     async def live(self):
-        while not self.is_over:
+        """Works until it is told to end. A store that its disk has failed for good is one more reason to end."""
+        while not self.is_over and not self.store.closed_by:
             self.turns += 1
             self.audit_in_turn()
             await asyncio.gather(*(self.settle(node) for node in self.ports))
@@ -198,6 +152,8 @@ async def main():
     async with await protocol.serve(witness.told["port"], witness.handle):
         print("ready", flush=True)
         await asyncio.wait_for(witness.live(), witness.told["seconds"] + 180)
+    if witness.store.closed_by:
+        raise Refusal(witness.store.closed_by)
 
 
 if __name__ == "__main__":
