@@ -1,5 +1,4 @@
-//! Tests of the public calls of `shards`, and of `status_lines`, which says what parts together say.
+//! Tests of the public calls of `shards`.
 
 mod calls;
 mod dealing;
-mod lines;

@@ -9,7 +9,7 @@ use std::test::Fail;
 /// A hash of 32 zero bytes.
 pub const ZEROS: Hash = Hash([0; 32]);
 
-/// The entry with this number, kind and content.
+/// Returns the entry with this number, kind and content.
 pub fn entry(alloc: Global, seq: u64, kind: u8, content: &[u8]) -> Result<Entry, Fail> {
     Ok(Entry {
         seq,
@@ -18,7 +18,7 @@ pub fn entry(alloc: Global, seq: u64, kind: u8, content: &[u8]) -> Result<Entry,
     })
 }
 
-/// What a RECV entry quotes of the message.
+/// Returns what a RECV entry quotes of the message.
 fn quote(alloc: Global, message: &Message) -> Result<ByteString, Fail> {
     let mut content = Vec::new(alloc);
     content.extend_from_slice(&message.from.0.to_be_bytes())?;
@@ -30,7 +30,7 @@ fn quote(alloc: Global, message: &Message) -> Result<ByteString, Fail> {
     Ok(ByteString::from_vec(content))
 }
 
-/// The receipt of the message: the RECV entry with this number.
+/// Returns the receipt of the message: the RECV entry with this number.
 pub fn receipt(alloc: Global, seq: u64, message: &Message) -> Result<Entry, Fail> {
     Ok(Entry {
         seq,
@@ -39,7 +39,7 @@ pub fn receipt(alloc: Global, seq: u64, message: &Message) -> Result<Entry, Fail
     })
 }
 
-/// The bytes, of which the last is another one.
+/// Returns the bytes with the lowest bit of the last byte turned over.
 pub fn turned(bytes: ByteString) -> ByteString {
     let mut bytes = bytes.into_vec();
     if let Some(last) = bytes.last_mut() {
@@ -60,8 +60,8 @@ const fn log_entry(seq: u64, kind: u8, content: &'static [u8]) -> Logged {
     Logged { seq, kind, content }
 }
 
-/// The entries of node 2's log from one number to another, of six: its timer ticks three times, and behind the first and the last
-/// tick it makes a checkpoint. No message is due.
+/// Returns the entries of node 2's log from one number to another. The log has six entries: its timer ticks three times, and it makes a
+/// checkpoint after the first and after the last tick. No message is due.
 pub(crate) fn entries_of_log(alloc: Global, from: u64, to: u64) -> Result<Vec<Entry>, Fail> {
     let mut entries = Vec::new(alloc);
     for it in [
@@ -79,7 +79,7 @@ pub(crate) fn entries_of_log(alloc: Global, from: u64, to: u64) -> Result<Vec<En
     Ok(entries)
 }
 
-/// The hash of an entry of node 2's log, by its number; of 0 the hash before the first.
+/// Returns the hash of the entry with this number of node 2's log. For 0 it returns the hash before the first entry.
 pub(crate) fn hash_in_log(alloc: Global, seq: u64) -> Result<Hash, Fail> {
     let entries = entries_of_log(alloc, 1, seq)?;
     Ok(chain_end(base_hash(), &entries))

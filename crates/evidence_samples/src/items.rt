@@ -14,13 +14,13 @@ use std::test::Fail;
 /// Where a segment of node 2 begins.
 #[derive(Clone, Copy)]
 pub enum Start {
-    /// With INIT under the number 1.
+    /// It begins with INIT, which has the number 1.
     Init,
-    /// With a CHECKPOINT of the total 0 under the number 1, after a hash of 32 zero bytes.
+    /// It begins with a CHECKPOINT of the total 0, which has the number 1, after a hash of 32 zero bytes.
     Checkpoint,
 }
 
-/// The hash before a segment of node 2 that begins so, and its first entry.
+/// Returns the hash before a segment of node 2 that begins so, and its first entry.
 fn beginning(alloc: Global, start: Start) -> Result<(Hash, Entry), Fail> {
     match start {
         Start::Init => Ok((base_hash(), entry(alloc, 1, INIT, &[0, 0, 0, 2])?)),
@@ -28,7 +28,7 @@ fn beginning(alloc: Global, start: Start) -> Result<(Hash, Entry), Fail> {
     }
 }
 
-/// The other one of the nodes 1 and 2.
+/// Returns the other one of the nodes 1 and 2.
 fn other(node: NodeId) -> NodeId {
     if node == NodeId(1) {
         NodeId(2)
@@ -38,7 +38,7 @@ fn other(node: NodeId) -> NodeId {
 }
 
 impl Signer {
-    /// The statement that the entry with this number has this hash. Its signature has a C of one byte 32 times over.
+    /// Signs the statement that the entry with this number has this hash. The signature's C is the byte `c`, 32 times.
     pub fn authenticator(
         &mut self,
         alloc: Global,
@@ -54,7 +54,7 @@ impl Signer {
         })
     }
 
-    /// The item of that statement.
+    /// Signs that statement, and returns it as an item.
     pub fn statement(
         &mut self,
         alloc: Global,
@@ -66,7 +66,7 @@ impl Signer {
         Ok(Box::new(alloc, item)?)
     }
 
-    /// The statement on an entry of node 2's log, which this node signs.
+    /// Signs the statement of an entry of node 2's log.
     fn logged(&mut self, alloc: Global, seq: u64) -> Result<Statement, Fail> {
         let hash = hash_in_log(alloc, seq)?;
         Ok(Statement {
@@ -76,7 +76,7 @@ impl Signer {
         })
     }
 
-    /// The demand to show the log up to its sixth entry, from the one with this number on, or from its beginning.
+    /// Returns the audit challenge for node 2's log up to its sixth entry, from the entry with this number on, or from the beginning.
     pub fn audit(&mut self, alloc: Global, from: Option<u64>) -> Result<Box<Item>, Fail> {
         let first = match from {
             Some(seq) => Some(self.logged(alloc, seq)?),
@@ -87,7 +87,7 @@ impl Signer {
         Ok(Box::new(alloc, item)?)
     }
 
-    /// The message to the other node with this number, after 32 zero bytes. Its signature has a C of one byte 32 times over.
+    /// Signs a message to the other node, with this number, after a hash of 32 zero bytes. The signature's C is the byte `c`, 32 times.
     pub fn message(
         &mut self,
         alloc: Global,
@@ -110,7 +110,7 @@ impl Signer {
         Ok(message)
     }
 
-    /// The message with this node's acknowledgement, whose RECV entry has the number 11.
+    /// Signs this node's acknowledgement of the message. The RECV entry has the number 11, after a hash of 32 zero bytes.
     pub fn acknowledged(
         &mut self,
         alloc: Global,
@@ -122,7 +122,7 @@ impl Signer {
         Ok(Box::new(alloc, item)?)
     }
 
-    /// The segment of these entries, which begins so.
+    /// Signs the segment that begins so, and goes on with these entries.
     pub fn segment(
         &mut self,
         alloc: Global,
@@ -138,7 +138,7 @@ impl Signer {
         self.part(alloc, prev, entries)
     }
 
-    /// The segment of these entries, behind this hash.
+    /// Signs the segment of these entries, after this hash.
     pub fn part(
         &mut self,
         alloc: Global,
@@ -151,14 +151,14 @@ impl Signer {
         Ok(Box::new(alloc, item)?)
     }
 
-    /// Node 2's log, from the entry with this number on.
+    /// Signs the segment of node 2's log from the entry with this number on.
     pub fn log_from(&mut self, alloc: Global, seq: u64) -> Result<Box<Item>, Fail> {
         let prev = hash_in_log(alloc, seq.saturating_sub(1))?;
         let entries = entries_of_log(alloc, seq, 6)?;
         self.part(alloc, prev, entries)
     }
 
-    /// The segment that begins so and receives the message.
+    /// Signs the segment that begins so, and receives the message in its entry 2.
     pub fn receiving(
         &mut self,
         alloc: Global,

@@ -1,6 +1,6 @@
 //! Samples of evidence, for tests: the nodes 1 and 2 with their keys, and items that they sign.
 //!
-//! A call fails where memory, or the leaves of a key, are used up, or where what is asked for is beyond the limits of an item.
+//! A call fails if memory or the leaves of a key are used up, or if what is asked for is beyond the limits of an item.
 #![tactic(auto)]
 
 mod entries;

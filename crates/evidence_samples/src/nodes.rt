@@ -6,7 +6,7 @@ use log_chain::{ByteString, Hash};
 use std::alloc::Global;
 use std::test::Fail;
 
-/// A node's number, and a key that is equal to the node's.
+/// A node's number, and a key that is equal to the node's. It signs what a test asks for.
 #[derive(Drop)]
 pub struct Signer {
     pub(crate) node: NodeId,
@@ -16,7 +16,7 @@ pub struct Signer {
 /// The nodes that sign, under their directory.
 #[derive(Drop)]
 pub struct Nodes {
-    /// It lists both nodes, each with its key.
+    /// The directory, which lists both nodes, each with one key.
     pub directory: Box<Directory>,
     /// Node 1.
     pub one: Signer,
@@ -24,7 +24,7 @@ pub struct Nodes {
     pub two: Signer,
 }
 
-/// The key (H5, W1) whose identifier and seed have the key's number in each byte, and end in the node's number in 4 bytes.
+/// Makes the key (H5, W1) whose identifier and seed have the key's number in each byte, and end in the node's number in 4 bytes.
 fn make_key(alloc: Global, node: u8, number: u8) -> Result<Box<SecretKey>, Fail> {
     let mut id = [number; 16];
     id[12..].copy_from_slice(&[0, 0, 0, node]);
@@ -34,12 +34,12 @@ fn make_key(alloc: Global, node: u8, number: u8) -> Result<Box<SecretKey>, Fail>
     Ok(Box::new(alloc, key)?)
 }
 
-/// The node's key 0, which the directory lists.
+/// Makes the node's key 0, which the directory lists.
 pub fn key_of(alloc: Global, node: u8) -> Result<Box<SecretKey>, Fail> {
     make_key(alloc, node, 0)
 }
 
-/// The node's key 1, which the directory does not list yet.
+/// Makes the node's key 1, which the directory does not list yet.
 pub fn next_key_of(alloc: Global, node: u8) -> Result<Box<SecretKey>, Fail> {
     make_key(alloc, node, 1)
 }
@@ -51,7 +51,7 @@ fn make_signer(alloc: Global, node: u8) -> Result<Signer, Fail> {
     })
 }
 
-/// Both nodes, before they sign anything.
+/// Makes both nodes, which have signed nothing yet, and their directory.
 pub fn make_nodes(alloc: Global) -> Result<Nodes, Fail> {
     let one = make_signer(alloc, 1)?;
     let two = make_signer(alloc, 2)?;
@@ -66,7 +66,7 @@ pub fn make_nodes(alloc: Global) -> Result<Nodes, Fail> {
 }
 
 impl Signer {
-    /// The signature of the statement that the entry with this number has this hash. Its C is one byte 32 times over.
+    /// Signs the statement that the entry with this number has this hash, by the key's next leaf. The signature's C is the byte `c`, 32 times.
     pub(crate) fn sign(
         &mut self,
         alloc: Global,

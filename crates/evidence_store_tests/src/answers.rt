@@ -1,5 +1,6 @@
 //! A demand to acknowledge a message, and items beside it, which answer it or do not.
 
+use crate::calls::known_to;
 use evidence_item::Item;
 use evidence_samples::{Nodes, Signer, Start, make_nodes, turned};
 use evidence_set::Indication;
@@ -149,5 +150,39 @@ fn says_of_each<S: Evidence<Tally>>(alloc: Global) -> Result<bool, Fail> {
 fn what_answers_a_demand(rt: HostRuntime) -> Result<(), Fail> {
     assert!(rt; says_of_each::<PlainStore<Tally>>(rt.alloc())?);
     assert!(rt; says_of_each::<IndexedStore<Tally>>(rt.alloc())?);
+    Ok(())
+}
+
+/// Whether a store that has the demand knows something of its sender and of its receiver, and of nobody else.
+fn knows_who_is_named<S: Evidence<Tally>>(alloc: Global) -> Result<bool, Fail> {
+    let mut nodes = make_nodes(alloc)?;
+    let mut store: Box<S> = new_store(alloc, &nodes.directory)?;
+    let item = demand(alloc, &mut nodes.one)?;
+    take::<S>(alloc, &mut store, item)?;
+    Ok(known_to::<S>(&store) == [true, true, false])
+}
+
+/// Whether a store that has the demand writes in pieces what it exports.
+fn writes_its_export<S: Evidence<Tally>>(alloc: Global) -> Result<bool, Fail> {
+    let mut nodes = make_nodes(alloc)?;
+    let mut store: Box<S> = new_store(alloc, &nodes.directory)?;
+    let item = demand(alloc, &mut nodes.one)?;
+    take::<S>(alloc, &mut store, item)?;
+    let mut written = Vec::new(alloc);
+    store.export_to(&mut written)?;
+    Ok(written.len() > 100 && written.as_slice() == store.export()?.as_slice())
+}
+
+#[test]
+fn of_whom_a_store_knows(rt: HostRuntime) -> Result<(), Fail> {
+    assert!(rt; knows_who_is_named::<PlainStore<Tally>>(rt.alloc())?);
+    assert!(rt; knows_who_is_named::<IndexedStore<Tally>>(rt.alloc())?);
+    Ok(())
+}
+
+#[test]
+fn a_store_in_pieces(rt: HostRuntime) -> Result<(), Fail> {
+    assert!(rt; writes_its_export::<PlainStore<Tally>>(rt.alloc())?);
+    assert!(rt; writes_its_export::<IndexedStore<Tally>>(rt.alloc())?);
     Ok(())
 }

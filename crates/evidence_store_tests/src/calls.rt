@@ -29,13 +29,14 @@ fn number_of<T: Drop>(answer: Result<T, AskFault>) -> u8 {
 }
 
 /// How many items the text of no items added, how many there are then, and whether they are written so; what is said of the nodes;
-/// and by which numbers questions on a node that is not listed are refused.
+/// whether something is known of nodes 1, 2 and 3; and by which numbers questions on a node that is not listed are refused.
 #[derive(Clone, Copy, Debug, PartialEq, Eq)]
 struct Told {
     new: u64,
     count: u64,
     is_written: bool,
     said: [Indication; 2],
+    known: [bool; 3],
     refused: [u8; 3],
 }
 
@@ -48,6 +49,15 @@ fn refused_by<S: Evidence<Tally>>(store: &S, node: NodeId) -> [u8; 3] {
     ]
 }
 
+/// Whether the store knows something of each of the nodes 1, 2 and 3.
+pub(crate) fn known_to<S: Evidence<Tally>>(store: &S) -> [bool; 3] {
+    [
+        store.knows(NodeId(1)),
+        store.knows(NodeId(2)),
+        store.knows(NodeId(3)),
+    ]
+}
+
 fn answer_by<S: Evidence<Tally>>(store: &mut S) -> Result<Told, Fail> {
     let new = store.import(&Tally, b"PRSTORE1\0\0\0\0\0\0\0\0")?;
     Ok(Told {
@@ -55,6 +65,7 @@ fn answer_by<S: Evidence<Tally>>(store: &mut S) -> Result<Told, Fail> {
         count: store.count(),
         is_written: store.export()?.as_slice() == b"PRSTORE2\0\0\0\0\0\0\0\0".as_slice(),
         said: [store.indication(NodeId(1))?, store.indication(NodeId(2))?],
+        known: known_to::<S>(store),
         refused: refused_by::<S>(store, NodeId(3)),
     })
 }
@@ -73,6 +84,7 @@ fn a_store_without_items(rt: HostRuntime) -> Result<(), Fail> {
         count: 0,
         is_written: true,
         said: [Indication::Trusted, Indication::Trusted],
+        known: [false, false, false],
         refused: [44, 44, 44],
     };
     assert!(rt; read_nothing::<PlainStore<Tally>>(rt.alloc())? == expected);

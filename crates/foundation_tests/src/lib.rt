@@ -11,5 +11,3 @@ mod numbers;
 mod signatures;
 #[cfg(test)]
 mod tiers;
-#[cfg(test)]
-mod words;

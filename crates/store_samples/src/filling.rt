@@ -7,13 +7,13 @@ use ref_programs::Tally;
 use std::alloc::Global;
 use std::test::Fail;
 
-/// A store under a copy of the directory, without items.
+/// Creates a store without items, under a copy of the directory.
 pub fn new_store<S: Evidence<Tally>>(alloc: Global, directory: &Directory) -> Result<Box<S>, Fail> {
     let store = S::new(alloc, directory.try_clone()?)?;
     Ok(Box::new(alloc, store)?)
 }
 
-/// Checks the item under the store's directory, takes it, and tells whether it is new. It fails where the item is not valid.
+/// Checks the item under the store's directory, and takes it. Returns whether it is new. It fails if the item is not valid.
 pub fn take<S: Evidence<Tally>>(
     alloc: Global,
     store: &mut S,
@@ -23,7 +23,7 @@ pub fn take<S: Evidence<Tally>>(
     Ok(store.take(checked)?)
 }
 
-/// The same of a copy of the item.
+/// Does the same with a copy of the item.
 pub fn take_copy<S: Evidence<Tally>>(
     alloc: Global,
     store: &mut S,
@@ -33,7 +33,7 @@ pub fn take_copy<S: Evidence<Tally>>(
     take(alloc, store, Box::new(alloc, copy)?)
 }
 
-/// Takes copies of the items at these places, in this order. It fails where there is no item at one of them.
+/// Takes copies of the items at these places, in this order. It fails if there is no item at one of them, or if one is not valid.
 pub fn take_some<S: Evidence<Tally>>(
     alloc: Global,
     store: &mut S,

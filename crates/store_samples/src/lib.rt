@@ -1,6 +1,6 @@
 //! Samples of stores, for tests: stores under Tally that take items, and what they say of the nodes 1 and 2.
 //!
-//! A call fails where memory is used up.
+//! A call fails if memory is used up.
 #![tactic(auto)]
 
 mod filling;

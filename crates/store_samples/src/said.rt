@@ -9,15 +9,15 @@ use std::test::Fail;
 /// What a store says of the nodes 1 and 2.
 #[derive(Clone, Copy, Debug, PartialEq, Eq)]
 pub struct Said {
-    /// Of node 1.
+    /// The indication of node 1.
     pub one: Indication,
-    /// Of node 2.
+    /// The indication of node 2.
     pub two: Indication,
-    /// How many challenges to node 2 no item answers.
+    /// How many challenges against node 2 have no answer among the items.
     pub open: usize,
 }
 
-/// What the store says, whose directory lists both nodes.
+/// Returns what the store says of both nodes. Its directory must list both.
 pub fn said_by<S: Evidence<Tally>>(store: &S) -> Result<Said, Fail> {
     Ok(Said {
         one: store.indication(NodeId(1))?,

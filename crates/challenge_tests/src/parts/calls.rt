@@ -8,9 +8,7 @@ use evidence_samples::{Nodes, ZEROS, make_nodes, receipt, turned};
 use item_forms::Item;
 use log_chain::ByteString;
 use messages::Message;
-use shards::{
-    Dealing, MOST_SHARDS, Part, Parting, Ranges, Shards, Width, add_items, extracted, gathered,
-};
+use shards::{Dealing, MOST_SHARDS, Part, Parting, Shards, add_items, extracted, gathered};
 use std::alloc::Global;
 use std::test::Fail;
 
@@ -75,28 +73,15 @@ fn is_just(alloc: Global, part: &Part, wanted: &[Which]) -> Result<bool, Fail> {
     Ok(part.text.as_slice() == expected.as_slice() && part.items == wanted.len() as u64)
 }
 
-/// Whether part `k` has just the items that are wanted.
-fn part_is_just(alloc: Global, dealing: Dealing, k: u32, wanted: &[Which]) -> Result<bool, Fail> {
-    let items = gathered(make_all(alloc, &ALL)?);
-    let parting = Parting::new(alloc, dealing, &items)?;
-    let part = parting.part(alloc, k)?;
-    is_just(alloc, &part, wanted)
-}
-
 /// Whether shard `k` of so many has just the items that are wanted.
 fn has_just(alloc: Global, count: u32, k: u32, wanted: &[Which]) -> Result<bool, Fail> {
     let Some(shards) = Shards::new(count) else {
         return Ok(false);
     };
-    part_is_just(alloc, Dealing::ByNode(shards), k, wanted)
-}
-
-/// Whether part `k` of three has just the items that are wanted, where a range has two numbers.
-fn range_has_just(alloc: Global, k: u32, wanted: &[Which]) -> Result<bool, Fail> {
-    let (Some(shards), Some(width)) = (Shards::new(3), Width::new(2)) else {
-        return Ok(false);
-    };
-    part_is_just(alloc, Dealing::ByRange(Ranges { shards, width }), k, wanted)
+    let items = gathered(make_all(alloc, &ALL)?);
+    let parting = Parting::new(alloc, Dealing::ByNode(shards), &items)?;
+    let part = parting.part(alloc, k)?;
+    is_just(alloc, &part, wanted)
 }
 
 #[test]
@@ -127,18 +112,6 @@ fn a_shard_has_the_items_that_name_its_nodes(rt: HostRuntime) -> Result<(), Fail
         has_just(rt.alloc(), 3, 3, &[])?,
     ];
     assert_eq!(rt; told, [true; 8]);
-    Ok(())
-}
-
-#[test]
-fn a_part_by_ranges_has_the_items_that_name_its_numbers(rt: HostRuntime) -> Result<(), Fail> {
-    let told = [
-        range_has_just(rt.alloc(), 0, &[Which::Received])?,
-        range_has_just(rt.alloc(), 1, &[Which::One, Which::Received])?,
-        range_has_just(rt.alloc(), 2, &[Which::Two, Which::Sent])?,
-        range_has_just(rt.alloc(), 3, &[])?,
-    ];
-    assert_eq!(rt; told, [true; 4]);
     Ok(())
 }
 

@@ -233,7 +233,7 @@ fn line_of_refusal(alloc: Global) -> Result<String, Fail> {
 
 #[test]
 fn a_refused_key_has_a_line(rt: HostRuntime) -> Result<(), Fail> {
-    let want = "the key is none of the node's, was used by it before, or has signed already";
+    let want = "the key is none of the node's keys, is or was in use, or has signed already";
     assert!(rt; line_of_refusal(rt.alloc())?.as_str() == want);
     Ok(())
 }

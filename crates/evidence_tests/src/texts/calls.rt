@@ -317,7 +317,7 @@ fn a_fault_has_a_line(rt: HostRuntime) -> Result<(), Fail> {
     let printed = format!(in rt.alloc(); "{bad}")?;
     assert_eq!(rt;
         printed.as_str(),
-        "item 0: the bytes do not begin as a container"
+        "item 0: the first bytes are not those of a container"
     );
     Ok(())
 }

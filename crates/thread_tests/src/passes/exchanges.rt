@@ -25,7 +25,7 @@ fn refusals_have_numbers_names_and_lines(rt: HostRuntime) -> Result<(), Fail> {
         ),
         (
             ExchangeFault::PackMissing,
-            "95 PackMissing: a pack is missing or not as it was sent, or a thread was not started",
+            "95 PackMissing: a store has another directory, a pack is missing or not as it was sent, or a thread could not go on",
         ),
         (ExchangeFault::Memory, "99 Memory: memory ran out"),
     ] {

@@ -29,19 +29,19 @@ fn refusals_have_numbers_names_and_lines(rt: HostRuntime) -> Result<(), Fail> {
             SummaryFault::BadMagic,
             60,
             "BadMagic",
-            "the bytes do not begin as an outline or a summary",
+            "the first bytes are not those of an outline or a summary",
         ),
         (
             SummaryFault::NotAscending,
             61,
             "NotAscending",
-            "the digest does not stand above the one before it, or not in its bucket",
+            "a digest is not above the one before it, or is not of its bucket",
         ),
         (
             SummaryFault::NothingKept,
             62,
             "NothingKept",
-            "no bucket is kept",
+            "the summary keeps no bucket, so it says nothing",
         ),
         (SummaryFault::Memory, 99, "Memory", "memory ran out"),
     ] {
