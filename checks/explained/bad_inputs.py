@@ -1,138 +1,200 @@
-"""Inputs that are not as they should be, and of each the line by which it is refused. Written by hand.
+"""Inputs that are not as they should be, and of each the refusal. Written by hand.
 
-`bad_inputs` takes the directory's line, the store's and the proof's, and the store's items as (where the item begins, how long it is), and
-gives what is asked for of `mailbox_sim explain`, the input and the line. `bad_files` takes the same, and gives words of `bulwynef`, files by
-their names, and the line.
+`bad_files` and `bad_lines` take the directory's line, the store's and the proof's, and the store's items as (where the item begins, how long it
+is). `bad_files` takes a bundle too. It gives words of `bulwynef`, files by their names, and the line of the refusal: what `status` refuses of
+stores and `check` of a proof, `explain` refuses by the same line. `bad_lines` gives a command of `node_sim`, its input, and the refusal.
 """
 
 MAGIC, COUNT = 8, 16
+PICTURE = b"\x89PNG\r\n\x1a\n\0\0\0\rIHDR"
+DIGITS = "a line has a character that is no hexadecimal digit, or an odd number of digits"
+TAG = "a tag, a flag or a form is unknown, or an item of a proof has another form than its part"
+CUT_OFF, LINES = "a store, a proof or an item in them is cut off", "the input does not have the lines that the command reads"
+LEFT, SIGNATURE = "bytes are left over after a store, a proof or an item", "a signature of an item is not valid"
+UNLISTED, ASCENDING = "a node that is named or asked for is not listed in the directory", "the items of a store do not ascend by their bytes"
+LINE = "this line is not as bundles have it, is missing, or stands behind the last"
+NO_DIRECTORY = "refused 23 BadMagic: nodes: the first bytes are not those of a directory"
+NO_STORE = "refused 60 BadMagic: file, item 0, byte 16: the first bytes are not those of a store"
+KEYS = "the directory lists a node with no key, or with more than it may have"
 
 
-def bad_inputs(directory, store, proof, items):
+def disguised(line):
+    """What a file says that begins otherwise than the digits of its line: its own bytes."""
+    return [PICTURE, b"\xef\xbb\xbf" + line, b"\xff\xfe" + line, b"0x" + line, b" " + line, b'"' + line + b'"', b"\n" + line]
+
+
+def no_digits(line):
+    """The line with another character behind its first eight, or with an odd number of digits."""
+    changed = [line[:200] + b"z" + line[201:], line[:10] + b"\xc3\xa9" + line[12:], line[:-1]]
+    return [line + b"\r\n", line + b"\r", line + b" ", *changed]
+
+
+class Files:
+    """The words of `bulwynef` for each kind of file, and the files that are as they should be."""
+
+    on = "--program tally --directory nodes"
+    store = [f"status {on} file", f"explain {on} file"]
+    nodes = [*store, "explain --directory nodes"]
+    proof = [f"check {on} file", f"explain {on} --proof file"]
+    more = [f"{words} more" for words in store]
+
+    def __init__(self, nodes, raw):
+        self.files = {"nodes": nodes, "file": raw}
+
+    def of(self, each, file, told, name="file"):
+        """The file of this name, in the place of the right one, is refused by this line."""
+        return [(words, {**self.files, name: file}, told) for words in each]
+
+
+def bad_directories(its, line, raw):
+    nodes = its.files["nodes"]
+    yield from its.of(its.nodes, raw, f"{NO_DIRECTORY}; the file is a store", "nodes")
+    for text in disguised(line):
+        yield from its.of(its.nodes, text, NO_DIRECTORY, "nodes")
+    for text in (b"", nodes[:7], nodes[:20], line[:40]):
+        yield from its.of(its.nodes, text, "refused 24 Truncated: nodes: the directory is cut off", "nodes")
+    for text in (nodes + b"\0", line + b"00"):
+        yield from its.of(its.nodes, text, "refused 25 Trailing: nodes: bytes are left over after the directory", "nodes")
+    for text in (*no_digits(line), line + b"\n\r\n"):
+        yield from its.of(its.nodes, text, f"refused 103 BadHex: nodes: {DIGITS}", "nodes")
+    for text in (line + b"\n\n", line + b"\n\n\n", 3 * (line + b"\n")):
+        yield from its.of(its.nodes, text, f"refused 104 LineCount: nodes: {LINES}", "nodes")
+    yield from its.of(its.nodes, nodes[:16] + b"\x09" + nodes[17:], f"refused 26 KeyCount: nodes: {KEYS}", "nodes")
+    yield from its.of(its.nodes, nodes[:129] + nodes[12:129] + nodes[246:], "refused 20 DuplicateNode: nodes: the directory lists a node twice", "nodes")
+    for words in its.nodes:
+        no_file, few = words.replace("nodes", "none"), words.replace("--directory", "--most 20 --directory")
+        yield from its.of([no_file], raw, "refused 100 ReadFailed: none: it can't be opened, or can't be read to its end")
+        yield from its.of([few], raw, "refused 101 InputTooLong: nodes: the input has more bytes than it may")
+
+
+def bad_stores(its, directory, line, convicting, items):
+    nodes, raw = its.files["nodes"], its.files["file"]
+    (first, first_size), (second, second_size) = items
+    at, last = second - 4, second + second_size - 1
+
+    def changed(place, value):
+        return raw[:place] + value + raw[place + len(value) :]
+
+    def under(text):
+        return directory + b"\n" + text + b"\n"
+
+    swapped, broken = raw[: first - 4] + raw[at:] + raw[first - 4 : at], changed(last, bytes([raw[last] ^ 1]))
+    for text in (nodes, directory, under(directory)):
+        yield from its.of(its.store, text, f"{NO_STORE}; the file is a directory")
+    for text in (convicting, changed(0, b"X"), under(convicting.hex().encode()), *disguised(line)):
+        yield from its.of(its.store, text, NO_STORE)
+    yield from its.of(its.store, b"", f"refused 40 Truncated: file, item 0: {CUT_OFF}")
+    yield from its.of(its.store, changed(first - 4, b"\0\0\0\x06"), f"refused 40 Truncated: file, item 0, byte 16: {CUT_OFF}")
+    yield from its.of(its.store, raw[: second + 13], f"refused 40 Truncated: file, item 1, byte {at}: {CUT_OFF}")
+    yield from its.of(its.store, raw + b"\0", f"refused 43 Trailing: file, item 2, byte {len(raw)}: {LEFT}")
+    yield from its.of(its.store, swapped, f"refused 61 NotAscending: file, item 1, byte {16 + 4 + second_size}: {ASCENDING}")
+    yield from its.of(its.store, changed(second + 1, b"\0\0\0\x63"), f"refused 44 UnknownNode: file, item 1, byte {at}: {UNLISTED}")
+    yield from its.of(its.store, changed(second, b"\x09"), f"refused 41 BadTag: file, item 1, byte {at}: {TAG}; the file is a store")
+    for text in (broken, broken.hex().encode(), under(broken.hex().encode())):
+        yield from its.of(its.store, text, f"refused 49 BadSignature: file, item 1, byte {at}: {SIGNATURE}")
+    for text in (*no_digits(line), *(under(text) for text in no_digits(line)[1:]), under(b" " + line), directory + b"\r\n" + line + b"\r\n"):
+        yield from its.of(its.store, text, f"refused 103 BadHex: file: {DIGITS}")
+    for text in (line + b"\n" + line + b"\n", line + b"\n" + directory, under(b""), under(line) + b"\n", under(line) + line):
+        yield from its.of(its.store, text, f"refused 104 LineCount: file: {LINES}")
+    # A second store.
+    yield from its.of(its.more, b"", f"refused 40 Truncated: more, item 0: {CUT_OFF}", "more")
+    yield from its.of(its.more, line + b"\r\n", f"refused 103 BadHex: more: {DIGITS}", "more")
+    yield from its.of(its.more, convicting, NO_STORE.replace("file", "more"), "more")
+    yield from its.of(its.more, broken, f"refused 49 BadSignature: more, item 1, byte {at}: {SIGNATURE}", "more")
+
+
+def bad_proofs(its, directory, line):
+    raw, convicting = its.files["file"], bytes.fromhex(line.decode())
+    part = 5 + int.from_bytes(convicting[1:5], "big")
+    yield from its.of(its.proof, raw, f"refused 41 BadTag: file: {TAG}; the file is a store")
+    for text in disguised(line):
+        yield from its.of(its.proof, text, f"refused 41 BadTag: file: {TAG}")
+    for text in (b"", convicting[:-1]):
+        yield from its.of(its.proof, text, f"refused 40 Truncated: file: {CUT_OFF}")
+    yield from its.of(its.proof, convicting + b"\0", f"refused 43 Trailing: file: {LEFT}")
+    yield from its.of(its.proof, convicting[:part] + convicting[1:part], "refused 50 NoContradiction: file: the parts of a proof do not contradict each other")
+    for text in no_digits(line):
+        yield from its.of(its.proof, text, f"refused 103 BadHex: file: {DIGITS}")
+    for text in (line + b"\n\n", directory + b"\n" + line + b"\n", directory + b"\n" + raw.hex().encode() + b"\n", 3 * (line + b"\n")):
+        yield from its.of(its.proof, text, f"refused 104 LineCount: file: {LINES}")
+
+
+def bad_bundles(its, bundle):
+    lines = bundle.split(b"\n")
+    front = next(place for place, line in enumerate(lines) if place and not line.startswith(b"#"))
+
+    def bundled(place, line):
+        return b"\n".join([*lines[:place], line, *lines[place + 1 :]])
+
+    yield from its.of(["check file"], b"bulwynef bundle 2\n", f"refused 106 BadBundle: file, line 1: {LINE}")
+    yield from its.of(["check file"], bundle + b"\n", f"refused 106 BadBundle: file, line {len(lines)}: {LINE}")
+    yield from its.of(["check file"], bundled(front, b"program other_1"), "refused 109 UnknownProgram: file: the bundle names a program that is not known")
+    told = f"refused 107 OtherLength: file, line {front + 3}: the digits have another length than this line says"
+    yield from its.of(["check file"], bundled(front + 2, b"directory 1 " + 64 * b"0"), told)
+    told = f"refused 108 OtherSum: file, line {front + 4}: the bytes of the digits have another SHA-256 than this line says"
+    yield from its.of(["check file"], bundled(front + 3, lines[front + 3][:-64] + 64 * b"0"), told)
+
+
+def bad_files(directory, store, proof, items, bundle):
+    nodes, raw, convicting = (bytes.fromhex(line.decode()) for line in (directory, store, proof))
+    its = Files(nodes, raw)
+    yield from bad_directories(its, directory, raw)
+    yield from bad_stores(its, directory, store, convicting, items)
+    yield from its.of(["prove --program tally --directory nodes 99 file"], raw, f"refused 44 UnknownNode: {UNLISTED}")
+    yield from bad_proofs(its, directory, proof)
+    yield from bad_bundles(its, bundle)
+
+
+def bad_lines(directory, store, proof, items):
     raw = bytes.fromhex(store.decode())
     (first, first_size), (second, second_size) = items
-    digits = len(directory)
 
     def two(one, other):
         return one + b"\n" + other + b"\n"
 
     def changed(at, value):
-        return two(directory, (raw[:at] + value + raw[at + len(value) :]).hex().encode())
+        return whole(raw[:at] + value + raw[at + len(value) :])
 
     def whole(text):
         return two(directory, text.hex().encode())
 
     last = second + second_size - 1
-    broken = bytes([raw[last] ^ 1])
+    broken = changed(last, bytes([raw[last] ^ 1]))
     swapped = raw[: first - 4] + raw[second - 4 :] + raw[first - 4 : second - 4]
     return [
         # The lines as they were sent.
-        ("store", b"", "refused 104 LineCount: the input is empty, and 2 lines or more are wanted: a directory and stores"),
-        ("proof", b"", "refused 104 LineCount: the input is empty, and 2 lines are wanted: a directory and a proof"),
-        ("directory", b"", "refused 104 LineCount: the input is empty, and a line is wanted: a directory"),
-        ("store", directory + b"\n", "refused 104 LineCount: the input has 1 line, and 2 lines or more are wanted: a directory and stores"),
-        ("proof", two(directory, proof) + proof + b"\n" + proof, "refused 104 LineCount: the input has 4 lines, and 2 lines are wanted: a directory and a proof"),
-        ("proof", two(directory, proof) + b"\n", "refused 104 LineCount: behind line 2 stand blank lines, and 2 lines are wanted: a directory and a proof"),
-        ("proof", b"\x89PNG\r\n\x1a\n\0\0\0\rIHDR", "refused 104 LineCount: the input is no text: byte 1 of it is 89, and 2 lines are wanted: a directory and a proof"),
-        ("store", b"\x89PNG\r\n\x1a\n\0\0\0\rIHDR", "refused 103 BadHex: line 1: character 1 is the byte 89, no hexadecimal digit"),
+        ("status", b"", "104 LineCount"),
+        ("check", b"", "104 LineCount"),
+        ("status", directory + b"\n", "104 LineCount"),
+        ("check", two(directory, proof) + proof + b"\n" + proof, "104 LineCount"),
+        ("check", two(directory, proof) + b"\n", "104 LineCount"),
+        ("check", PICTURE, "104 LineCount"),
+        ("merge", PICTURE, "103 BadHex"),
         # The lines of `merge`: a line for each store.
-        ("store", two(directory, store) + b"\n", "refused 40 Truncated: line 3: the line is empty, and a store is wanted"),
-        ("store", two(directory, store) + store + b"\r\n", "refused 103 BadHex: line 3: it ends with a carriage return"),
-        ("store", two(directory, store) + proof + b"\n", "refused 60 BadMagic: line 3: this is a proof: ask for the proof"),
-        ("store", two(directory, store) + changed(last, broken).split(b"\n")[1], "refused 49 BadSignature: line 3, item 2, a statement of node 2, entry 3: a signature of it is not one by the node's key of the number that it names"),
-        ("store", directory + b"\r\n" + store + b"\r\n", "refused 103 BadHex: line 1: it ends with a carriage return"),
-        ("store", two(directory, store + b"\r"), "refused 103 BadHex: line 2: it ends with a carriage return"),
-        ("store", two(directory + b" ", store), "refused 103 BadHex: line 1: it ends with a blank"),
-        ("store", two(directory, b" " + store), "refused 103 BadHex: line 2: it begins with a blank"),
-        ("store", b"\xef\xbb\xbf" + two(directory, store), "refused 103 BadHex: line 1: it begins with a byte-order mark"),
-        ("store", b"\xff\xfe" + two(directory, store), "refused 103 BadHex: line 1: it begins as UTF-16 does, and plain ASCII is wanted"),
-        ("store", two(b"0x" + directory, store), "refused 103 BadHex: line 1: it begins with `0x`, and digits alone are wanted"),
-        ("store", two(directory, store[:200] + b"z" + store[201:]), "refused 103 BadHex: line 2: character 201 is `z`, no hexadecimal digit"),
-        ("store", two(directory, store[:10] + b"\xc3\xa9" + store[12:]), "refused 103 BadHex: line 2: character 11 is the byte c3, no hexadecimal digit"),
-        ("store", two(b'"' + directory + b'"', store), "refused 103 BadHex: line 1: character 1 is `\"`, no hexadecimal digit"),
-        ("store", two(directory[:-1], store), f"refused 103 BadHex: line 1: it has {digits - 1} digits, an odd number"),
-        ("store", two(b"", store), "refused 24 Truncated: line 1: the line is empty, and a directory is wanted"),
-        ("store", two(directory, b""), "refused 40 Truncated: line 2: the line is empty, and a store is wanted"),
+        ("merge", two(directory, store) + b"\n", "40 Truncated"),
+        ("merge", two(directory, store) + store + b"\r\n", "103 BadHex"),
+        ("merge", two(directory, store) + proof + b"\n", "60 BadMagic"),
+        ("merge", two(directory, store) + broken.split(b"\n")[1], "49 BadSignature"),
+        *(("status", two(directory, text), "103 BadHex") for text in (*disguised(store)[1:-1], *no_digits(store)[1:])),
+        *(("status", two(text, store), "103 BadHex") for text in (*disguised(directory)[1:-1], *no_digits(directory)[1:])),
+        ("status", two(directory + b"\r", store + b"\r"), "103 BadHex"),
+        ("status", two(b"", store), "24 Truncated"),
+        ("status", two(directory, b""), "40 Truncated"),
         # One text in place of another.
-        ("store", two(store, directory), "refused 23 BadMagic: line 1: a store stands where the directory should be"),
-        ("store", two(directory, directory), "refused 60 BadMagic: line 2: a directory stands where the store should be"),
-        ("store", two(directory, proof), "refused 60 BadMagic: line 2: this is a proof: ask for the proof"),
-        ("proof", two(directory, store), "refused 41 BadTag: line 2: this is a store: ask for the store"),
+        ("status", two(store, directory), "23 BadMagic"),
+        ("status", two(directory, directory), "60 BadMagic"),
+        ("status", two(directory, proof), "60 BadMagic"),
+        ("check", two(directory, store), "41 BadTag"),
         # The directory.
-        ("store", two(directory[:20], store), "refused 24 Truncated: line 1: the directory is cut off"),
-        ("store", two(directory + b"00", store), "refused 25 Trailing: line 1: bytes are left over after the directory"),
+        ("status", two(directory[:20], store), "24 Truncated"),
+        ("status", two(directory + b"00", store), "25 Trailing"),
         # The store, and its items.
-        ("store", changed(0, b"X"), "refused 60 BadMagic: line 2: the store does not begin as one"),
-        ("store", whole(raw + b"\0"), "refused 43 Trailing: line 2, behind 2 items: bytes are left over"),
-        ("store", whole(raw[: second + 13]), "refused 40 Truncated: line 2, item 2: it is cut off"),
-        ("store", whole(swapped), "refused 61 NotAscending: line 2, item 2, a statement of node 2, entry 3: its bytes are not above those of the item before"),
-        ("store", changed(last, broken), "refused 49 BadSignature: line 2, item 2, a statement of node 2, entry 3: a signature of it is not one by the node's key of the number that it names"),
-        ("store", changed(second + 1, b"\0\0\0\x63"), "refused 44 UnknownNode: line 2, item 2, a statement of node 99, entry 3: the directory does not list a node that it names"),
-        ("store", changed(second, b"\x09"), "refused 41 BadTag: line 2, item 2: a byte that tells forms apart is none of those that there are"),
-        ("store", changed(first - 4, b"\0\0\0\x06"), "refused 40 Truncated: line 2, item 1: it is cut off"),
+        ("status", changed(0, b"X"), "60 BadMagic"),
+        ("status", whole(raw + b"\0"), "43 Trailing"),
+        ("status", whole(raw[: second + 13]), "40 Truncated"),
+        ("status", whole(swapped), "61 NotAscending"),
+        ("status", broken, "49 BadSignature"),
+        ("status", changed(second + 1, b"\0\0\0\x63"), "44 UnknownNode"),
+        ("status", changed(second, b"\x09"), "41 BadTag"),
+        ("status", changed(first - 4, b"\0\0\0\x06"), "40 Truncated"),
     ]
-
-
-DIGITS = "a line has another character than hexadecimal digits, or an odd number of them"
-TAG = "a tag, a flag or a form is none of those that there are, or of another form than its part's"
-CUT_OFF, LINES = "a store, a proof or an item in them is cut off", "the input does not have the lines that the command reads"
-LINE = "the line is the first that is not spelled as a bundle's, is missing, or stands behind the last"
-
-
-def bad_files(directory, store, proof, items, bundle):
-    nodes, raw, convicting = (bytes.fromhex(line.decode()) for line in (directory, store, proof))
-    (first, first_size), (second, second_size) = items
-    at, last = second - 4, second + second_size - 1
-    part = 5 + int.from_bytes(convicting[1:5], "big")
-    status, explain = "status --program tally --directory nodes file", "explain --program tally --directory nodes file"
-    check, lines = "check --program tally --directory nodes file", bundle.split(b"\n")
-
-    def changed(place, value):
-        return raw[:place] + value + raw[place + len(value) :]
-
-    def of(words, file, told, name="file"):
-        return words, {"nodes": nodes, "file": raw, name: file}, told
-
-    def bundled(place, line):
-        return b"\n".join([*lines[:place], line, *lines[place + 1 :]])
-
-    front = next(place for place, line in enumerate(lines) if place and not line.startswith(b"#"))
-    found = [
-        # The directory.
-        of(status, raw, "refused 23 BadMagic: nodes: the directory does not begin as one; the file is a store", "nodes"),
-        of(explain, nodes[:20], "refused 24 Truncated: nodes: the directory is cut off", "nodes"),
-        of(status, b"", "refused 24 Truncated: nodes: the directory is cut off", "nodes"),
-        of(explain, nodes + b"\0", "refused 25 Trailing: nodes: bytes are left over after the directory", "nodes"),
-        of(status, directory + b"\r\n", f"refused 103 BadHex: nodes: {DIGITS}", "nodes"),
-        of(explain, directory + b"\n\n", f"refused 104 LineCount: nodes: {LINES}", "nodes"),
-        of(status, nodes[:16] + b"\x09" + nodes[17:], "refused 26 KeyCount: nodes: the directory lists a node with no key, or with more than it may have", "nodes"),
-        of(status, nodes[:129] + nodes[12:129] + nodes[246:], "refused 20 DuplicateNode: nodes: the directory lists a node twice", "nodes"),
-        of(status.replace("nodes", "none"), raw, "refused 100 ReadFailed: none: it can't be opened, or can't be read to its end"),
-        of(status.replace("--directory", "--most 20 --directory"), raw, "refused 101 InputTooLong: nodes: the input has more bytes than it may"),
-        # A store, and its items.
-        of(status, b"", f"refused 40 Truncated: file, item 0: {CUT_OFF}"),
-        of(explain, nodes, "refused 60 BadMagic: file, item 0, byte 16: a store does not begin as one; the file is a directory"),
-        of(status, convicting, "refused 60 BadMagic: file, item 0, byte 16: a store does not begin as one"),
-        of(explain, changed(0, b"X"), "refused 60 BadMagic: file, item 0, byte 16: a store does not begin as one"),
-        of(status, raw + b"\0", f"refused 43 Trailing: file, item 2, byte {len(raw)}: bytes are left over after a store, a proof or an item"),
-        of(explain, raw[: second + 13], f"refused 40 Truncated: file, item 1, byte {at}: {CUT_OFF}"),
-        of(status, raw[: first - 4] + raw[at:] + raw[first - 4 : at], f"refused 61 NotAscending: file, item 1, byte {16 + 4 + second_size}: the items of a store do not ascend by their bytes"),
-        of(explain, changed(last, bytes([raw[last] ^ 1])), f"refused 49 BadSignature: file, item 1, byte {at}: a signature of an item is not valid"),
-        of(status, changed(second + 1, b"\0\0\0\x63"), f"refused 44 UnknownNode: file, item 1, byte {at}: a node that is named or asked for is not listed in the directory"),
-        of(explain, changed(second, b"\x09"), f"refused 41 BadTag: file, item 1, byte {at}: {TAG}; the file is a store"),
-        of(status, store + b"\r\n", f"refused 103 BadHex: file: {DIGITS}"),
-        of(explain, store + b"\n" + store + b"\n", f"refused 104 LineCount: file: {LINES}"),
-        of("prove --program tally --directory nodes 99 file", raw, "refused 44 UnknownNode: a node that is named or asked for is not listed in the directory"),
-        # A proof, and a bundle.
-        of(check, raw, f"refused 41 BadTag: file: {TAG}; the file is a store"),
-        of(check, convicting[:-1], f"refused 40 Truncated: file: {CUT_OFF}"),
-        of(check, convicting + b"\0", "refused 43 Trailing: file: bytes are left over after a store, a proof or an item"),
-        of(check, convicting[:part] + convicting[1:part], "refused 50 NoContradiction: file: the parts of a proof do not contradict each other"),
-        of(check, directory + b"\n" + proof + b"\n", f"refused 104 LineCount: file: {LINES}"),
-        of("check file", b"bulwynef bundle 2\n", f"refused 106 BadBundle: file, line 1: {LINE}"),
-        of("check file", bundle + b"\n", f"refused 106 BadBundle: file, line {len(lines)}: {LINE}"),
-        of("check file", bundled(front, b"program other_1"), "refused 109 UnknownProgram: file: the bundle names a program that is not known"),
-        of("check file", bundled(front + 2, b"directory 1 " + 64 * b"0"), f"refused 107 OtherLength: file, line {front + 3}: the digits have another length than this line tells"),
-        of("check file", bundled(front + 3, lines[front + 3][:-64] + 64 * b"0"), f"refused 108 OtherSum: file, line {front + 4}: the digits have another sum than this line tells"),
-    ]
-    return found

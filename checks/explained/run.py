@@ -4,11 +4,11 @@
 Each line stands in a file of its own. Several stores are explained as they are, and as the one store that `node_sim merge` makes of them: but for the
 line that names it both say the same. Of each node that the store exposes, what `node_sim prove` writes is explained as well. Then each reason of a
 deviation, each form of proof and each kind of challenge: `cases.py` makes the inputs, and `cases.txt` has by hand what is told; and stores of many
-nodes, of which `drawn.py` has the logs that a page draws. Then files that `bulwynef` refuses, and lines that
-`mailbox_sim explain` refuses: `bad_inputs.py` has each, made of an example, with the line that tells it.
+nodes, of which `drawn.py` has the logs that a page draws. Then files that `bulwynef` refuses, and lines that `node_sim`
+refuses: `bad_inputs.py` has each, made of an example, with what tells it.
 
-Wants both builds of bulwynef and mailbox_sim, and node_sim, which `rt ci` leaves (builds.py). `checks/explained/run.py --write` stores what the
-build by LLVM writes.
+Wants both builds of bulwynef, and node_sim, which `rt ci` leaves (builds.py). `checks/explained/run.py --write` stores what the build by LLVM
+writes.
 """
 
 import hashlib
@@ -23,7 +23,7 @@ sys.dont_write_bytecode = True
 TOP = os.path.dirname(os.path.dirname(os.path.dirname(os.path.abspath(__file__))))
 sys.path.append(f"{TOP}/checks")
 
-from bad_inputs import bad_files, bad_inputs
+from bad_inputs import bad_files, bad_lines
 from builds import builds_of
 from cases import cases, mails
 from drawn import drawn
@@ -155,13 +155,6 @@ def grouped(data):
     return " ".join(re.findall("....", hashlib.sha256(bytes.fromhex(data)).hexdigest()))
 
 
-def command_of(subject, text):
-    """The command of node_sim that refuses the same."""
-    if subject == "proof":
-        return "check"
-    return "merge" if len(text.splitlines()) > 2 or text.endswith(b"\n\n") else "status"
-
-
 def told_of_cases(tell, program, made_of, wanted):
     """Each case is told as it stands in cases.txt, behind its program and the digests of its two lines; and its page has each sentence."""
     told = set()
@@ -200,26 +193,19 @@ def main():
             compare(name, subject, text, build)
         stored = {os.path.splitext(file)[0] for file in os.listdir(STORED) if file.endswith((".txt", ".html"))}
         hold("each stored output is of an example", stored <= names, stored - names)
-        mailbox_sim = [build.replace("bulwynef", "mailbox_sim"), "explain"]
         wanted = expected()
         told = told_of_cases(lambda subject, text, page: explained(build, subject, text, page), "Tally", cases, wanted)
         told |= told_of_cases(lambda subject, text, page: explained(build, subject, text, page, ["--program", "mailbox"]), "Mailbox", mails, wanted)
-        told_of_cases(lambda subject, text, page: run([*mailbox_sim, subject, *(["--html"] if page else [])], text), "Mailbox", mails, wanted)
         hold("each case is made", told == set(wanted), set(wanted) - told)
         draws(build)
         tells(build)
-        for subject, text, wanted in bad_inputs(*example()):
-            status, out, error = run([*mailbox_sim, subject], text)
-            hold(wanted, status == 1 and not out and error.decode() == wanted + "\n", error)
-            if subject != "directory":
-                plain = run([NODE_SIM, command_of(subject, text)], text)
-                hold(f"node_sim tells {wanted}", error.split(b":")[0] == plain[2].strip(), plain[2])
         for name in ("two_witnesses", "spreading"):
             one, other = [open(f"{STORED}/{name}{ending}.txt").read().split("\n") for ending in ("", ".stores")]
             hold(f"{name}: the union is told as the merged store", one[:2] + one[3:] == other[:2] + other[3:])
             hold(f"{name}: it has the merged store's digest", one[2].split(": ")[1] == other[2].split(": ")[1])
-        for words in ([], ["status"], ["store", "--text"], ["store", "proof"], ["directory", "--relay"]):
-            hold(f"words {words}", run([*mailbox_sim, *words])[0] == 2)
+    for command, text, wanted in bad_lines(*example()):
+        done = run([NODE_SIM, command], text)
+        hold(f"node_sim {command}: {wanted}", done == (1, b"", f"refused {wanted}\n".encode()), done)
     print(f"explained: {passed} held, {len(failed)} not")
     sys.exit(1 if failed else 0)
 

@@ -1,16 +1,16 @@
 #!/usr/bin/env python3
 """Runs `bulwynef explain` on the texts that run.py makes, nearly valid stores and proofs, each in a file, and holds it to node_sim. Where a line is
-no text of bytes, or lines are missing, `mailbox_sim explain` reads the lines instead.
+no text of bytes, or the lines are too few or too many, the first line stands in a file as it is, and what is behind it in another.
 
     checks/fuzz/explain.py [--inputs N] [--seed S] [--jobs J]
 
 Where node_sim refuses an input, it is refused with the same number and name, with its place behind them on the one line, and nothing is
-written. Where node_sim answers, explain tells the same: each node with the indication that status gives, or the node that check names; each
-item that a sentence about a store names is looked up in the store, and has the form and the nodes that the sentence says; and where a
-sentence names a hash, each of its items has a statement of that node, number and hash. Among the payloads are hostile ones (HOSTILE). The
-page of each answer is read by Python's parser: its elements close, each id stands once, each link inside it leads to one, it has no script
-and names no other place. Both ways of explain end within 256 MiB and 60 s. Wants what `rt ci` and `rt run` leave in the folders crates/NAME/out of
-bulwynef, mailbox_sim and node_sim.
+written. Lines that are no texts may be refused by another number. Where node_sim answers, explain tells the same: each node with the
+indication that status gives, or the node that check names; each item that a sentence about a store names is looked up in the store, and has
+the form and the nodes that the sentence says; and where a sentence names a hash, each of its items has a statement of that node, number and
+hash. Among the payloads are hostile ones (HOSTILE). The page of each answer is read by Python's parser: its elements close, each id stands
+once, each link inside it leads to one, it has no script and names no other place. Each run ends within 256 MiB and 60 s. Wants what `rt ci`
+and `rt run` leave in the folders crates/NAME/out of bulwynef and node_sim.
 """
 
 import argparse
@@ -28,7 +28,7 @@ sys.dont_write_bytecode = True
 
 import run as fuzz
 
-BULWYNEF, MAILBOX_SIM = [f"{fuzz.texts.TOP}/crates/{name}/out/{name}" for name in ("bulwynef", "mailbox_sim")]
+BULWYNEF = f"{fuzz.texts.TOP}/crates/bulwynef/out/bulwynef"
 NODE_SIM = fuzz.BUILDS[0]
 MEMORY, SECONDS = 256 << 20, 60
 VOID = {"meta", "link", "br", "hr", "img", "input", "col"}
@@ -94,18 +94,23 @@ def texts_of(subject, data):
     return [bytes.fromhex(line.decode()) for line in lines]
 
 
+def files_of(subject, data):
+    """What stands in each file: a text, in digits where its own bytes begin like digits; or lines as they are, where they are no texts."""
+    texts = texts_of(subject, data)
+    if texts is None:
+        first, _, others = data.partition(b"\n")
+        return [first, others]
+    return [text.hex().encode() if re.match(rb"[0-9a-fA-F]{8}", text) else text for text in texts]
+
+
 def explained(subject, relay, data, page):
     """What is told of the input, as a text or as a page."""
-    found = texts_of(subject, data)
-    if found is None:
-        return ended(MAILBOX_SIM, ["explain", subject, *(["--html"] if page else [])], data)
     with tempfile.TemporaryDirectory() as folder:
         names = []
-        for number, text in enumerate(found):
+        for number, file in enumerate(files_of(subject, data)):
             names.append(f"{folder}/{number}")
-            begins_like_digits = re.match(rb"[0-9a-fA-F]{8}", text)
             with open(names[-1], "wb") as it:
-                it.write(text.hex().encode() if begins_like_digits else text)
+                it.write(file)
         program = ["--program", "relay" if relay else "tally"]
         words = ["explain", "--workers", "1", *program, "--directory", names[0]]
         words += ["--proof", names[1]] if subject == "proof" else names[1:]
@@ -248,8 +253,9 @@ def fault_of(words, data):
     text = explained(subject, relay, data, False)
     page = explained(subject, relay, data, True)
     if status == 1:
+        told = rb"refused \d+ \w+" if texts_of(subject, data) is None else re.escape(errors.strip())
         for found in (text, page):
-            if found[0] != 1 or found[1] or found[2].count(b"\n") != 1 or not found[2].startswith(errors.strip() + b": "):
+            if found[0] != 1 or found[1] or found[2].count(b"\n") != 1 or not re.match(told + b": ", found[2]):
                 return f"refused {errors!r}, and {found!r} is told"
         return None
     if status or text[0] not in (0, 3) or page[0] != text[0] or text[2] or page[2]:

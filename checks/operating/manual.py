@@ -19,12 +19,12 @@ PROGRAM = TOP / "crates/bulwynef/out/bulwynef"
 PAGE, COMPLETIONS = TOP / "docs/bulwynef.1", TOP / "docs/bulwynef.bash"
 
 STATUS = [
-    (0, "It was done, and nobody is said to be exposed."),
+    (0, "It was done. If status or explain says that a node is exposed, the status is 3 in place of 0."),
     (1, "It was refused. Standard error has a line: refused, the number and the name of the refusal, and where the fault stands."),
     (2, "The words of the command line are missing or not understood, or ask for help."),
-    (3, "A node is exposed."),
+    (3, "status or explain says that a node is exposed."),
     (4, "There is no proof. A file of the output's name stays as it was."),
-    (5, "A bundle says otherwise than is found of it."),
+    (5, "A bundle says something else than its proof shows, or than the directory or program that was named."),
 ]
 
 # An option or an argument: its words, and behind two blanks or on the next lines its text.

@@ -4,10 +4,9 @@
     checks/operating/shards.py [PROGRAM]
 
 The stores of each file of examples/, and those that distributed/evidence.py makes, are split together and each alone. Shard k must have just the items
-that name a node of it, each once; the counts must be those; and `status --part k/K` of shard k must write the lines of that shard's nodes that all stores have. By ranges
-part k must have just the items that speak of a range that is dealt to it, and `combine` must make of the lines of all parts those of all stores. With
+that name a node of it, each once; the counts must be those; and `status --part k/K` of shard k must write the lines of that shard's nodes that all stores have. With
 --extract shard k must have just the items whose fields name a node of it, and the statements of these nodes that segments of others quote; without
-those some lines must differ. Then what is to be refused: words, files, lines, items that are no items, a full disk.
+those some lines must differ. Then what is to be refused: words, files, items that are no items, a full disk.
 """
 
 import functools
@@ -79,19 +78,6 @@ def named(text):
     return set(item.nodes) | {quote.sender for quote in quotes if quote is not None}
 
 
-def spoken(text, width, count):
-    """The nodes and ranges of numbers of which an item speaks. Of the ranges that a segment spans no more than there are parts are needed."""
-    item = read_item(text)
-    keys = {(it.node, it.number // width) for it in item.statements}
-    if hasattr(item, "entries"):
-        first, last = (item.numbers[0], item.numbers[-1]) if item.numbers else (0, 0)
-        low, high = (0 if item.begins_log else max(first - 1, 0)) // width, max(first, last) // width
-        keys |= {(item.node, row) for row in range(low, min(high, low + count) + 1)}
-        keys |= {(item.node, number // width) for number in item.numbers}
-        keys |= {(quote.sender, quote.number // width) for quote in map(quote_of, item.entries) if quote is not None}
-    return keys
-
-
 @functools.cache
 def genuine(directory, text):
     """What a segment quotes genuinely under the directory's text: the sender's number, and its statement as an item."""
@@ -111,16 +97,16 @@ def store_of(items):
     return b"PRSTORE2" + len(items).to_bytes(8, "big") + b"".join(len(item).to_bytes(4, "big") + item for item in items)
 
 
-def hold_split(what, build, folder, stores, count, width=None, directory=None):
+def hold_split(what, build, folder, stores, count, directory=None):
     """Splits the stores together, and gives the files of the parts: of extracts under a directory."""
     items = {item: named(item) for store in stores for item in items_of(read(store))}
     prefix = f"{folder}/part"
-    by = ["--by", "range", "--width", str(width)] if width else ["--by", "node", "--extract", "--directory", directory] if directory else []
+    how = ["--extract", "--directory", directory] if directory else []
     if directory:
         items = extracted(read(directory), items, count)
-    status, out, error = run(build, "split", "--parts", str(count), *by, "--output", prefix, *stores)
+    status, out, error = run(build, "split", "--parts", str(count), *how, "--output", prefix, *stores)
     parts = [f"{prefix}.{k}-of-{count}" for k in range(count)]
-    dealt = {item: {(node + row) % count for node, row in spoken(item, width, count)} if width else {node % count for node in nodes} for item, nodes in items.items()}
+    dealt = {item: {node % count for node in nodes} for item, nodes in items.items()}
     wanted = [{item for item, numbers in dealt.items() if k in numbers} for k in range(count)]
     counts = "".join(f"{k}/{count} {len(part)}\n" for k, part in enumerate(wanted)).encode()
     hold(f"{what}: ends", (status, error) == (0, b""), (status, error))
@@ -152,20 +138,7 @@ def hold_quotes(what, build, folder, directory, stores, count):
     hold(f"{what} in {count}: quotes that are left out", differ != [])
 
 
-def hold_combined(what, build, folder, directory, stores, parts, flags):
-    """The worst of the lines of all parts are those that all stores have."""
-    status, out, _ = run(build, "status", "--program", "tally", *flags, "--directory", directory, *stores)
-    files = [write(f"{folder}/{k}.lines", run(build, "status", "--program", "tally", *flags, "--directory", directory, part)[1]) for k, part in enumerate(parts)]
-    hold(f"{what}: combined", run(build, "combine", "--directory", directory, *files) == (status, out, b""))
-
-
 def hold_evidence(what, build, folder, directory, stores, flags=()):
-    for count, width in ((1, 1), (3, 1), (3, 4), (8, 2), (1024, 1000)):
-        parts = hold_split(f"{what} in {count} by ranges of {width}", build, folder, stores, count, width)
-        if count <= 8:
-            hold_combined(f"{what} in {count} by ranges of {width}", build, folder, directory, stores, parts, flags)
-        for part in parts:
-            os.remove(part)
     for count in COUNTS:
         for how, listed in (("", None), (" of extracts", directory)):
             parts = hold_split(f"{what} in {count}{how}", build, folder, stores, count, directory=listed)
@@ -212,29 +185,11 @@ def hold_faults(build, folder, directory, store):
         hold(f"--parts {word}", (status, out) == (2, b"") and error != b"", (status, error))
 
 
-def hold_line_faults(build, folder, directory, store):
-    told = run(build, "status", "--program", "tally", "--directory", directory, store)[1]
-    lines = told.splitlines(keepends=True)
-    good = write(f"{folder}/good", told)
-    wrong = {
-        "a line missing": b"".join(lines[1:]),
-        "a line more": told + lines[-1],
-        "two lines in turn": lines[1] + lines[0] + b"".join(lines[2:]),
-        "another word": told.replace(b"trusted", b"trustee", 1),
-        "a blank more": told.replace(b" ", b"  ", 1),
-        "no last line feed": told[:-1],
-        "nothing": b"",
-    }
-    for what, text in wrong.items():
-        bad = write(f"{folder}/bad", text)
-        hold_refused(f"combine: {what}", 104, b"/bad: ", build, "combine", "--directory", directory, good, bad)
-    hold_refused("combine: a missing file", 100, b"/none: ", build, "combine", "--directory", directory, good, f"{folder}/none")
-    hold_refused("combine: no directory", 23, b"/good: ", build, "combine", "--directory", good, good)
+def hold_words(build, folder, directory, store):
     for word in ("3/3", "0/0", "1", "1/1025", "-1/2", "a/2", "/", ""):
         status, out, error = run(build, "status", "--part", word, "--program", "tally", "--directory", directory, store)
         hold(f"--part {word}", (status, out) == (2, b"") and error != b"", (status, error))
-    listed = ("--directory", directory)
-    for words in (("--by", "store"), ("--by", "range", "--width", "0"), ("--extract",), listed, ("--by", "range", "--extract", *listed)):
+    for words in (("--extract",), ("--directory", directory), ("--by", "range")):
         status, out, error = run(build, "split", "--parts", "2", *words, "--output", f"{folder}/w", store)
         hold(" ".join(words), (status, out) == (2, b"") and error != b"", (status, error))
 
@@ -262,7 +217,7 @@ def main():
             hold_split("one store alone", build, folder, stores[:1], 3)
             hold_quotes("nine nodes", build, folder, f"{folder}/nodes", stores, 2)
             hold_faults(build, folder, f"{folder}/nodes", stores[0])
-            hold_line_faults(build, folder, f"{folder}/nodes", stores[0])
+            hold_words(build, folder, f"{folder}/nodes", stores[0])
     print(f"{passed} passed, {len(failed)} failed")
     sys.exit(1 if failed else 0)
 

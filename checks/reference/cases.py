@@ -1,8 +1,8 @@
 #!/usr/bin/env python3
 """Holds bindings/cases.txt to what it computes of the formats, over Python's hashlib alone; with the word `write` it writes the file anew.
 
-It shares no code with the crates: keys and nodes are those of nodes.py, outlines, summaries and packs those of transfers.py, and the sentences
-are stored beside the examples. bindings/README.md says how a line is read.
+It shares no code with the crates: keys and nodes are those of nodes.py, outlines, summaries and packs those of transfers.py, journals those
+of journals.py, and the sentences are stored beside the examples. bindings/README.md says how a line is read.
 """
 
 import hashlib
@@ -10,6 +10,9 @@ import re
 import sys
 from pathlib import Path
 
+sys.dont_write_bytecode = True
+
+from journals import faults_of_refusals, of_journals, sized
 from nodes import Key, Node, of_call, sha256, u8, u32, u64
 from transfers import container, outline, short_summary, summary
 
@@ -19,10 +22,6 @@ HEADER = TOP / "c" / "bulwynef.h"
 W8, H5, TALLY, RELAY, MAILBOX, TRUSTED, SUSPECTED, EXPOSED = 4, 5, 1, 2, 3, 1, 2, 3
 # What a runner does with a handle or with a text itself, and what is of no evidence: no line asks for it.
 BY_RUNNERS = {"text_len", "text_copy", "close", "version"}
-
-
-def sized(text):
-    return u32(len(text)) + text
 
 
 class Told(Node):
@@ -91,15 +90,29 @@ class Cases:
         self.lines.append(f"text {name} {text.hex()}".rstrip())
         return text
 
+    def named_once(self, name, text):
+        """The text, by the name that it has already or else by this one."""
+        return text if text in self.names else self.named(name, text)
+
+    def zeros(self, name, count):
+        """A text of so many bytes 0, which a line does not spell."""
+        text = bytes(count)
+        self.names[text] = name
+        self.lines.append(f"zeros {name} {count}")
+        return text
+
+    def line(self, name, words):
+        return " ".join([name, *map(self.word, words), "="])
+
     def word(self, word):
         return f"@{self.names[word]}" if isinstance(word, bytes) else str(word)
 
     def call(self, name, *words, gives=()):
         told = " ".join(map(self.word, gives if isinstance(gives, tuple) else (gives,)))
-        self.lines.append(f"{name} {' '.join(map(self.word, words))} = 0 {told}".rstrip())
+        self.lines.append(f"{self.line(name, words)} 0 {told}".rstrip())
 
     def refused(self, name, *words, number):
-        self.lines.append(f"{name} {' '.join(map(self.word, words))} = {number}")
+        self.lines.append(f"{self.line(name, words)} {number}")
 
     def says(self, line):
         self.lines.append(f"# {line}")
@@ -125,7 +138,8 @@ class Scene:
         cases.named("byte", b"\x09")
         for number in range(1, 9):
             cases.named(f"entropy{number}", of_call(number))
-        self.one, self.two, self.liar = Told(1), Told(2), Told(2)
+        self.one, self.two, self.liar, self.item_of = Told(1), Told(2), Told(2), item_of
+        self.public = {place: key.public() for place, key in self.keys.items()}
 
     def of(self, node):
         return [key for (it, _), key in self.keys.items() if it == node]
@@ -295,7 +309,8 @@ def of_later_keys(it):
     it.one.key = Key(1, W8, 1)
     (message,) = it.one.timer(7, of_call(7))
     cases.call("node_timer", "one", 7, of_call(7))
-    cases.call("node_message", "one", message.seq, gives=cases.named("by_key_1", item_of(message)))
+    it.by_key_1 = cases.named("by_key_1", item_of(message))
+    cases.call("node_message", "one", message.seq, gives=it.by_key_1)
 
 
 def of_programs(it):
@@ -324,9 +339,8 @@ def of_examples(cases):
     proof, store = cases.named("wrong_output", read("examples/wrong_output.proof")), cases.named("equivocation", read("examples/equivocation.store"))
     cases.call("check_proof", TALLY, directory, proof, gives=2)
     cases.call("explain_proof", TALLY, directory, proof, gives=cases.named("why_proof", explained("wrong_output.proof2", directory)))
-    for name, text, number in (("cut_proof", proof[:-1], 40), ("long_proof", proof + b"\x00", 43), ("untagged", b"\x07", 41), ("empty", b"", 40)):
-        text = text if text in cases.names else cases.named(name, text)
-        cases.refused("check_proof", TALLY, directory, text, number=number)
+    for name, text, number in (("cut_proof", proof[:-1], 40), ("long_proof", proof + b"\x00", 43), ("seven", b"\x07", 41), ("empty", b"", 40)):
+        cases.refused("check_proof", TALLY, directory, cases.named_once(name, text), number=number)
         cases.refused("explain_proof", TALLY, directory, text, number=number)
     cases.refused("check_proof", TALLY, cases.named("cut_nodes", directory[:-1]), proof, number=24)
     cases.refused("check_proof", TALLY, directory, cases.named("same_twice", read("checks/formats/no_contradiction.proof")), number=50)
@@ -341,18 +355,20 @@ def of_examples(cases):
 def text_of_cases():
     cases = Cases()
     scene = Scene(cases)
-    for part in (of_keys, of_beginnings, of_messages, of_audits, of_exposures, of_exchanges, of_later_keys, of_programs):
+    for part in (of_keys, of_beginnings, of_messages, of_audits, of_exposures, of_exchanges, of_later_keys, of_journals, of_programs):
         part(scene)
     of_examples(cases)
     return "# Made by checks/reference/cases.py. bindings/README.md says how a line is read.\n" + "".join(f"{line}\n" for line in cases.lines)
 
 
 def faults(text):
-    """What the file lacks: each call of the header is made with success."""
-    calls = set(re.findall(r"^\w+ bulwynef_(\w+)\(", HEADER.read_text(encoding="utf-8"), re.M)) - BY_RUNNERS
-    made = set(re.findall(r"^(\w+) .* = 0", text, re.M))
+    """What the file lacks: each call of the header is made with success, and each call on journals is refused as the header says."""
+    header = HEADER.read_text(encoding="utf-8")
+    calls = set(re.findall(r"^\w+ bulwynef_(\w+)\(", header, re.M)) - BY_RUNNERS
+    made = set(re.findall(r"^(\w+) (?:.* )?= 0", text, re.M))
     yield from (f"bindings/cases.txt: {call} is never called with success" for call in sorted(calls - made))
     yield from (f"bindings/cases.txt: {call} is no call of c/bulwynef.h" for call in sorted(made - calls))
+    yield from faults_of_refusals(header, text)
 
 
 def main():

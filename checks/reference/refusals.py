@@ -24,7 +24,7 @@ PAGE = "docs/FORMATS.md"
 HEADER = TOP / "c" / "refusals.h"
 ERRORS = "python/src/bulwynef/errors.py"
 # The names in other languages of those refusals of whose names there is a second one.
-OWN = {23: "DirectoryBadMagic", 24: "DirectoryTruncated", 25: "DirectoryTrailing", 30: "NodeUnknownNode", 34: "MessageBadSignature"}
+OWN = {23: "DirectoryBadMagic", 24: "DirectoryTruncated", 25: "DirectoryTrailing", 30: "NodeUnknownNode", 34: "MessageBadSignature", 124: "JournalOtherDirectory"}
 
 ARM = re.compile(r"((?:\w+::\w+(?:\(_\))?\s*\|\s*)*\w+::\w+(?:\(_\))?)\s*=>\s*(\d+|\"\w+\")")
 VARIANT = re.compile(r"(\w+)::(\w+)")
@@ -121,15 +121,16 @@ def faults_of_header(wanted, write):
         yield "c/refusals.h: is not what the sources give: checks/reference/refusals.py write makes it anew"
 
 
-def sentences():
-    """The refusals of errors.py: of each number and name the sentence."""
-    text = (TOP / ERRORS).read_text(encoding="utf-8")
+def sentences(of_journals=False):
+    """The refusals of errors.py that calls tell: of each number and name the sentence. Or those that only journals of the package tell."""
+    parts = (TOP / ERRORS).read_text(encoding="utf-8").split("\nOF_JOURNALS", 1)
+    text = parts[1] if of_journals else parts[0]
     return {(int(number), name): line for number, name, line in re.findall(r'^    (\d+): \("(\w+)", "([^"]*)"\),$', text, re.M)}
 
 
 def faults_of_python(rows):
     found = sentences()
-    yield from unknown(ERRORS, found, rows)
+    yield from unknown(ERRORS, [*found, *sentences(of_journals=True)], rows)
     for (number, name), (kinds, _) in rows.items():
         if "`byte_calls::Refusal`" in kinds and (number, name) not in found:
             yield f"{ERRORS}: lacks {number} {name}, which calls tell"

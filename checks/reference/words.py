@@ -35,7 +35,10 @@ BUDGETS = [
     (5625, ["docs/BENCHMARKS.md", "docs/GATE.md", "docs/TESTS.md", "examples/README.md"]),
 ]
 # Pages that have more: how many words, and why.
-LONGER = {}
+LONGER = {
+    "README.md": (1640, "it shows a proved program that takes minutes, beside the one that takes hours"),
+    "docs/DEPLOYING.md": (1875, "what an operator does after each kind of fault is looked up in one place, and in need"),
+}
 GLOSSARY = "GLOSSARY.md"
 
 MADE = re.compile(r"<!-- made by [^>]*-->\n.*?<!-- end -->\n", re.S)
