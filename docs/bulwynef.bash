@@ -3,7 +3,7 @@ _bulwynef() {
     local word="${COMP_WORDS[COMP_CWORD]}" before="${COMP_WORDS[COMP_CWORD-1]}"
     COMPREPLY=()
     if [ "$COMP_CWORD" -eq 1 ]; then
-        COMPREPLY=($(compgen -W "status merge prove check explain bundle split combine show play" -- "$word"))
+        COMPREPLY=($(compgen -W "status merge prove check explain bundle split show play" -- "$word"))
         return
     fi
     case "${COMP_WORDS[1]} $before" in
@@ -25,9 +25,6 @@ _bulwynef() {
     "bundle --program")
         COMPREPLY=($(compgen -W "tally relay mailbox" -- "$word"))
         return ;;
-    "split --by")
-        COMPREPLY=($(compgen -W "node range" -- "$word"))
-        return ;;
     "play --program")
         COMPREPLY=($(compgen -W "tally relay mailbox" -- "$word"))
         return ;;
@@ -46,9 +43,7 @@ _bulwynef() {
     "bundle -"*)
         COMPREPLY=($(compgen -W "--directory --program --most --output --help" -- "$word")) ;;
     "split -"*)
-        COMPREPLY=($(compgen -W "--parts --by --width --extract --directory --output --most --help" -- "$word")) ;;
-    "combine -"*)
-        COMPREPLY=($(compgen -W "--directory --most --output --help" -- "$word")) ;;
+        COMPREPLY=($(compgen -W "--parts --extract --directory --output --most --help" -- "$word")) ;;
     "show -"*)
         COMPREPLY=($(compgen -W "--json --most --help" -- "$word")) ;;
     "play -"*)
