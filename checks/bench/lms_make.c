@@ -1,7 +1,7 @@
 /* Baseline: making an LMS key of a seed, and signing (RFC 8554, sections 4.3, 4.5, 5.3, 5.4.1 and appendix A; SHA-256,
    n = m = 32) in plain C, to measure Bulwynef against. The hash is libcrypto's SHA256_Init, Update and Final, as an ordinary C user writes
    it; a step of a chain is one text of 55 bytes, updated in place. Each chain is hashed once, and the tree is kept.
-   Makes keys of (H5, W8) and of (H10, W4), and prints for each the least and the middle time and the first key's root;
+   Makes keys of (H5, W8), of (H10, W4) and of (H10, W8), and prints for each the least and the middle time and the first key's root;
    then signs by 32 leaves of (H5, W8) for each key, and prints the times of a signature. With a second word it writes
    there a line 'key message signature' in hexadecimal for each signature of the first key, for lms_verify.
    Build: gcc -O3 -march=native lms_make.c -lcrypto (Debian libssl-dev). Run: lms_make [KEYS [FILE]], 11 keys a pair by itself. */
@@ -219,7 +219,8 @@ int main(int argc, char **argv) {
         fprintf(stderr, "from 1 to %d keys, and a file that can be written\n", MOST_KEYS);
         return 2;
     }
-    int done = measure("H5 W8", 5, 8, 34, keys) && measure("H10 W4", 10, 4, 67, keys) && measure_signing(file);
+    int done = measure("H5 W8", 5, 8, 34, keys) && measure("H10 W4", 10, 4, 67, keys) &&
+               measure("H10 W8", 10, 8, 34, keys) && measure_signing(file);
     if (file)
         fclose(file);
     return !done;

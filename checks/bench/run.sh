@@ -54,6 +54,7 @@ ours() {
   echo "the 512 verifications alone: $("$work/verifications-$cpu" < "$work/lms_512.bin" | least_and_middle 1000000 ms)"
   echo "make H5 W8: $("$work/make_keys-$cpu" | least_and_middle 1000 us)"
   echo "make H10 W4: $("$work/make_keys-$cpu" high | least_and_middle 1000 us)"
+  echo "make H10 W8: $("$work/make_keys-$cpu" high wide | least_and_middle 1000 us)"
   "$work/signatures-$cpu" > "$work/times"
   echo "sign H5 W8: $(awk '$1 == "sign" { print $2 }' "$work/times" | least_and_middle 1000 us)"
   echo "verify H5 W8: $(awk '$1 == "verify" { print $2 }' "$work/times" | least_and_middle 1000 us)"

@@ -10,7 +10,8 @@ gcc -O3 -march=native -o "$work/lms_make" ../lms_make.c -lcrypto
 grep -m1 'model name' /proc/cpuinfo
 for round in 1 2 3; do
   "$work/lms_make" 21
-  for word in "" high; do
-    "$work/make_keys" $word | sort -n | awk -v word="$word" '{ t[NR] = $1 } END { printf "make %s: least %.0f us, middle %.0f us\n", word == "" ? "H5 W8" : "H10 W4", t[1] / 1000, t[int((NR + 1) / 2)] / 1000 }'
+  for words in "" "high" "high wide"; do
+    case $words in "") name="H5 W8" ;; high) name="H10 W4" ;; *) name="H10 W8" ;; esac
+    "$work/make_keys" $words | sort -n | awk -v name="$name" '{ t[NR] = $1 } END { printf "make %s: least %.0f us, middle %.0f us\n", name, t[1] / 1000, t[int((NR + 1) / 2)] / 1000 }'
   done
 done

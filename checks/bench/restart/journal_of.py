@@ -1,0 +1,25 @@
+#!/usr/bin/env python3
+"""journal_of.py DIRECTORY STORE JOURNAL: writes the journal of a witness under `tally` that took the items of a store."""
+
+import sys
+
+
+def block_of(text):
+    """The open block of a text, as docs/FORMATS.md has it."""
+    return b"\xff" + len(text).to_bytes(4, "big") + (2**32 - 1 - len(text)).to_bytes(4, "big") + text
+
+
+def items_of(store):
+    """The texts of a store's items. The count stands behind the first eight bytes."""
+    place = 16
+    for _ in range(int.from_bytes(store[8:16], "big")):
+        length = int.from_bytes(store[place : place + 4], "big")
+        yield store[place + 4 : place + 4 + length]
+        place += 4 + length
+
+
+directory, store = (open(name, "rb").read() for name in sys.argv[1:3])
+with open(sys.argv[3], "wb") as journal:
+    for text in [b"PRKEPT01tally", directory, *items_of(store)]:
+        journal.write(block_of(text))
+    journal.write(b"\0")
