@@ -3,6 +3,7 @@
 # Ends with 1 where a shard did not tell, and with 3 where somebody is exposed.
 set -eu
 run=$1 count=$2
+case $run in -*) run=./$run ;; esac
 told=$(find "$run/told" -type f ! -name 'new.*' | wc -l)
 [ "$told" = "$count" ] || { echo "report.sh: $told of $count shards told" >&2; exit 1; }
 sort -n "$run"/told/[0-9]* > "$run/report"

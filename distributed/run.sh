@@ -11,11 +11,12 @@ set -eu
 hosts=$1 count=$2 run=$3
 shift 3
 case " $* " in *" --program"[\ =]*) ;; *) echo "run.sh: no verdict without a program: --program NAME says which one the nodes were to follow: tally, relay, mailbox" >&2; exit 2 ;; esac
-here=$(cd "$(dirname "$0")" && pwd)
+here=$(cd "$(dirname -- "$0")" && pwd)
+case $run in -*) run=./$run ;; esac
 mkdir -p "$run/parts" "$run/counts" "$run/told"
 rm -f "$run"/told/*
-# parallel ends with the number of tasks that failed, which could be 3.
-on_all() { parallel --will-cite --sshloginfile "$hosts" --retries 3 --env BULWYNEF "$@"; }
+# parallel ends with the number of tasks that failed, which could be 3. By --quote, names may have blanks in them.
+on_all() { parallel --will-cite --quote --sshloginfile "$hosts" --retries 3 --env BULWYNEF "$@"; }
 seq "$(sed -n '$=' "$run/stores")" | on_all --joblog "$run/split.log" "$here/split.sh" "$run" "$count" {} || exit 1
 seq 0 $((count - 1)) | on_all --joblog "$run/status.log" "$here/status.sh" "$run" "$count" {} "$@" || exit 1
 exec "$here/report.sh" "$run" "$count"

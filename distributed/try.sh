@@ -1,7 +1,8 @@
 #!/bin/sh
 # try.sh [PROGRAM]: distributed runs on this machine alone. 200 stores (STORES) are asked in 8 shards (SHARDS) on three machines, which are three sshd
 # on loopback ports with keys of their own: of extracts, and with whole segments. The lines must be those of one process that is asked of all. In
-# the last run one machine is killed in the middle; then a part is taken away, which must be seen.
+# the last run one machine is killed while it has tasks; then parts are taken away and changed, which must be seen. The names of the runs and of a
+# store have blanks, and a store's name begins with a dash.
 #
 # Wants Debian's packages openssh-server and parallel, which it installs where they are missing, and crates/bulwynef/out/bulwynef or PROGRAM.
 set -eu
@@ -35,11 +36,19 @@ trap 'exit 130' INT TERM
 ssh-keygen -q -t ed25519 -N '' -f "$room/key"
 cp "$room/key.pub" "$room/allowed"
 mkdir -p /run/sshd
+# What each machine runs: what it is asked to, unless it hangs. A task that is not done stays with a machine that hangs until that is killed.
+cat > "$room/machine" << END
+#!/bin/sh
+if [ "\$1" = 22203 ] && [ -e "$room/hang" ]; then touch "$room/hung"; exec sleep 600; fi
+exec sh -c "\$SSH_ORIGINAL_COMMAND"
+END
+chmod +x "$room/machine"
 for port in $PORTS; do
     ssh-keygen -q -t ed25519 -N '' -f "$room/host-$port"
     printf '[127.0.0.1]:%s %s\n' "$port" "$(cut -d' ' -f1,2 "$room/host-$port.pub")" >> "$room/known"
     /usr/sbin/sshd -D -e -f /dev/null -p "$port" -h "$room/host-$port" -o ListenAddress=127.0.0.1 -o AuthorizedKeysFile="$room/allowed" \
         -o StrictModes=no -o UsePAM=no -o SetEnv=HOME="$room" -o PasswordAuthentication=no -o PermitRootLogin=prohibit-password -o MaxStartups=100 -o PidFile=none \
+        -o ForceCommand="$room/machine $port" \
         2> "$room/sshd-$port.log" &
     servers="$servers $!"
     last=$! last_port=$port
@@ -57,6 +66,12 @@ done
 # ---- one process over all
 
 python3 "$here/evidence.py" "$room/evidence" "$STORES" "${NODES:-24}"
+cd "$room/evidence"
+first=$(ls ./*.store | head -1)
+mv "$first" "./-${first#./}"
+second=$(ls ./*.store | sed -n 2p)
+mv "$second" "./a second ${second#./}"
+cd "$here"
 "$BULWYNEF" status --program tally --directory "$room/evidence/nodes" "$room"/evidence/*.store > "$room/wanted" || [ $? = 3 ]
 for word in exposed suspected trusted; do
     grep -q " $word\$" "$room/wanted" || { echo "try.sh: the evidence has no node that is $word" >&2; exit 1; }
@@ -71,7 +86,7 @@ begin() {
 
 # ---- the same by three machines, of extracts
 
-run=$room/extracts
+run="$room/run of extracts"
 begin "$run"
 echo --extract > "$run/how"
 status=0
@@ -80,12 +95,14 @@ cmp "$room/wanted" "$room/told" || { cat "$room/errors" >&2; exit 1; }
 [ "$status" = 3 ]
 echo "equal: $(wc -l < "$room/told") nodes, of extracts; $(cat "$run"/counts/* | awk '{ items += $2 } END { print items }') items in all parts"
 
-# ---- the same of whole segments, where one machine is killed once a quarter of the stores is split
+# ---- the same of whole segments, where one machine hangs once a quarter of the stores is split, and is killed once it has a task
 
-run=$room/run
+run="$room/a run"
 begin "$run"
 (
     while [ "$(ls "$run/counts" 2> /dev/null | wc -l)" -lt $((STORES / 4)) ]; do sleep 0.05; done
+    touch "$room/hang"
+    while [ ! -e "$room/hung" ] && [ ! -e "$run/report" ]; do sleep 0.05; done
     end "$last"
     echo "try.sh: killed the sshd of port $last_port when $(ls "$run/counts" | wc -l) stores were split" >&2
 ) &
@@ -111,8 +128,24 @@ rm "$part"
 is_seen 'is lost'
 printf 'PRSTORE2\0\0\0\0\0\0\0\0' > "$part"
 is_seen 'has 0 items and not'
+"$here/split.sh" "$run" "$SHARDS" 7
+printf '\377' | dd of="$part" bs=1 seek=$(($(wc -c < "$part") - 1)) conv=notrunc 2> /dev/null
+is_seen 'has another SHA-256'
 rm "$run/counts/7"
 is_seen 'store 7 was not split'
 "$here/split.sh" "$run" "$SHARDS" 7
 "$here/status.sh" "$run" "$SHARDS" 1 --program tally
-echo "a lost part is seen, and a second split brings it back"
+echo "a part that is lost or changed is seen, and a second split brings it back"
+
+# ---- a run and a store in the folder where one is, with names that begin with a dash
+
+cd "$room/evidence"
+mkdir -p ./-run/parts ./-run/counts ./-run/told
+cp nodes ./-run/nodes
+ls ./-*.store | sed 's,^[.]/,,' > ./-run/stores
+"$here/split.sh" -run 1 1
+"$here/status.sh" -run 1 0 --program tally
+"$here/report.sh" -run 1 > "$room/told" || [ $? = 3 ]
+"$BULWYNEF" status --program tally --directory nodes ./-*.store > "$room/wanted" || [ $? = 3 ]
+cmp "$room/wanted" "$room/told"
+echo "equal: a run and a store whose names begin with a dash"

@@ -63,7 +63,7 @@ until sinfo -h -o %T 2> /dev/null | grep -q idle; do
 done
 
 python3 "$here/evidence.py" "$room/evidence" "$STORES" "${NODES:-24}"
-run=$room/run
+run="$room/somebody's run"
 mkdir "$run"
 cp "$room/evidence/nodes" "$run/nodes"
 ls "$room"/evidence/*.store > "$run/stores"

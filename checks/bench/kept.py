@@ -2,6 +2,7 @@
 """How many items a second are on the disk when they are acknowledged, by groups of 1, 16 and 256 with one sync a group, side by side.
 
     kept.py [FOLDER] [--seconds S]
+    kept.py [FOLDER] --rebuild       instead: how long a node of 4,096 entries takes to be rebuilt, beside making its keys
 
 The items are 1,024 messages of one node (H10, W8), of some 1.5 KB each. For so many seconds and each size, group by group and in turn:
 
@@ -16,8 +17,10 @@ the package of python/ (BULWYNEF_LIBRARY may name the shared library).
 
 import argparse
 import os
+import resource
 import sqlite3
 import statistics
+import subprocess
 import sys
 import tempfile
 import time
@@ -28,9 +31,11 @@ try:
 except ImportError:
     sys.path.insert(0, os.path.join(TOP, "python", "src"))
 
-from bulwynef import Journal, KeptStore, Key, Node, Program, Store, directory
+from bulwynef import Journal, KeptNode, KeptStore, Key, Node, Program, Store, directory
 
-GROUPS, ITEMS, H10 = (1, 16, 256), 1024, 6
+GROUPS, ITEMS, H10, W8 = (1, 16, 256), 1024, 6, 4
+# A timer of Tally's adds two entries, of which the second is a message with one signature.
+TIMERS = 2048
 
 
 def made():
@@ -123,11 +128,61 @@ def measured(folder, listed, items, size, seconds):
     return keepers
 
 
+# ---- a node that is rebuilt
+
+
+def keys_of_node():
+    """The two keys of a node, of 1,024 leaves each, and the directory."""
+    keys = [Key(bytes(15) + bytes([n]), bytes(31) + bytes([n]), H10, W8) for n in (1, 2)]
+    return keys, directory({1: [key.public() for key in keys], 2: [Key.new().public()]})
+
+
+def grown(path):
+    """Writes the journal of a node whose log has 4,096 entries; the directory."""
+    keys, listed = keys_of_node()
+    with KeptNode(path, Program.TALLY, listed, 1, keys, may_begin=True) as node:
+        for moment in range(0, TIMERS, 256):
+            if moment == ITEMS:
+                node.next_key(keys[1])
+            assert not any(node.timer_all(range(moment, moment + 256)))
+    return listed
+
+
+def opened(path, directory_path):
+    """Opens the node again, and prints the times and the memory."""
+    with open(directory_path, "rb") as file:
+        listed = file.read()
+    began = time.perf_counter()
+    keys, _ = keys_of_node()
+    made_at = time.perf_counter()
+    with KeptNode(path, Program.TALLY, listed, 1, keys) as node:
+        ended = time.perf_counter()
+        entries = len(node.waiting())
+    memory = resource.getrusage(resource.RUSAGE_SELF).ru_maxrss
+    print(f"two keys: {made_at - began:.2f} s; rebuilt: {ended - made_at:.2f} s; {entries} messages wait; {memory} KB, the journal {os.path.getsize(path)} bytes")
+
+
+def rebuild(folder):
+    path, listed = os.path.join(folder, "node"), os.path.join(folder, "directory")
+    with open(listed, "wb") as file:
+        file.write(grown(path))
+    for _ in range(3):
+        subprocess.run([sys.executable, os.path.abspath(__file__), "--open", path, listed], check=True)
+
+
 def main():
+    if sys.argv[1:2] == ["--open"]:
+        opened(*sys.argv[2:])
+        return
     parser = argparse.ArgumentParser(description=__doc__, formatter_class=argparse.RawDescriptionHelpFormatter)
     parser.add_argument("folder", nargs="?")
     parser.add_argument("--seconds", type=float, default=20)
+    parser.add_argument("--rebuild", action="store_true")
     words = parser.parse_args()
+    if words.rebuild:
+        with tempfile.TemporaryDirectory(dir=words.folder) as folder:
+            rebuild(folder)
+        return
     listed, items = made()
     print(f"{len(items)} items of {sum(map(len, items)) // len(items)} bytes; SQLite {sqlite3.sqlite_version}, Python {sys.version.split()[0]}")
     for size in GROUPS:
