@@ -23,7 +23,7 @@ use commands::input::read_input;
 use operating::asking::Ending;
 use operating::files::{Limits, MOST_READS};
 use operating::reading::read_said;
-use operating::refusal::{Refusal, TextForm};
+use operating::refusal::Refusal;
 use sha2::{Digest, Sha256};
 use std::alloc::{AllocError, Global};
 use std::io::{self, Read};
@@ -41,33 +41,11 @@ fn limits_of(request: &Request) -> Limits {
     }
 }
 
-/// Returns the refusal for a fault of a file's text.
-fn of_text(file: usize, text: &[u8], fault: Fault) -> Refused {
-    Refused::Engine(Refusal {
-        fault,
-        file: Some(file),
-        item: None,
-        byte: None,
-        form: TextForm::known(text),
-    })
-}
-
-/// Returns the refusal for a fault that is in no file.
-fn of_none(fault: Fault) -> Refused {
-    Refused::Engine(Refusal {
-        fault,
-        file: None,
-        item: None,
-        byte: None,
-        form: TextForm::Unknown,
-    })
-}
-
 /// Writes the text, in one write.
 fn written(rt: &HostRuntime, request: &Request, text: &[u8]) -> Result<(), Refused> {
     match output_of(rt, request).write_all(text) {
         Ok(()) => Ok(()),
-        Err(_) => Err(of_none(Fault::WriteFailed)),
+        Err(_) => Err(Refusal::of_none(Fault::WriteFailed).into()),
     }
 }
 
@@ -94,7 +72,7 @@ pub fn bundle<'a>(rt: &'a HostRuntime, request: &'a Request<'a>) -> Result<Endin
         return Err(Refused::NoProgram);
     };
     let Ok(own) = own_sentence(rt) else {
-        return Err(of_none(Fault::Memory));
+        return Err(Refusal::of_none(Fault::Memory).into());
     };
     let given = Handing {
         name,
@@ -182,7 +160,9 @@ fn judgement_of<'a>(
     let directory = read_said(alloc, &mut files, 0, None, limits_of(request))?;
     match judged_under(alloc, style, name, Some(&directory), bundle) {
         Ok(said) => Ok(said),
-        Err(TextFault::Directory(fault)) => Err(of_text(0, &directory, Fault::from(fault))),
+        Err(TextFault::Directory(fault)) => {
+            Err(Refusal::of_text(0, &directory, Fault::from(fault)).into())
+        }
         Err(fault) => Err(Refused::Inside(fault)),
     }
 }
@@ -210,7 +190,7 @@ fn check_bundle(
     let most = limits_of(request).most_bytes;
     let text = match read_input(rt.alloc(), &mut reader, most, MOST_READS) {
         Ok(text) => text,
-        Err(fault) => return Err(of_text(last, &[], fault)),
+        Err(fault) => return Err(Refusal::of_text(last, &[], fault).into()),
     };
     let bundle = match read(rt.alloc(), &text) {
         Ok(bundle) => bundle,
@@ -246,7 +226,7 @@ pub fn check<H: Threads + Wait + Sync>(
     let name = request.paths.last().unwrap_or(&"-");
     let Ok(rest) = open(rt, name) else {
         return if is_one || request.program.is_none() {
-            Err(of_text(last, &[], Fault::ReadFailed))
+            Err(Refusal::of_text(last, &[], Fault::ReadFailed).into())
         } else {
             check_proof(rt, threads, request, style, None)
         };
@@ -261,7 +241,7 @@ pub fn check<H: Threads + Wait + Sync>(
         return check_bundle(rt, request, style, begun);
     }
     if !is_read && (is_one || request.program.is_none()) {
-        return Err(of_text(last, &[], Fault::ReadFailed));
+        return Err(Refusal::of_text(last, &[], Fault::ReadFailed).into());
     }
     if is_one {
         return Err(Refused::NoDirectory);
