@@ -63,8 +63,6 @@ static const struct { unsigned number; const char *name; } refusals[] = {
     {104, "LineCount"},
     {105, "BadScenario"},
     {106, "BadBundle"},
-    {107, "OtherLength"},
-    {108, "OtherSum"},
     {109, "UnknownProgram"},
     {110, "Closed"},
     {111, "OtherKind"},
@@ -87,4 +85,5 @@ static const struct { unsigned number; const char *name; } refusals[] = {
     {128, "OtherKey"},
     {129, "BadRecord"},
     {130, "Ended"},
+    {131, "OlderBundle"},
 };

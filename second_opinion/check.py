@@ -2,13 +2,13 @@
 """A second opinion on evidence: whom a proof convicts, and what stores say of each node.
 
     check.py --program NAME [--why] DIRECTORY PROOF         exposes ID, or the refusal; under which program, which directory
-    check.py [--program NAME] [--why] [DIRECTORY] BUNDLE    the same, and where the bundle says otherwise
+    check.py [--program NAME] [--why] [DIRECTORY] BUNDLE    the same, and in what the bundle is another than was named
     check.py --program NAME --store DIRECTORY STORE..       a line for each node: trusted, suspected or exposed
 
 NAME is the program that the nodes were to follow: tally, relay or mailbox. A bundle names its own. A file is bytes, or a line of hexadecimal
 digits; one of two lines is a directory, and what stands under it. `-` is standard input. --why tells each signature, hash and step that was
 verified, in sentences. It ends with 0; with 1 after `refused NUMBER NAME: PLACE` on standard error; with 2 where the words are others than
-these; with 3 where --store says that a node is exposed; with 5 where a bundle says something else than its proof shows.
+these; with 3 where --store says that a node is exposed; with 5 where a bundle has another program or directory than was named.
 
 This one file is all of it, in Python 3.9 and its standard library, written from RFC 8554, from PeerReview (Haeberlen, Kouznetsov, Druschel:
 SOSP 2007) and from docs/FORMATS.md, whose headings stand below in quotes. It shares no code with the proved programs, and is not proved.
@@ -27,7 +27,7 @@ from collections import namedtuple
 NAMES = """2 UnknownLmsType, 3 UnknownOtsType, 20 DuplicateNode, 21 DuplicateKey, 22 TooManyNodes, 23 BadMagic, 24 Truncated, 25 Trailing,
 26 KeyCount, 40 Truncated, 41 BadTag, 42 TooLong, 43 Trailing, 44 UnknownNode, 45 SelfMessage, 46 EmptySegment, 47 BadStart, 48 BadRange,
 49 BadSignature, 50 NoContradiction, 51 Conforms, 60 BadMagic, 61 NotAscending, 99 Memory, 100 ReadFailed, 101 InputTooLong,
-102 WriteFailed, 103 BadHex, 104 LineCount, 106 BadBundle, 107 OtherLength, 108 OtherSum, 109 UnknownProgram"""
+102 WriteFailed, 103 BadHex, 104 LineCount, 106 BadBundle, 109 UnknownProgram, 131 OlderBundle"""
 REFUSALS = {int(number): name for number, name in (it.split() for it in NAMES.split(","))}
 
 class Refused(Exception):
@@ -573,12 +573,13 @@ def of_replay(directory, program, segment):
                 yield "  logged is " + (f"a SEND {of_send(entry.content)}" if entry.kind == SEND else f"the state {entry.content.hex()}")
 
 # ---- bundles: "Bundle"
-NUMBER, SUM, DIGITS = "(0|[1-9][0-9]{0,9})", "([0-9a-f]{64})", "([0-9a-f]*)"
-FIRST = "bulwynef bundle 1"
-FIELDS = ["program ([a-z0-9_]{1,32})", f"exposes {NUMBER}", f"directory {NUMBER} {SUM}", f"proof {NUMBER} {SUM}", DIGITS, DIGITS]
+DIGITS = "([0-9a-f]*)"
+FIRST, FIELDS = "bulwynef bundle 2", ["program ([a-z0-9_]{1,32})", DIGITS, DIGITS]
 
 def read_bundle(text):
-    """The name of the program, whom the bundle says to be exposed, the directory and the proof. Sentences are not read."""
+    """The name of the program, the directory and the proof. Sentences are not read."""
+    if text.startswith(b"bulwynef bundle 1\n"):
+        raise Refused(131)
     *lines, open_line = text.decode("latin-1").split("\n")
     lines += [open_line + "\n"] if open_line else []
     front = next((place for place, line in enumerate(lines) if place and not re.fullmatch("#[ -~]*", line)), len(lines))
@@ -587,15 +588,11 @@ def read_bundle(text):
         match = re.fullmatch(wanted, lines[place]) if place < len(lines) else None
         if match is None or (wanted == DIGITS and len(lines[place]) % 2):
             raise Refused(106, f"line {place + 1}")
-        found.append(match.groups())
+        found += match.groups()
     if len(lines) > front + len(FIELDS):
         raise Refused(106, f"line {front + len(FIELDS) + 1}")
-    _, (program,), (node,), *told, directory, proof = found
-    texts = [bytes.fromhex(digits) for digits, in (directory, proof)]
-    for place, (body, (length, digest)) in enumerate(zip(texts, told), front + 3):
-        if (len(body), sha256(body).hex()) != (int(length), digest):
-            raise Refused(108 if len(body) == int(length) else 107, f"line {place}")
-    return program, int(node), *texts
+    program, *digits = found
+    return program, *map(bytes.fromhex, digits)
 
 # ---- answers, files and words: "What a file says"
 @functools.lru_cache(maxsize=None)
@@ -640,14 +637,13 @@ def of_proof(name, directory, proof):
         node = convicted(listed, PROGRAMS[name], parts)
     return node, [f"program {name}", f"directory {sha256(directory[1]).hex()}"], sentences(listed, PROGRAMS[name], parts)
 
-def of_bundle(name, place, directory, why, program, said, own, proof):
-    """Whom the proof of a bundle convicts under this program and directory, or else its own; and where the bundle says otherwise."""
+def of_bundle(name, place, directory, why, program, own, proof):
+    """Whom the proof of a bundle convicts under this program and directory, or else its own; and in what the bundle has another one."""
     name, directory = name or program, directory or (f"{place}, directory", own)
     if name not in PROGRAMS:
         raise Refused(109, place)
     node, under, verified = of_proof(name, directory, (f"{place}, proof", proof))
-    others = [f"disagrees: the bundle says that it exposes {said}"] * (node != said)
-    others += [f"disagrees: the bundle names the program {program}"] * (name != program)
+    others = [f"disagrees: the bundle names the program {program}"] * (name != program)
     others += [f"disagrees: the bundle has the directory {sha256(own).hex()}"] * (directory[1] != own)
     return 5 if others else 0, [f"exposes {node}", *under, *others, *(verified if why else [])], []
 

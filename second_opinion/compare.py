@@ -36,7 +36,7 @@ HERE = os.path.dirname(os.path.abspath(__file__))
 sys.path.append(f"{stored.TOP}/checks/fuzz")
 # How many cases each source has at least
 LEAST = {"tour": 13, "mailbox": 7, "explained": 10, "page": 11, "refusals": 34, "boundaries": 237, "vectors": 363, "cuts": 9640}
-LEAST.update({"verdicts": 83, "proofs": 264, "falling": 201, "bundles": 140, "forms": 262, "process": 45, "why": 200, "program": 1, "cases": 1})
+LEAST.update({"verdicts": 83, "proofs": 264, "falling": 201, "bundles": 150, "forms": 263, "process": 45, "why": 200, "program": 1, "cases": 1})
 LEAST["mutated"] = 200
 MOST_LINES = 720
 DIGITS = b"0123456789abcdefABCDEF"
@@ -197,36 +197,34 @@ def hold_bundle(tried, case):
 
     hold("whole", "".join(lines), told)
     tried.hold("bundles", "two lines", "".join(lines[-2:]).encode(), case.text())
-    fields = lines[-6:]
-    short = [lines[0], *fields]
+    short = [lines[0], *lines[-3:]]
     hold("without sentences", "".join(short), told)
-    hold("another node", "".join([*short[:2], "exposes 77\n", *short[3:]]), f"{told}disagrees: the bundle says that it exposes 77\n")
     named = "".join([short[0], "program other_1\n", *short[2:]])
     hold("another program", named, "refused 109 UnknownProgram: bundle\n")
     hold("the asked program", named, f"{told}disagrees: the bundle names the program other_1\n", program)
-    size, other = f" {len(directory)} ", 64 * "0" + "\n"
-    for number, place, line in (
-        *((106, place, "") for place in (2, 3, 4, 5, 7)),
-        (106, 1, "bulwynef bundle 2\n"),
-        (106, 2, "#\tsentence\n"),
-        (106, 2, "# \x1b[2J\n"),
-        (106, 2, "program Other\n"),
-        (106, 2, f"program {33 * 'a'}\n"),
-        (106, 3, "exposes 02\n"),
-        (106, 3, "exposes\n"),
-        (107, 4, short[3].replace(size, f" {len(directory) - 1} ")),
-        (106, 4, short[3].replace(size, f" 0{size[1:]}")),
-        (108, 4, short[3][:-65] + other),
-        (107, 5, short[4].replace(f" {len(proof)} ", f" {len(proof) + 1} ")),
-        (108, 5, short[4][:-65] + other),
-        (106, 6, short[5].replace("\n", "0\n")),
-        (106, 7, short[6].replace("\n", "0\n")),
-        (106, 6, short[5].upper()),
-        (106, 7, short[6][:-1]),
-        (106, 8, "# no sentence\n"),
+    hold("format 1", "".join(["bulwynef bundle 1\n", *short[1:]]), "refused 131 OlderBundle: bundle\n")
+    hold("the first line of format 1", "bulwynef bundle 1\n", "refused 131 OlderBundle: bundle\n")
+    for place, line in (
+        *((place, "") for place in (2, 4)),
+        (1, "bulwynef bundle 1"),
+        (1, "bulwynef bundle 1 \n"),
+        (1, "bulwynef bundle 3\n"),
+        (2, "#\tsentence\n"),
+        (2, "# \x1b[2J\n"),
+        (2, "program Other\n"),
+        (2, "program  other\n"),
+        (2, "program \n"),
+        (2, f"program {33 * 'a'}\n"),
+        (3, "exposes 2\n"),
+        (3, short[2].replace("\n", "0\n")),
+        (4, short[3].replace("\n", "0\n")),
+        (3, short[2].upper()),
+        (4, short[3][:-1]),
+        (5, "# no sentence\n"),
+        (5, "\n"),
     ):
         broken = "".join([*short[: place - 1], line, *short[place:]])
-        hold(f"line {place}", broken, f"refused {number} {check.REFUSALS[number]}: bundle, line {place}\n")
+        hold(f"line {place}", broken, f"refused 106 BadBundle: bundle, line {place}\n")
 
 
 def hold_process(tried):

@@ -17,16 +17,17 @@ import check
 from check import sha256
 
 
-def sentences(program, node, verified):
-    """What stands in a bundle for people: how to check it, what was verified, and by what."""
+def sentences(node, under, verified):
+    """What stands in a bundle for people: whom it exposes, under which program and directory, how to check that, and what was verified."""
     with open(check.__file__, "rb") as file:
         own = sha256(file.read()).hex()
     return [
-        f"Node {node} is exposed, where it was to follow the program {program}.",
-        "Believe no sentence of this file. Get the directory's sum and the name of the program, which stand below, by another way than",
-        "this file, compare, and check the proof by one of these, of which the second is proved:",
+        f"Node {node} is exposed, where it was to follow the program {under[0].split()[1]}.",
+        f"The directory of the nodes has the SHA-256 value {under[1].split()[1]}.",
+        "Nothing in a line that begins with # is believed. Check the proof by one of these, of which the second is proved:",
         "  python3 check.py BUNDLE",
         "  bulwynef check BUNDLE",
+        "Each writes the node, the program and the directory. Compare the last two with what you got by another way than this file.",
         "What was verified:",
         *(f"  {line}" for line in verified),
         f"Made with Python {platform.python_version()} by the check.py that has the SHA-256 value {own}",
@@ -35,10 +36,8 @@ def sentences(program, node, verified):
 
 def bundle(program, directory, proof):
     """The lines of the bundle, of the bytes of a directory and of a proof."""
-    node, _, verified = check.of_proof(program, ("directory", directory), ("proof", proof))
-    lines = [check.FIRST, *(f"# {line}" for line in sentences(program, node, verified)), f"program {program}", f"exposes {node}"]
-    lines += [f"{name} {len(text)} {sha256(text).hex()}" for name, text in (("directory", directory), ("proof", proof))]
-    return [*lines, directory.hex(), proof.hex()]
+    told = check.of_proof(program, ("directory", directory), ("proof", proof))
+    return [check.FIRST, *(f"# {line}" for line in sentences(*told)), f"program {program}", directory.hex(), proof.hex()]
 
 
 def made(words):

@@ -13,6 +13,7 @@ CUT_OFF, LINES = "a store, a proof or an item in them is cut off", "the input do
 LEFT, SIGNATURE = "bytes are left over after a store, a proof or an item", "a signature of an item is not valid"
 UNLISTED, ASCENDING = "a node that is named or asked for is not listed in the directory", "the items of a store do not ascend by their bytes"
 LINE = "this line is not as bundles have it, is missing, or stands behind the last"
+OLDER = "a bundle of format 1, which is no longer read: ask for one of format 2, or for the directory and the proof"
 NO_DIRECTORY = "refused 23 BadMagic: nodes: the first bytes are not those of a directory"
 NO_STORE = "refused 60 BadMagic: file, item 0, byte 16: the first bytes are not those of a store"
 KEYS = "the directory lists a node with no key, or with more than it may have"
@@ -126,13 +127,12 @@ def bad_bundles(its, bundle):
     def bundled(place, line):
         return b"\n".join([*lines[:place], line, *lines[place + 1 :]])
 
-    yield from its.of(["check file"], b"bulwynef bundle 2\n", f"refused 106 BadBundle: file, line 1: {LINE}")
+    yield from its.of(["check file"], b"bulwynef bundle 3\n", f"refused 106 BadBundle: file, line 1: {LINE}")
+    yield from its.of(["check file"], bundled(0, b"bulwynef bundle 1"), f"refused 131 OlderBundle: file: {OLDER}")
     yield from its.of(["check file"], bundle + b"\n", f"refused 106 BadBundle: file, line {len(lines)}: {LINE}")
     yield from its.of(["check file"], bundled(front, b"program other_1"), "refused 109 UnknownProgram: file: the bundle names a program that is not known")
-    told = f"refused 107 OtherLength: file, line {front + 3}: the digits have another length than this line says"
-    yield from its.of(["check file"], bundled(front + 2, b"directory 1 " + 64 * b"0"), told)
-    told = f"refused 108 OtherSum: file, line {front + 4}: the bytes of the digits have another SHA-256 than this line says"
-    yield from its.of(["check file"], bundled(front + 3, lines[front + 3][:-64] + 64 * b"0"), told)
+    yield from its.of(["check file"], bundled(front + 1, lines[front + 1][1:]), f"refused 106 BadBundle: file, line {front + 2}: {LINE}")
+    yield from its.of(["check file"], bundled(front + 2, lines[front + 2].upper()), f"refused 106 BadBundle: file, line {front + 3}: {LINE}")
 
 
 def bad_files(directory, store, proof, items, bundle):

@@ -11,9 +11,8 @@ TOP = os.path.dirname(os.path.dirname(os.path.dirname(os.path.abspath(__file__))
 SECOND = [sys.executable, f"{TOP}/second_opinion/check.py"]
 
 
-def bundle(directory, proof, node=2, program="tally", sentence="# a sentence"):
-    told = [f"{name} {len(text)} {hashlib.sha256(text).hexdigest()}" for name, text in (("directory", directory), ("proof", proof))]
-    lines = ["bulwynef bundle 1", sentence, f"program {program}", f"exposes {node}", *told, directory.hex(), proof.hex()]
+def bundle(directory, proof, program="tally", sentence="# a sentence", first="bulwynef bundle 2"):
+    lines = [first, sentence, f"program {program}", directory.hex(), proof.hex()]
     return "".join(f"{line}\n" for line in lines).encode()
 
 
@@ -28,13 +27,13 @@ def files_of(directory, proof):
         "nodes.digits": directory.hex().encode() + b"\n",
         "two.digits": proof.hex().encode() + b"\n",
         "good": good,
-        "node77": bundle(directory, proof, node=77),
         "other": bundle(directory, proof, program="other_1"),
         "relay": bundle(directory, proof, program="relay"),
-        "first": good.replace(b"bundle 1", b"bundle 2"),
+        "first": bundle(directory, proof, first="bulwynef bundle 3"),
+        "older": bundle(directory, proof, first="bulwynef bundle 1"),
         "sentence": bundle(directory, proof, sentence="no sentence"),
-        "length": good.replace(b"directory %d" % len(directory), b"directory %d" % (len(directory) + 1)),
-        "sum": good.replace(hashlib.sha256(proof).hexdigest().encode(), b"0" * 64),
+        "behind": good + b"# a sentence\n",
+        "odd": good.replace(proof.hex().encode(), proof.hex()[1:].encode()),
         "no_directory": bundle(proof, proof),
         "no_proof": bundle(directory, directory),
         "digits_within": bundle(directory.hex().encode() + b"\n", proof),
@@ -45,7 +44,7 @@ def files_of(directory, proof):
 
 # The words of check.py; bulwynef gets the first of two files by --directory
 ASKED = """good; nodes good; nodes.digits good; two good; two.proof good; none good; nodes none; none; .; nodes .; --program relay good; --program tally relay; relay
-node77; two node77; other; --program tally other; first; sentence; length; sum; no_directory; nodes no_directory; no_proof; digits_within; cut_off
+other; --program tally other; --program relay two other; first; older; nodes older; sentence; behind; odd; no_directory; nodes no_directory; no_proof; digits_within; cut_off
 --program tally nodes two.proof; --program tally nodes.digits two.digits; --program tally nodes short; --program tally nodes nodes""".replace("\n", "; ").split("; ")
 
 
@@ -79,7 +78,7 @@ def hold_made(hold, run, build, folder):
         with open(f"{folder}/made", "rb") as it:
             text = it.read()
         with open(f"{folder}/good", "rb") as it:
-            hold(f"the last lines of the bundle of {files}", text.splitlines()[-6:] == it.read().splitlines()[-6:], text[:2000])
+            hold(f"the last lines of the bundle of {files}", text.splitlines()[-3:] == it.read().splitlines()[-3:], text[:2000])
         own = hashlib.sha256(open(build, "rb").read()).hexdigest()
         hold("the sentence about the program", f"\n# Made by the bulwynef whose file has the SHA-256 value {own}\n".encode() in text, text[:2000])
         hold_asked(hold, run, build, folder, ["made"])

@@ -24,7 +24,7 @@ STATUS = [
     (2, "The words of the command line are missing or not understood, or ask for help."),
     (3, "status or explain says that a node is exposed."),
     (4, "There is no proof. A file of the output's name stays as it was."),
-    (5, "A bundle says something else than its proof shows, or than the directory or program that was named."),
+    (5, "A bundle has another program or directory than those named."),
 ]
 
 # An option or an argument: its words, and behind two blanks or on the next lines its text.

@@ -157,9 +157,11 @@ def hold_json(hold, run, build, folder):
     says = {"exposes": 2, "program": "tally", "directory": digest}
     hold("check --json", found[0] == 0 and json.loads(found[1]) == says and found[1].endswith(b"}\n") and found[2] == b"", found)
     text = read(f"{files}/wrong_output.bundle")
-    for what, bundle, told in (("", text, says), (" that names another node", text.replace(b"\nexposes 2\n", b"\nexposes 77\n"), {**says, "exposes": 77})):
-        status, out, error = run([build, "check", "--json", write(f"{folder}/bundle", bundle)])
-        is_told = (status, error) == (0 if told == says else 5, b"") and out.endswith(b"}}\n") and json.loads(out) == {**says, "bundle": told}
+    for what, named, words in (("", "tally", []), (" that names another program", "other_1", ["--program", "tally"])):
+        bundle = write(f"{folder}/bundle", text.replace(b"\nprogram tally\n", b"\nprogram %s\n" % named.encode()))
+        status, out, error = run([build, "check", "--json", *words, bundle])
+        told = {**says, "bundle": {"program": named, "directory": digest}}
+        is_told = (status, error) == (5 if words else 0, b"") and out.endswith(b"}}\n") and json.loads(out) == told
         hold(f"check --json of a bundle{what}", is_told, (status, out, error))
 
 

@@ -5,7 +5,7 @@ last two anew.
 
 Each enum of faults gives a variant's number and name by `number` and `name`, and a line for a person. A program may also tell a refusal by a
 text of its own, `"refused NUMBER NAME: {file}: LINE"`. A row has a number and a name, the line of the lowest crate that tells it, and the types
-or programs that do. A number has one name. `Reason` is why a log deviates, and no refusal. Crates come as in crates.txt, lowest first.
+or programs that do. A number has one name, and one of `GONE` is not used again. `Reason` is why a log deviates, and no refusal. Crates come as in crates.txt, lowest first.
 
 The languages have the refusals that calls tell, each by a name of its own: a name that a second number has too is another there (`OWN`). What
 they say of each is the sentence in errors.py.
@@ -23,6 +23,8 @@ TOP = Path(__file__).resolve().parents[2]
 PAGE = "docs/FORMATS.md"
 HEADER = TOP / "c" / "refusals.h"
 ERRORS = "python/src/bulwynef/errors.py"
+# The refusals that are gone.
+GONE = {107: "OtherLength", 108: "OtherSum"}
 # The names in other languages of those refusals of whose names there is a second one.
 OWN = {23: "DirectoryBadMagic", 24: "DirectoryTruncated", 25: "DirectoryTrailing", 30: "NodeUnknownNode", 34: "MessageBadSignature", 124: "JournalOtherDirectory"}
 
@@ -98,6 +100,8 @@ def faults_of_numbers(rows):
     for number, found in names.items():
         if len(found) > 1:
             yield f"the sources give {number} the names {' and '.join(found)}"
+        if number in GONE:
+            yield f"the sources give {number} the name {' and '.join(found)}: it was that of {GONE[number]}, and is not used again"
 
 
 def table():

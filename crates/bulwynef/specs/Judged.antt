@@ -13,7 +13,7 @@ use Rattle.bulwynef.specs.declared.programs.ProgramName.{ProgramName}
 use Rattle.bulwynef.specs.Programs.{spelling_of}
 
 -- The text says, in this style, whom the bundle's proof convicts under the directory and the program of this name, and in what the bundle
--- disagrees. The flag says whether the bundle agrees.
+-- has another one. The flag says whether both are the bundle's own.
 abbrev pub Judged : {S : Type 0} → Style → Meaning S → List ℕ → List ℕ → Contents → List ℕ → Bool → Type 0
 Judged style.Lines program name directory b text agrees = IsJudged program name directory b text agrees
 Judged style.Json program name directory b text agrees = IsJudgedInJson program name directory b text agrees
@@ -23,7 +23,7 @@ abbrev pub IsNamed : Option ProgramName → List ℕ → ProgramName → Type 0
 IsNamed (Some named) spelling name = name ≡ named
 IsNamed None spelling name = spelling_of name ≡ spelling
 
--- How `check` ends. If the bundle says otherwise than is found, it ends in a way of its own.
+-- How `check` ends. If the bundle has another program or directory, it ends in a way of its own.
 abbrev pub done_of : Bool → Done
 done_of true = done.Engine ending.Done
 done_of false = done.Disagreed

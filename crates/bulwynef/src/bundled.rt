@@ -167,7 +167,7 @@ fn judgement_of<'a>(
     }
 }
 
-/// Returns how `check` ends: with 5 if the bundle says otherwise than is found.
+/// Returns how `check` ends: with 5 if the bundle has another program or directory than the ones by which it was judged.
 fn done_of(said: &Judgement) -> Done
     ensures { result ≡ done_of said.now.agrees }
 {

@@ -222,7 +222,7 @@ fn check<'a>(alloc: Global) -> Result<Command<'a>, AllocError> {
         alloc,
         "check",
         Texts {
-            about: "Writes which node a proof exposes, and under which program and directory. Ends with 5 if a bundle says something else than its proof shows",
+            about: "Writes which node a proof exposes, and under which program and directory. Ends with 5 if a bundle has another program or directory than those named",
             example: "Example: bulwynef check --program tally --directory nodes.dir two.proof",
             program: "The program that the nodes were to follow. It must be named, unless the file is a bundle, which names one",
         },

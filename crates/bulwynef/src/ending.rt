@@ -13,7 +13,7 @@ use std::process::ExitCode;
 pub enum Done {
     /// It ends as its engine does.
     Engine(Ending),
-    /// A bundle says otherwise than is found.
+    /// A bundle has another program or directory than those named.
     Disagreed,
 }
 

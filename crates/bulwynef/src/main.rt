@@ -65,7 +65,7 @@ fn done<H: Threads + Wait + Sync>(
 /// - 2, if words are missing or not understood.
 /// - 3, if somebody is exposed.
 /// - 4, if there is no proof.
-/// - 5, if a bundle says otherwise than is found.
+/// - 5, if a bundle has another program or directory than those named.
 fn main(rt: HostRuntime) -> ExitCode {
     let words = match words::words_of(&rt) {
         Ok(words) => words,

@@ -1,15 +1,13 @@
-mod Cuts
 mod DigitTexts
-mod Digits
 mod Endings
 mod Feeds
 mod FieldTexts
 mod FrontSentences
 mod HexDigits
+mod OlderTexts
 mod PlainWords
 mod ReadTexts
 mod Sentences
 mod SpelledTexts
 mod Steps
-mod Tellings
 mod WrittenTexts

@@ -1,6 +1,8 @@
 -- Sentences at the front of a text.
 use Rattle.std.proofs.Common.{◌≡◌, ◌≤◌, ◌+◌, ◌-◌, ◌==◌, ℕ, true, false, List, [], ◌∷◌, ◌++◌, length, take, refl, sym, ap, subst, ◌∙◌, add-zero, add_assoc, append_assoc, append-nil, length-append, arith}
+use Rattle.std.specs.List.{join_with_byte}
 use Rattle.std.proofs.Math.Seq.{take-append_seam}
+use Rattle.std.proofs.lemmas.List.Splits.{join_with_byte-slice_split}
 use Rattle.bundles.specs.Grammar.{Reached, lines_of, sentences_from, with_sentence}
 use Rattle.bundles.specs.Spelling.{ended, is_sentence}
 use Rattle.bundles.specs.within.Cursors.{AreInFront, IsBehindSentence, IsLine, IsNext}
@@ -13,6 +15,21 @@ abbrev place : ℕ → List (List ℕ) → Reached
 place n parts = record { number = n; left = parts }
 
 -- ---- one line
+
+joined : (front : List ℕ) (parts : List (List ℕ)) → 1 ≤ length parts → join_with_byte 10 (front ∷ parts) ≡ front ++ 10 ∷ join_with_byte 10 parts
+joined front [] h = absurd (omega arith)
+joined front (p ∷ ps) h = refl
+
+-- what is cut is a line and the rest
+pub line_is : (text line rest : List ℕ) → lines_of text ≡ line ∷ lines_of rest → IsLine text line rest
+line_is text line rest h = record {
+  whole =
+      sym (join_with_byte-slice_split 10 text)
+      ∙ ap (join_with_byte 10) h
+      ∙ joined line (lines_of rest) (some_parts (λ c. c == 10) rest)
+      ∙ ap (λ (t : List ℕ). line ++ 10 ∷ t) (join_with_byte-slice_split 10 rest);
+  lines = h;
+}
 
 pub next_is : (text line rest : List ℕ) (n : ℕ) → IsLine text line rest → IsNext (record { number = n; left = lines_of text }) line (record { number = n + 1; left = lines_of rest })
 next_is text line rest n h = record { number = refl; left = h.lines; ends = some_parts (λ c. c == 10) rest }

@@ -10,22 +10,19 @@ use Rattle.bundles.specs.declared.fault.WriteFault.TheVariants as writing
 -- The number of each refusal of a text.
 abbrev pub number_of : BundleFault → ℕ
 number_of (fault.BadBundle line) = 106
-number_of (fault.OtherLength line) = 107
-number_of (fault.OtherSum line) = 108
+number_of fault.OlderBundle = 131
 number_of fault.Memory = 99
 
 -- The name of each refusal of a text, in codes.
 abbrev pub name_of : BundleFault → List ℕ
 name_of (fault.BadBundle line) = codes "BadBundle"
-name_of (fault.OtherLength line) = codes "OtherLength"
-name_of (fault.OtherSum line) = codes "OtherSum"
+name_of fault.OlderBundle = codes "OlderBundle"
 name_of fault.Memory = codes "Memory"
 
 -- The line that is at fault, counted from 1.
 abbrev pub line_of : BundleFault → Option ℕ
 line_of (fault.BadBundle line) = Some line
-line_of (fault.OtherLength line) = Some line
-line_of (fault.OtherSum line) = Some line
+line_of fault.OlderBundle = None
 line_of fault.Memory = None
 
 -- ---- of parts that are to be written

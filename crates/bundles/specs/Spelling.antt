@@ -1,16 +1,13 @@
 -- What a bundle is, and what its one text is, line by line. A line feed (10) ends each line.
-use Rattle.std.specs.Prelude.{◌≡◌, ◌<◌, ◌^◌, ◌==◌, ◌&&◌, ◌||◌, nat_le, ℕ, Bool, false, List, [], ◌∷◌, ◌++◌, length, IsTrue, codes, decimal}
+use Rattle.std.specs.Prelude.{◌≡◌, ◌==◌, ◌&&◌, ◌||◌, nat_le, ℕ, Bool, false, List, [], ◌∷◌, ◌++◌, length, IsTrue, codes}
 use Rattle.std.specs.List.{All, flat_map, list_all}
 use Rattle.hex.specs.Hex.{encode_lower}
 use Rattle.outcome.specs.Bytes.{IsBytes}
-use Rattle.sha2.specs.Sha256.{sha256}
 
--- What a bundle hands over: sentences for people, as they stand, the name of a program, the node that is said to be exposed, and the bytes
--- of a directory and of a proof.
+-- What a bundle hands over: sentences for people, as they stand, the name of a program, and the bytes of a directory and of a proof.
 pub record Contents : Type 0 where
   pub sentences : List ℕ
   pub program : List ℕ
-  pub node : ℕ
   pub directory : List ℕ
   pub proof : List ℕ
 
@@ -45,40 +42,27 @@ pub record AreSentences (text : List ℕ) : Type 0 where
   pub each : All (λ line. IsTrue (is_sentence line)) lines
   pub joined : text ≡ flat_map ended lines
 
--- Bytes whose number has at most ten decimal digits.
-pub record IsPart (bytes : List ℕ) : Type 0 where
-  pub each : IsBytes bytes
-  pub count : length bytes < 10 ^ 10
-
 -- Each part is as bundles have it.
 pub record IsBundle (b : Contents) : Type 0 where
   pub sentences : AreSentences b.sentences
   pub program : IsTrue (is_name b.program)
-  pub node : b.node < 10 ^ 10
-  pub directory : IsPart b.directory
-  pub proof : IsPart b.proof
+  pub directory : IsBytes b.directory
+  pub proof : IsBytes b.proof
 
 -- ---- the text
 
--- `WORD LENGTH SUM`: how many bytes there are, and their SHA-256 value in digits.
-abbrev pub told_line : List ℕ → List ℕ → List ℕ
-told_line word bytes = word ++ 32 ∷ decimal (length bytes) ++ 32 ∷ encode_lower (sha256 bytes)
-
 -- The first line of each bundle.
 abbrev pub first_line : List ℕ
-first_line = codes "bulwynef bundle 1"
+first_line = codes "bulwynef bundle 2"
 
 -- The lines behind the sentences. Digits are hexadecimal, two for each byte, in lower case.
 abbrev pub last_lines : Contents → List (List ℕ)
-last_lines b =
-    (codes "program" ++ 32 ∷ b.program)
-    ∷ (codes "exposes" ++ 32 ∷ decimal b.node)
-    ∷ told_line (codes "directory") b.directory
-    ∷ told_line (codes "proof") b.proof
-    ∷ encode_lower b.directory
-    ∷ encode_lower b.proof
-    ∷ []
+last_lines b = (codes "program " ++ b.program) ∷ encode_lower b.directory ∷ encode_lower b.proof ∷ []
 
 -- The text of a bundle.
 unfoldable pub text_of : Contents → List ℕ
 text_of b = ended first_line ++ b.sentences ++ flat_map ended (last_lines b)
+
+-- The first line of each bundle of format 1, which is no longer read.
+abbrev pub older_line : List ℕ
+older_line = codes "bulwynef bundle 1"

@@ -9,11 +9,9 @@ pub struct Bundle<'a> {
     pub sentences: &'a [u8],
     /// The name of the program that the nodes were to follow: 1 to 32 characters of `a` to `z`, `0` to `9` and `_`.
     pub program: &'a [u8],
-    /// The number of the node that the proof is said to expose, of at most ten decimal digits.
-    pub node: u64,
-    /// The bytes of a directory, fewer than 10,000,000,000.
+    /// The bytes of a directory.
     pub directory: &'a [u8],
-    /// The bytes of a proof, fewer than 10,000,000,000.
+    /// The bytes of a proof.
     pub proof: &'a [u8],
 }
 
@@ -22,7 +20,7 @@ impl<'a> Model for Bundle<'a> {
 
     ghost Value = { Contents };
 
-    ghost view = { λ b. record { sentences = b.sentences.now; program = b.program.now; node = b.node; directory = b.directory.now; proof = b.proof.now } };
+    ghost view = { λ b. record { sentences = b.sentences.now; program = b.program.now; directory = b.directory.now; proof = b.proof.now } };
 }
 
 /// A bundle that was read. Its sentences and its program's name are borrowed from its text.
@@ -32,8 +30,6 @@ pub struct OpenBundle<'a> {
     pub sentences: &'a [u8],
     /// The name of the program, which a reader may not know.
     pub program: &'a [u8],
-    /// The number of the node that the proof is said to expose.
-    pub node: u64,
     /// The bytes of the directory.
     pub directory: Vec<u8>,
     /// The bytes of the proof.
@@ -45,5 +41,5 @@ impl<'a> Model for OpenBundle<'a> {
 
     ghost Value = { Contents };
 
-    ghost view = { λ b. record { sentences = b.sentences.now; program = b.program.now; node = b.node; directory = b.directory.items; proof = b.proof.items } };
+    ghost view = { λ b. record { sentences = b.sentences.now; program = b.program.now; directory = b.directory.items; proof = b.proof.items } };
 }

@@ -8,18 +8,15 @@ ghost use Rattle.bundles.specs.Refusals.{line_of, name_of, number_of, write_name
 use std::alloc::{AllocError, AllocFailed};
 use thiserror::Error;
 
-/// The reason why a text is refused, and the number of the line that is at fault, counted from 1.
+/// The reason why a text is refused.
 #[derive(Clone, Copy, Debug, PartialEq, Eq, Error)]
 pub enum BundleFault {
-    /// 106: this line is the first that is not written as a bundle's, is missing, or stands behind the last.
+    /// 106: the line of this number, counted from 1, is the first that is not written as a bundle's, is missing, or stands behind the last.
     #[error("this line is not as bundles have it, is missing, or stands behind the last")]
     BadBundle(usize),
-    /// 107: the digits have another length than this line says.
-    #[error("the digits have another length than this line says")]
-    OtherLength(usize),
-    /// 108: the bytes of the digits have another SHA-256 value than this line says.
-    #[error("the bytes of the digits have another SHA-256 than this line says")]
-    OtherSum(usize),
+    /// 131: the first line is that of format 1, which is no longer read.
+    #[error("a bundle of format 1, which is no longer read: ask for one of format 2, or for the directory and the proof")]
+    OlderBundle,
     /// 99: a growth of memory was refused.
     #[error("memory ran out")]
     Memory,
@@ -32,8 +29,7 @@ impl BundleFault {
     {
         match self {
             BundleFault::BadBundle(_) => 106,
-            BundleFault::OtherLength(_) => 107,
-            BundleFault::OtherSum(_) => 108,
+            BundleFault::OlderBundle => 131,
             BundleFault::Memory => 99,
         }
     }
@@ -44,21 +40,18 @@ impl BundleFault {
     {
         match self {
             BundleFault::BadBundle(_) => "BadBundle",
-            BundleFault::OtherLength(_) => "OtherLength",
-            BundleFault::OtherSum(_) => "OtherSum",
+            BundleFault::OlderBundle => "OlderBundle",
             BundleFault::Memory => "Memory",
         }
     }
 
-    /// Returns the number of the line that is at fault, counted from 1. Returns `None` if memory ran out.
+    /// Returns the number of the line that is at fault, counted from 1. Returns `None` if no single line is.
     pub fn line(&self) -> Option<usize>
         ensures { result ≡ line_of self.now }
     {
         match self {
-            BundleFault::BadBundle(line)
-            | BundleFault::OtherLength(line)
-            | BundleFault::OtherSum(line) => Some(*line),
-            BundleFault::Memory => None,
+            BundleFault::BadBundle(line) => Some(*line),
+            BundleFault::OlderBundle | BundleFault::Memory => None,
         }
     }
 }

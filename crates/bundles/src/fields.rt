@@ -1,13 +1,11 @@
 //! What a line says. No call here takes memory.
 
-ghost use Rattle.std.specs.Prelude.{◌≡◌, ◌↔◌, IsOk, IsTrue, MatchOption, Some, None};
-ghost use Rattle.std.specs.List.{list_all};
+ghost use Rattle.std.specs.Prelude.{◌≡◌, IsTrue, MatchOption, Some, None, nat_eq};
+ghost use Rattle.std.specs.List.{list_all, starts_with};
+ghost use Rattle.std.specs.Str.{bytes_eq};
 ghost use Rattle.hex.specs.Hex.{decode_of};
-ghost use Rattle.bundles.specs.Grammar.{bytes_in, exposed_in, is_digit, is_sum, program_in, sum_in};
-ghost use Rattle.bundles.specs.Spelling.{is_name, is_name_character, is_printed, is_sentence};
-
-use crate::numbers::number_in;
-use crate::words::{word_after, words_after};
+ghost use Rattle.bundles.specs.Grammar.{bytes_in, is_digit, program_in};
+ghost use Rattle.bundles.specs.Spelling.{ended, first_line, is_name, is_name_character, is_printed, is_sentence, older_line};
 
 /// Returns whether the byte is a character from a blank to `~`.
 fn is_printed(byte: u8) -> bool
@@ -68,11 +66,18 @@ fn are_digits(text: &[u8]) -> bool
     text.iter().all(|byte| is_digit(*byte))
 }
 
-/// Returns whether the word is a SHA-256 value in digits.
-fn is_sum(word: &[u8]) -> bool
-    ensures { result ≡ is_sum word.now }
+/// Returns whether the line is the first one of a bundle.
+pub(crate) fn is_first_line(line: &[u8]) -> bool
+    ensures { result ≡ bytes_eq line.now first_line }
 {
-    word.len() == 64 && are_digits(word)
+    line == b"bulwynef bundle 2".as_slice()
+}
+
+/// Returns whether the text begins with the first line of format 1.
+pub(crate) fn is_older(text: &[u8]) -> bool
+    ensures { result ≡ starts_with nat_eq text.now (ended older_line) }
+{
+    text.starts_with(b"bulwynef bundle 1\n")
 }
 
 /// Reads the name in a line `program NAME`.
@@ -80,37 +85,8 @@ fn is_sum(word: &[u8]) -> bool
 pub(crate) fn program_in(line: &[u8]) -> Option<&[u8]>
     ensures { MatchOption result (program_in line.now ≡ None) (λ name. program_in line.now ≡ Some name.now) }
 {
-    let name = word_after(b"program", line)?;
+    let name = line.strip_prefix(b"program ")?;
     if is_name(name) { Some(name) } else { None }
-}
-
-/// Reads the number in a line `exposes ID`.
-#[tactic(auto, unfolding(crate::specs::Grammar::exposed_in))]
-pub(crate) fn exposed_in(line: &[u8]) -> Option<u64>
-    ensures { result ≡ exposed_in line.now }
-{
-    let id = word_after(b"exposes", line)?;
-    number_in(id)
-}
-
-/// What a line says of bytes: their number and their SHA-256 value.
-#[derive(Clone, Copy, Debug)]
-pub(crate) struct Told<'a> {
-    pub(crate) length: u64,
-    pub(crate) sum: &'a [u8],
-}
-
-/// Reads what a line `WORD LENGTH SUM` says of bytes.
-#[tactic(auto, unfolding(crate::specs::Grammar::sum_in))]
-pub(crate) fn sum_in<'a>(word: &[u8], line: &'a [u8]) -> Option<Told<'a>>
-    ensures { MatchOption result (sum_in word.now line.now ≡ None) (λ told. sum_in word.now line.now ≡ Some (told.length, told.sum.now)) }
-{
-    let (length, sum) = words_after(word, line)?;
-    let length = number_in(length)?;
-    if !is_sum(sum) {
-        return None;
-    }
-    Some(Told { length, sum })
 }
 
 /// Returns whether the line is digits, two for each byte.

@@ -1,26 +1,32 @@
 //! Lines, one after the other.
 
-ghost use Rattle.std.specs.Prelude.{◌≡◌, ◌<◌, ◌≤◌, ◌+◌, ◌++◌, ℕ, [], ◌∷◌, length, IfSome, MatchOption};
+ghost use Rattle.std.specs.Prelude.{◌≡◌, ◌<◌, ◌≤◌, ◌+◌, ◌++◌, ◌==◌, ℕ, [], ◌∷◌, length, position, IfSome, MatchOption};
 ghost use Rattle.bundles.specs.Grammar.{Reached, beginning, lines_of, nothing_left, sentences_from};
 ghost use Rattle.bundles.specs.within.Cursors.{IsBehindSentence, IsLine, IsNext};
 ghost use Rattle.bundles.specs.declared.fault.BundleFault.TheVariants.{BadBundle};
 
 use crate::fault::BundleFault;
 use crate::fields::is_sentence;
-use crate::words::cut;
 use std::marker::Model;
 
 /// The byte that ends a line.
 const LINE_FEED: u8 = b'\n';
+
+/// Returns the place of the first line feed.
+fn place_of_end(text: &[u8]) -> Option<usize>
+    ensures { result ≡ position (λ byte. byte == 10) text.now }
+{
+    text.iter().position(|byte| *byte == LINE_FEED)
+}
 
 /// Returns the first line, and what stands behind its end. Returns `None` if no line feed ends it.
 fn first_line(text: &[u8]) -> Option<(&[u8], &[u8])>
     ensures line { MatchOption result (lines_of text.now ≡ text.now ∷ []) (λ p. IsLine text.now p.0.now p.1.now) }
     ensures shorter { IfSome result (λ p. length p.1.now < length text.now) }
 {
-    match cut(text, LINE_FEED) {
-        (line, Some(rest)) => Some((line, rest)),
-        (_, None) => None,
+    match place_of_end(text) {
+        Some(end) => Some((&text[..end], &text[end + 1..])),
+        None => None,
     }
 }
 

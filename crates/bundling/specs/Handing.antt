@@ -1,5 +1,7 @@
 -- What is handed over: the bundle of a directory and of a proof that convicts a node.
 use Rattle.std.specs.Prelude.{◌≡◌, ℕ, List, ◌++◌, codes, decimal}
+use Rattle.hex.specs.Hex.{encode_lower}
+use Rattle.sha2.specs.Sha256.{sha256}
 use Rattle.replay_verifier.specs.Meaning.{Meaning}
 use Rattle.proofs.specs.declared.proof.Parts.{Parts}
 use Rattle.proofs.specs.declared.proof.Parts.TheVariants as parts
@@ -32,20 +34,24 @@ reason (parts.TwoAuths a b) = two_hashes a.seq
 reason (parts.AuthSegment a s) = contradiction a.seq
 reason (parts.Nonconforming s) = no_log
 
+-- The SHA-256 value of the directory.
+abbrev pub listing : List ℕ → List ℕ
+listing directory = codes "# The directory of the nodes has the SHA-256 value " ++ encode_lower (sha256 directory) ++ codes ".\n"
+
 -- How the proof is checked.
 unfoldable pub advice : List ℕ
-advice = codes "# Believe no sentence of this file. Compare the directory's sum and the program's name, which stand below, with what you got by\n# another way than this file, and check the proof by one of these:\n#   bulwynef check FILE\n#   python3 check.py --why FILE\n"
+advice = codes "# Nothing in a line that begins with # is believed. Check the proof by one of these:\n#   bulwynef check FILE\n#   python3 check.py --why FILE\n# Each writes the node, the program and the directory. Compare the last two with what you got by another way than this file.\n"
 
 -- The sentences that a bundle gets, without those of the caller.
-abbrev pub sentences_of : ℕ → List ℕ → Parts → List ℕ
-sentences_of node name x = heading node name ++ reason x ++ advice
+unfoldable pub sentences_of : ℕ → List ℕ → List ℕ → Parts → List ℕ
+sentences_of node name directory x = heading node name ++ reason x ++ listing directory ++ advice
 
 -- ---- the bundle
 
 -- The bundle that is handed over. The caller's sentences stand behind its own.
 abbrev pub handed : ℕ → Parts → List ℕ → List ℕ → List ℕ → List ℕ → Contents
 handed node x name directory proof more =
-    record { sentences = sentences_of node name x ++ more; program = name; node = node; directory = directory; proof = proof }
+    record { sentences = sentences_of node name directory x ++ more; program = name; directory = directory; proof = proof }
 
 -- The text is that of the bundle of a directory and a proof. The proof convicts a node.
 pub record IsMade {S : Type 0} (program : Meaning S) (name directory proof more text : List ℕ) : Type 0 where

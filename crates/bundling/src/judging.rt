@@ -1,18 +1,15 @@
 //! How a bundle is judged.
 
 ghost use Rattle.std.specs.Prelude.{◌≡◌, IfOk, MatchResult};
-ghost use Rattle.hex.specs.Hex.{encode_lower};
-ghost use Rattle.sha2.specs.Sha256.{sha256};
 ghost use Rattle.bundling.specs.Convicting.{RefusesTexts};
-ghost use Rattle.bundling.specs.Judging.{IsJudged, found, is_agreed, judgement, other_directory, other_node, other_program};
+ghost use Rattle.bundling.specs.Judging.{IsJudged, found, is_agreed, judgement, other_directory, other_program};
 
 use crate::convicting::convicted;
 use crate::fault::TextFault;
-use crate::sentences::decimal_of;
+use crate::sentences::{decimal_of, sum_of};
 use authenticators::NodeId;
 use bundles::OpenBundle;
 use replay_verifier::Program;
-use sha2::{Digest, Sha256};
 use std::alloc::{AllocError, Global};
 
 /// What is said of a bundle.
@@ -20,27 +17,16 @@ use std::alloc::{AllocError, Global};
 pub struct Judgement {
     /// The text.
     pub text: Vec<u8>,
-    /// Whether the bundle names the node that was found and the program that was given, and has the directory that was given.
+    /// Whether the bundle names the program and has the directory that were given.
     pub agrees: bool,
 }
 
-/// Returns whether the bundle names this node and this program, and has this directory.
-pub(crate) fn is_agreed(node: NodeId, name: &[u8], directory: &[u8], bundle: &OpenBundle) -> bool
-    ensures { result ≡ is_agreed node name.now directory.now bundle.now }
+/// Returns whether the bundle names this program, and has this directory.
+pub(crate) fn is_agreed(name: &[u8], directory: &[u8], bundle: &OpenBundle) -> bool
+    ensures { result ≡ is_agreed name.now directory.now bundle.now }
 {
     let own: &[u8] = &bundle.directory;
-    u64::from(node.0) == bundle.node && name == bundle.program && directory == own
-}
-
-/// Returns the SHA-256 value of the bytes, in hexadecimal digits.
-pub(crate) fn sum_of(bytes: &[u8]) -> [u8; 64]
-    ensures { result ≡ encode_lower (sha256 bytes.now) }
-{
-    let mut sum = [0u8; 64];
-    let Ok(()) = hex::encode_to_slice(Sha256::digest(bytes), &mut sum) else {
-        unreachable!();
-    };
-    sum
+    name == bundle.program && directory == own
 }
 
 /// Returns the lines that say whom the proof convicts, under which program and which directory.
@@ -63,21 +49,6 @@ fn found_of(
     lines.extend_from_slice(&sum)?;
     lines.extend_from_slice(b"\n")?;
     Ok(lines)
-}
-
-/// Returns the line about the node if the bundle names another one, and otherwise nothing.
-fn other_node_of(alloc: Global, node: NodeId, said: u64) -> Result<Vec<u8>, AllocError>
-    ensures { IfOk result (λ line. line.items ≡ other_node node said) }
-{
-    let mut line = Vec::new(alloc);
-    if u64::from(node.0) == said {
-        return Ok(line);
-    }
-    let number = decimal_of(alloc, said)?;
-    line.extend_from_slice(b"disagrees: the bundle says that it exposes ")?;
-    line.extend_from_slice(number.as_bytes())?;
-    line.extend_from_slice(b"\n")?;
-    Ok(line)
 }
 
 /// Returns the line about the program if the bundle names another one, and otherwise nothing.
@@ -120,20 +91,18 @@ fn judgement_of(
     ensures { IfOk result (λ text. text.items ≡ judgement node name.now directory.now bundle.now) }
 {
     let found = found_of(alloc, node, name, directory)?;
-    let other_node = other_node_of(alloc, node, bundle.node)?;
     let other_program = other_program_of(alloc, name, bundle.program)?;
     let other_directory = other_directory_of(alloc, directory, &bundle.directory)?;
     let mut text = Vec::new(alloc);
     text.extend_from_slice(&found)?;
-    text.extend_from_slice(&other_node)?;
     text.extend_from_slice(&other_program)?;
     text.extend_from_slice(&other_directory)?;
     Ok(text)
 }
 
 /// Returns whom the bundle's proof convicts under the directory and the program, which has this name. The text has the lines `exposes ID`,
-/// `program NAME` and `directory SUM`, each with a line feed. Behind them stands a line `disagrees: ..` for each of these that holds: the
-/// bundle names another node, it names another program, it has another directory. The bundle agrees if there is no such line.
+/// `program NAME` and `directory SUM`, each with a line feed. Behind them stands a line `disagrees: ..` if the bundle names another program,
+/// and one if it has another directory. The bundle agrees if there is no such line.
 ///
 /// The call is refused if the texts convict nobody. The directory's fault comes before the proof's. Memory may run out in place of these.
 pub fn judge<P: Program>(
@@ -147,6 +116,6 @@ pub fn judge<P: Program>(
 {
     let found = convicted(alloc, program, directory, &bundle.proof)?;
     let text = judgement_of(alloc, found.node, name, directory, bundle)?;
-    let agrees = is_agreed(found.node, name, directory, bundle);
+    let agrees = is_agreed(name, directory, bundle);
     Ok(Judgement { text, agrees })
 }

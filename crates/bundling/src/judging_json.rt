@@ -2,32 +2,38 @@
 
 ghost use Rattle.std.specs.Prelude.{◌≡◌, IfOk, MatchResult};
 ghost use Rattle.bundling.specs.Convicting.{RefusesTexts};
-ghost use Rattle.bundling.specs.JudgingJson.{IsJudgedInJson, document, members};
+ghost use Rattle.bundling.specs.JudgingJson.{IsJudgedInJson, document, members, opening};
 
 use crate::convicting::convicted;
 use crate::fault::TextFault;
-use crate::judging::{Judgement, is_agreed, sum_of};
-use crate::sentences::decimal_of;
+use crate::judging::{Judgement, is_agreed};
+use crate::sentences::{decimal_of, sum_of};
 use authenticators::NodeId;
 use bundles::OpenBundle;
 use replay_verifier::Program;
 use std::alloc::{AllocError, Global};
 
-/// Returns the members of JSON that say whom a proof convicts, under which program and which directory.
-fn members_of(
-    alloc: Global,
-    node: u64,
-    name: &[u8],
-    directory: &[u8],
-) -> Result<Vec<u8>, AllocError>
-    ensures { IfOk result (λ text. text.items ≡ members node name.now directory.now) }
+/// Returns the beginning of the document, which says whom the proof convicts.
+#[tactic(auto, unfolding(crate::specs::JudgingJson::opening))]
+fn opening_of(alloc: Global, node: NodeId) -> Result<Vec<u8>, AllocError>
+    ensures { IfOk result (λ text. text.items ≡ opening node) }
 {
-    let number = decimal_of(alloc, node)?;
+    let number = decimal_of(alloc, u64::from(node.0))?;
+    let mut text = Vec::new(alloc);
+    text.extend_from_slice(b"{\"exposes\":")?;
+    text.extend_from_slice(number.as_bytes())?;
+    text.extend_from_slice(b",")?;
+    Ok(text)
+}
+
+/// Returns the members of JSON that say a program's name and a directory.
+#[tactic(auto, unfolding(crate::specs::JudgingJson::members))]
+fn members_of(alloc: Global, name: &[u8], directory: &[u8]) -> Result<Vec<u8>, AllocError>
+    ensures { IfOk result (λ text. text.items ≡ members name.now directory.now) }
+{
     let sum = sum_of(directory);
     let mut text = Vec::new(alloc);
-    text.extend_from_slice(b"\"exposes\":")?;
-    text.extend_from_slice(number.as_bytes())?;
-    text.extend_from_slice(b",\"program\":\"")?;
+    text.extend_from_slice(b"\"program\":\"")?;
     text.extend_from_slice(name)?;
     text.extend_from_slice(b"\",\"directory\":\"")?;
     text.extend_from_slice(&sum)?;
@@ -35,7 +41,7 @@ fn members_of(
     Ok(text)
 }
 
-/// Returns the document that says what is found, and what the bundle says.
+/// Returns the document that says what is found, and what the bundle has.
 fn document_of(
     alloc: Global,
     node: NodeId,
@@ -45,19 +51,20 @@ fn document_of(
 ) -> Result<Vec<u8>, AllocError>
     ensures { IfOk result (λ text. text.items ≡ document node name.now directory.now bundle.now) }
 {
-    let found = members_of(alloc, u64::from(node.0), name, directory)?;
-    let said = members_of(alloc, bundle.node, bundle.program, &bundle.directory)?;
+    let opening = opening_of(alloc, node)?;
+    let found = members_of(alloc, name, directory)?;
+    let own = members_of(alloc, bundle.program, &bundle.directory)?;
     let mut text = Vec::new(alloc);
-    text.extend_from_slice(b"{")?;
+    text.extend_from_slice(&opening)?;
     text.extend_from_slice(&found)?;
     text.extend_from_slice(b",\"bundle\":{")?;
-    text.extend_from_slice(&said)?;
+    text.extend_from_slice(&own)?;
     text.extend_from_slice(b"}}\n")?;
     Ok(text)
 }
 
-/// Returns whom the bundle's proof convicts under the directory and the program, which has this name, and what the bundle says of that. The
-/// text is one document of JSON (RFC 8259), in one line. Names are of `a` to `z`, `0` to `9` and `_`.
+/// Returns whom the bundle's proof convicts under the directory and the program, which has this name, and which ones the bundle
+/// has. The text is one document of JSON (RFC 8259), in one line. Names are of `a` to `z`, `0` to `9` and `_`.
 ///
 /// The call is refused if the texts convict nobody. The directory's fault comes before the proof's. Memory may run out in place of these.
 pub fn judge_in_json<P: Program>(
@@ -71,6 +78,6 @@ pub fn judge_in_json<P: Program>(
 {
     let found = convicted(alloc, program, directory, &bundle.proof)?;
     let text = document_of(alloc, found.node, name, directory, bundle)?;
-    let agrees = is_agreed(found.node, name, directory, bundle);
+    let agrees = is_agreed(name, directory, bundle);
     Ok(Judgement { text, agrees })
 }

@@ -4,7 +4,8 @@
 //! - [`judge`] says whom the proof of a bundle convicts under a program and a directory, and in what the bundle disagrees.
 //!   [`judge_in_json`] says it to programs.
 //!
-//! These calls believe no sentence of a bundle, and not the node that it names. By [`laws`], a bundle that was made says what is found.
+//! These calls believe nothing in a line of a bundle that begins with `#`. By [`laws`], what is found of a bundle that was made is what its
+//! sentences say.
 #![tactic(auto)]
 
 pub use fault::{MakeFault, TextFault};

@@ -11,10 +11,10 @@ use replay_verifier::Program;
 use std::alloc::Global;
 
 /// Returns the text of the bundle of a directory and a proof, for nodes that were to follow the program of this name. Its sentences say who
-/// is exposed, why, and how that is checked. The caller's sentences stand behind them.
+/// is exposed, why, under which directory, and how that is checked. The caller's sentences stand behind them.
 ///
 /// The call is refused if the texts convict nobody. The directory's fault comes before the proof's. Then comes `BadBundle` (106), if the
-/// name, the caller's sentences or a length is not as a bundle allows. Memory may run out in place of any of these.
+/// name or the caller's sentences are not as a bundle allows. Memory may run out in place of any of these.
 pub fn make<P: Program>(
     alloc: Global,
     program: &P,
@@ -26,11 +26,17 @@ pub fn make<P: Program>(
     ensures { MatchResult result (λ text. IsMade P.means name.now directory.now proof.now more.now text.items) (λ f. RefusesMaking P.means name.now directory.now proof.now more.now f) }
 {
     let found = convicted(alloc, program, directory, proof)?;
-    let sentences = sentences(alloc, found.node, name, found.proof.parts(), more)?;
+    let sentences = sentences(
+        alloc,
+        found.node,
+        name,
+        directory,
+        found.proof.parts(),
+        more,
+    )?;
     let bundle = Bundle {
         sentences: &sentences,
         program: name,
-        node: u64::from(found.node.0),
         directory,
         proof,
     };

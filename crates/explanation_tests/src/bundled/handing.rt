@@ -19,7 +19,7 @@ fn proof_digits() -> &'static str {
 
 /// What stands before the digits, with a sentence of the caller.
 fn head() -> &'static str {
-    "bulwynef bundle 1\n# Node 2 is exposed, where it was to follow the program tally.\n# It signed a part of its log that is of no log of a node which follows this program.\n# Believe no sentence of this file. Compare the directory's sum and the program's name, which stand below, with what you got by\n# another way than this file, and check the proof by one of these:\n#   bulwynef check FILE\n#   python3 check.py --why FILE\n# Made by hand.\nprogram tally\nexposes 2\ndirectory 363 553e2e88bdf2056e57900d45e55fd34ef0ef5de87205e47ae9de632de5d593aa\nproof 1405 2f0228d1c4d08b8c167a91c20262d88236a533e983f1cb0ec2bc4559a986977a\n"
+    "bulwynef bundle 2\n# Node 2 is exposed, where it was to follow the program tally.\n# It signed a part of its log that is of no log of a node which follows this program.\n# The directory of the nodes has the SHA-256 value 553e2e88bdf2056e57900d45e55fd34ef0ef5de87205e47ae9de632de5d593aa.\n# Nothing in a line that begins with # is believed. Check the proof by one of these:\n#   bulwynef check FILE\n#   python3 check.py --why FILE\n# Each writes the node, the program and the directory. Compare the last two with what you got by another way than this file.\n# Made by hand.\nprogram tally\n"
 }
 
 /// What is said of the bundle, where nothing disagrees.
@@ -27,14 +27,14 @@ fn found() -> &'static str {
     "exposes 2\nprogram tally\ndirectory 553e2e88bdf2056e57900d45e55fd34ef0ef5de87205e47ae9de632de5d593aa\n"
 }
 
-/// What is said of the bundle, where it names another node and another program.
+/// What is said of the bundle, where it names another program.
 fn found_otherwise() -> &'static str {
-    "exposes 2\nprogram tally\ndirectory 553e2e88bdf2056e57900d45e55fd34ef0ef5de87205e47ae9de632de5d593aa\ndisagrees: the bundle says that it exposes 77\ndisagrees: the bundle names the program other_1\n"
+    "exposes 2\nprogram tally\ndirectory 553e2e88bdf2056e57900d45e55fd34ef0ef5de87205e47ae9de632de5d593aa\ndisagrees: the bundle names the program other_1\n"
 }
 
 /// The same as JSON.
 fn found_otherwise_in_json() -> &'static str {
-    "{\"exposes\":2,\"program\":\"tally\",\"directory\":\"553e2e88bdf2056e57900d45e55fd34ef0ef5de87205e47ae9de632de5d593aa\",\"bundle\":{\"exposes\":77,\"program\":\"other_1\",\"directory\":\"553e2e88bdf2056e57900d45e55fd34ef0ef5de87205e47ae9de632de5d593aa\"}}\n"
+    "{\"exposes\":2,\"program\":\"tally\",\"directory\":\"553e2e88bdf2056e57900d45e55fd34ef0ef5de87205e47ae9de632de5d593aa\",\"bundle\":{\"program\":\"other_1\",\"directory\":\"553e2e88bdf2056e57900d45e55fd34ef0ef5de87205e47ae9de632de5d593aa\"}}\n"
 }
 
 /// A directory of no node, in digits.
@@ -114,37 +114,28 @@ fn is_judged(said: &Judgement, agrees: bool, want: &str) -> bool {
     said.agrees == agrees && said.text.as_slice() == want.as_bytes()
 }
 
-/// Whether this is said of the bundle, when it is said to expose this node, and of nodes that were to follow that program, which agrees
-/// where both are its own.
-fn is_said(alloc: Global, node: u64, program: &[u8], want: &str) -> Result<bool, Fail> {
+/// Whether this is said of the bundle, when it names this program, which agrees where that is its own.
+fn is_said(alloc: Global, program: &[u8], want: &str) -> Result<bool, Fail> {
     let text = bundle_text(alloc)?;
     let Ok(open) = read(alloc, text.as_bytes()) else {
         return Ok(false);
     };
-    let other = OpenBundle {
-        node,
-        program,
-        ..open
-    };
+    let other = OpenBundle { program, ..open };
     match judge(alloc, &Tally, b"tally", &other.directory, &other) {
-        Ok(said) => Ok(is_judged(&said, node == 2, want)),
+        Ok(said) => Ok(is_judged(&said, program == b"tally".as_slice(), want)),
         Err(_) => Ok(false),
     }
 }
 
-/// Whether this is said in JSON of the bundle, when it is said to expose this node, and of nodes that were to follow that program.
-fn is_said_in_json(alloc: Global, node: u64, program: &[u8], want: &str) -> Result<bool, Fail> {
+/// Whether this is said in JSON of the bundle, when it names this program.
+fn is_said_in_json(alloc: Global, program: &[u8], want: &str) -> Result<bool, Fail> {
     let text = bundle_text(alloc)?;
     let Ok(open) = read(alloc, text.as_bytes()) else {
         return Ok(false);
     };
-    let other = OpenBundle {
-        node,
-        program,
-        ..open
-    };
+    let other = OpenBundle { program, ..open };
     match judge_in_json(alloc, &Tally, b"tally", &other.directory, &other) {
-        Ok(said) => Ok(is_judged(&said, node == 2, want)),
+        Ok(said) => Ok(is_judged(&said, program == b"tally".as_slice(), want)),
         Err(_) => Ok(false),
     }
 }
@@ -192,13 +183,13 @@ fn the_program_decides(rt: HostRuntime) -> Result<(), Fail> {
 
 #[test]
 fn a_bundle_is_judged(rt: HostRuntime) -> Result<(), Fail> {
-    assert!(rt; is_said(rt.alloc(), 2, b"tally", found())?);
+    assert!(rt; is_said(rt.alloc(), b"tally", found())?);
     Ok(())
 }
 
 #[test]
-fn a_bundle_that_says_otherwise_disagrees(rt: HostRuntime) -> Result<(), Fail> {
-    assert!(rt; is_said(rt.alloc(), 77, b"other_1", found_otherwise())?);
+fn a_bundle_of_another_program_or_directory_disagrees(rt: HostRuntime) -> Result<(), Fail> {
+    assert!(rt; is_said(rt.alloc(), b"other_1", found_otherwise())?);
     assert!(rt; is_said_of_older(rt.alloc(), older_directory(), found_under_older())?);
     Ok(())
 }
@@ -206,6 +197,6 @@ fn a_bundle_that_says_otherwise_disagrees(rt: HostRuntime) -> Result<(), Fail> {
 #[test]
 fn a_bundle_is_judged_for_programs(rt: HostRuntime) -> Result<(), Fail> {
     let want = found_otherwise_in_json();
-    assert!(rt; is_said_in_json(rt.alloc(), 77, b"other_1", want)?);
+    assert!(rt; is_said_in_json(rt.alloc(), b"other_1", want)?);
     Ok(())
 }

@@ -3,12 +3,6 @@ use Rattle.std.proofs.lemmas.Bool.{true≢false}
 use Rattle.bundles.proofs.WrittenTexts.{fails}
 use Rattle.bundles.proofs.writing.check.Goals as goal
 
-pub returns-then-not-is_part : goal.returns-then-not-is_part
-returns-then-not-is_part c = rw (← c.bundle.view_is) (refl, λ h. fails c.is_part.result c.is_part.ensures c.if-not-is_part.true h.directory)
-
-pub returns-then-not-is_part-2 : goal.returns-then-not-is_part-2
-returns-then-not-is_part-2 c = rw (← c.bundle.view_is) (refl, λ h. fails c.is_part-2.result c.is_part-2.ensures c.if-not-is_part-2.true h.proof)
-
 pub returns-then-not-is_name : goal.returns-then-not-is_name
 returns-then-not-is_name c = rw (← c.bundle.view_is) (refl, λ h. true≢false (sym h.program ∙ sym c.is_name.ensures ∙ c.if-not-is_name.true))
 

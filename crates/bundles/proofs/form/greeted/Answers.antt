@@ -1,7 +1,7 @@
 use Rattle.std.proofs.Common.{◌∙◌, sym}
 use Rattle.bundles.specs.Grammar.{greets}
 use Rattle.bundles.proofs.Steps.{greets_none, greets_some, no_line, says_none, says_some}
-use Rattle.bundles.proofs.heads.greeted.Goals as goal
+use Rattle.bundles.proofs.form.greeted.Goals as goal
 
 pub returns-in_default : goal.returns-in_default
 returns-in_default c = no_line greets c.args.at.now c.refusal.result (c.in_default.ensures, c.refusal.ensures)

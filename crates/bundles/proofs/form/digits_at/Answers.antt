@@ -1,7 +1,7 @@
 use Rattle.bundles.specs.Grammar.{bytes_in}
 use Rattle.bundles.proofs.HexDigits.{spelled_bytes, unspelled}
 use Rattle.bundles.proofs.Steps.{no_line, says_none, says_some}
-use Rattle.bundles.proofs.parts.digits_at.Goals as goal
+use Rattle.bundles.proofs.form.digits_at.Goals as goal
 
 pub returns-in_default : goal.returns-in_default
 returns-in_default c = no_line bytes_in c.args.at.now c.refusal.result (c.in_default.ensures, c.refusal.ensures)

@@ -1,6 +1,6 @@
 use Rattle.bundles.specs.Grammar.{program_in}
 use Rattle.bundles.proofs.Steps.{no_line, says_none, says_some}
-use Rattle.bundles.proofs.heads.program_at.Goals as goal
+use Rattle.bundles.proofs.form.program_at.Goals as goal
 
 pub returns-in_default : goal.returns-in_default
 returns-in_default c = no_line (program_in) c.args.at.now c.refusal.result (c.in_default.ensures, c.refusal.ensures)
