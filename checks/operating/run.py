@@ -398,9 +398,10 @@ def hold_walk(build):
         shutil.copytree(EXAMPLES, f"{at}/files")
         os.mkdir(f"{at}/bin")
         os.symlink(build, f"{at}/bin/bulwynef")
+        os.symlink(NODE_SIM, f"{at}/bin/node_sim")
         paths = {**os.environ, "PATH": f"{at}/bin:{os.environ['PATH']}"}
         steps = list(walk())
-        hold("a walk of eight commands", len(steps) == 8, steps)
+        hold("a walk of nine commands", len(steps) == 9, steps)
         for line, below in steps:
             done = subprocess.run(["sh", "-c", line], cwd=f"{at}/files", env=paths, capture_output=True, timeout=300)
             beside = basis_of(read(f"{EXAMPLES}/nodes.dir")) if line.split()[1] in ("status", "prove") else b""
