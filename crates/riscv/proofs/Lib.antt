@@ -1,0 +1,5 @@
+mod Cores
+mod Integers
+mod Products
+mod Runs
+mod WordLemmas

@@ -1,0 +1,10 @@
+pub mod Arithmetic
+pub mod ArithmeticLaws
+pub mod Decoding
+pub mod DecodingLaws
+pub mod Encoding
+pub mod Executing
+pub mod Memory
+pub mod Running
+pub mod RunningLaws
+pub mod Words
