@@ -37,6 +37,7 @@ BUDGETS = [
 # Pages that have more: how many words, and why.
 LONGER = {
     "README.md": (1640, "it shows a proved program that takes minutes, beside the one that takes hours"),
+    "docs/DECISIONS.md": (5900, "a reason that is not written down is sought again, and each format or crate that goes leaves one"),
     "docs/DEPLOYING.md": (1875, "what an operator does after each kind of fault is looked up in one place, and in need"),
 }
 GLOSSARY = "GLOSSARY.md"
