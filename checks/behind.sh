@@ -25,7 +25,7 @@ sums() {
 
 builds="crates/bulwynef/out/bulwynef crates/bulwynef/out/bulwynef.by-rattle"
 in_turn "c/library.py --left" > "$room/1" 2>&1 &
-in_turn "checks/operating/run.py" "checks/growths/run.py" > "$room/2" 2>&1 &
+in_turn "checks/operating/run.py" "checks/growths/run.py" "checks/calls/run.py" > "$room/2" 2>&1 &
 in_turn "checks/judge/run.py" "checks/whole_program/run.py" "checks/operating/shards.py" "checks/explained/run.py" "second_opinion/forms.py $builds" \
     "checks/reference/formats.py $builds" > "$room/3" 2>&1 &
 wait

@@ -1,5 +1,7 @@
 #!/usr/bin/env python3
-"""Computes, over Python's hashlib alone, the values that the tests of signatures, messages and nodes hold, and looks for each in its file.
+"""Computes, over Python's hashlib alone, the values in the scripts of signatures, statements, messages and nodes, and looks for each in its script.
+
+It fails too if an answer in one of these scripts has a digest that it does not compute.
 
 It shares no code with the crates: LMS with H5 (RFC 8554), the hash chain of a log, and nodes under Tally are written here again,
 from the formats (docs/FORMATS.md) and the RFC. A node's keys have the identifier and the seed that end in the node's number, and
@@ -8,6 +10,7 @@ before it the key's number in each byte.
 
 import hashlib
 import os
+import re
 import struct
 import sys
 
@@ -93,7 +96,7 @@ class Message:
         return u32(self.sender) + u64(self.seq) + self.before + u32(len(self.signature)) + self.signature + self.payload
 
     def fed(self):
-        """What the tests feed to a digest."""
+        """What the scripts feed to a digest."""
         head = u32(self.sender) + u32(self.receiver) + u64(self.seq) + self.before
         return head + u64(len(self.signature)) + self.signature + u64(len(self.payload)) + self.payload
 
@@ -233,9 +236,10 @@ def taken():
     first, second, third, fourth = [message_with(key, seq, payload) for seq, payload in ((4, b"X"), (4, b"Y"), (4, b"X"), (5, b"Y"))]
     ack, none = node.receive(first, of_call(1))
     assert (node.receive(second, of_call(2)), node.receive(third, of_call(3)), node.receive(first, of_call(4))) == (None, None, (ack, none))
+    first_end = node.end
     digest.update(ack.fed() + node.receive(fourth, of_call(5))[0].fed())
     assert (node.entries, len(node.signed), node.awaited, node.key.next_leaf) == (3, 2, [], 2)
-    return [digest.digest(), node.end]
+    return [first_end, digest.digest(), node.end]
 
 
 def renewed():
@@ -244,11 +248,11 @@ def renewed():
     for seq in range(2, 18):
         node.receive(message_to_2(key, seq, 1), of_call(seq))
     assert (node.entries, node.key.next_leaf) == (33, LEAVES)
-    node.key = Key(2, 4, 1)
+    spent_end, node.key = node.end, Key(2, 4, 1)
     ack, (answer,) = node.receive(message_to_2(key, 18, 1), of_call(18))
     assert (node.entries, len(node.signed), node.key.next_leaf) == (35, 34, 2)
     assert len(ack.signature) == len(answer.signature) == 1293
-    return [sha256(ack.fed() + answer.fed()), node.end]
+    return [spent_end, sha256(ack.fed() + answer.fed()), node.end]
 
 
 def two_keys():
@@ -258,6 +262,34 @@ def two_keys():
     texts = [key.sign(statement, bytes(32)) for key in keys]
     assert [len(text) for text in texts] == [1292, 1293]
     return [key.public() for key in keys] + texts
+
+
+def split_texts():
+    """The digests of signatures that are too long to be shown."""
+    nines = bytes([9])
+    return [sha256(text + b"M") for text in (b"\x08" + 1290 * nines, b"\x00" + 9322 * nines, 1291 * nines, 9323 * nines)]
+
+
+def contradiction():
+    """The digests of node 1's signatures of number 5: with a hash of bytes 8, and with one of bytes 7."""
+    key = Key(1, 4)
+    return [sha256(key.sign(u64(5) + bytes([byte]) * 32, bytes(32))) for byte in (8, 7)]
+
+
+def directory_of_three():
+    """The older text of the directory of the nodes 1, 2 and 3."""
+    return [b"PRDIRECT" + u32(3) + b"".join(u32(number) + Key(number, 3).public() for number in (1, 2, 3))]
+
+
+def ends():
+    """The ends of logs: node 2's first entry, node 1 after a tick of its timer, and node 2 after 4,095 checkpoints."""
+    new, ticked, full = Node(2, 1), Node(1, 1), Node(2, 1)
+    new_end = new.end
+    ticked.timer(1, of_call(1))
+    for seq in range(2, 4097):
+        assert full.checkpoint() == seq
+    assert (ticked.entries, full.entries) == (3, 4096)
+    return [new_end, ticked.end, full.end]
 
 
 def round_of_calls():
@@ -271,24 +303,40 @@ def round_of_calls():
     return [sha256(ask.fed() + ack.fed() + answer.fed()), asking.end, answering.end]
 
 
+VALUES = {
+    "directories.txt": list,
+    "signatures.txt": lambda: split_texts() + two_keys(),
+    "pools.txt": contradiction,
+    "messages.txt": messages,
+    "nodes.txt": lambda: directory_of_three() + round_of_calls() + taken() + spent() + exchange() + checkpoint(),
+    "keys.txt": lambda: directory_of_three() + renewed(),
+    "refusals.txt": lambda: directory_of_three() + ends(),
+}
+
+
+def digests_in(text):
+    """The digests in the answers of a script."""
+    answers = [line.partition("=>")[2] for line in text.splitlines() if not line.lstrip().startswith("#")]
+    return set(re.findall(r"(?<![0-9a-f])[0-9a-f]{64}(?![0-9a-f])", "\n".join(answers)))
+
+
+def faults_in(name, text, values):
+    """How many values are missing in the script, and how many digests in its answers are no values."""
+    for value in values:
+        print(value.hex(), "stands in" if value.hex() in text else "is not in", name)
+    unknown = digests_in(text) - {value.hex() for value in values}
+    for digest in sorted(unknown):
+        print(digest, "is not computed here, and stands in an answer of", name)
+    return sum(value.hex() not in text for value in values) + len(unknown)
+
+
 def main():
-    crates = os.path.join(os.path.dirname(os.path.abspath(__file__)), "..", "..", "crates")
-    missing = 0
-    for path, values in (
-        ("authenticators_tests/src/signatures.rt", two_keys()),
-        ("commitment_tests/src/calls.rt", messages()),
-        ("commitment_tests/src/nodes/each_call.rt", round_of_calls()),
-        ("commitment_tests/src/nodes/receptions.rt", taken()),
-        ("commitment_tests/src/nodes/keys.rt", renewed()),
-        ("commitment_tests/src/nodes.rt", spent() + exchange() + checkpoint()),
-    ):
-        with open(os.path.join(crates, path), encoding="utf-8") as file:
-            text = file.read()
-        for value in values:
-            stands = value.hex() in text
-            missing += not stands
-            print(value.hex(), "stands in" if stands else "is not in", path)
-    sys.exit(missing != 0)
+    scripts = os.path.join(os.path.dirname(os.path.abspath(__file__)), "..", "..", "crates", "probe", "data")
+    faults = 0
+    for name, values_of in VALUES.items():
+        with open(os.path.join(scripts, name), encoding="utf-8") as file:
+            faults += faults_in(name, file.read(), values_of())
+    sys.exit(faults != 0)
 
 
 if __name__ == "__main__":
