@@ -1,7 +1,0 @@
-//! Tests of the public calls of `commitment`.
-#![tactic(auto)]
-
-#[cfg(test)]
-mod calls;
-#[cfg(test)]
-mod nodes;
