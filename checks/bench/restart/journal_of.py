@@ -18,8 +18,14 @@ def items_of(store):
         place += 4 + length
 
 
+def with_counts(directory):
+    """The newer text of an older directory: behind each node it has the number of its keys."""
+    nodes = [directory[at : at + 60] for at in range(12, len(directory), 60)]
+    return b"PRDIREC2" + directory[8:12] + b"".join(node[:4] + b"\1" + node[4:] for node in nodes)
+
+
 directory, store = (open(name, "rb").read() for name in sys.argv[1:3])
 with open(sys.argv[3], "wb") as journal:
-    for text in [b"PRKEPT01tally", directory, *items_of(store)]:
+    for text in [b"PRKEPT01tally", with_counts(directory), *items_of(store)]:
         journal.write(block_of(text))
     journal.write(b"\0")
