@@ -33,7 +33,7 @@ BUDGETS = [
     (14063, ["docs/FORMATS.md", "docs/PROGRAMS.md", "docs/OPERATORS.md", "docs/AUDITORS.md", "CONTRIBUTING.md"]),
     # BENCHMARKS also says what can't be had, so that nobody looks for it again, and TESTS where each test is that became lines. A machine for
     # images is measured and tried there too, and restarts.
-    (6150, ["docs/BENCHMARKS.md", "docs/GATE.md", "docs/TESTS.md", "examples/README.md"]),
+    (6250, ["docs/BENCHMARKS.md", "docs/GATE.md", "docs/TESTS.md", "examples/README.md"]),
 ]
 # Pages that have more: how many words, and why.
 LONGER = {
