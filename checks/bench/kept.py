@@ -2,7 +2,7 @@
 """How many items a second are on the disk when they are acknowledged, by groups of 1, 16 and 256 with one sync a group, side by side.
 
     kept.py [FOLDER] [--seconds S]
-    kept.py [FOLDER] --rebuild       instead: how long a node of 4,096 entries takes to be rebuilt, beside making its keys
+    kept.py [FOLDER] --rebuild       instead: how long a node of 4,095 entries takes to be rebuilt, beside making its keys
 
 The items are 1,024 messages of one node (H10, W8), of some 1.5 KB each. For so many seconds and each size, group by group and in turn:
 
@@ -34,8 +34,8 @@ except ImportError:
 from bulwynef import Journal, KeptNode, KeptStore, Key, Node, Program, Store, directory
 
 GROUPS, ITEMS, H10, W8 = (1, 16, 256), 1024, 6, 4
-# A timer of Tally's adds two entries, of which the second is a message with one signature.
-TIMERS = 2048
+# A timer of Tally's adds two entries, of which the second is a message with one signature. The first entry of a log is its checkpoint.
+TIMERS = 2047
 
 
 def made():
@@ -138,13 +138,13 @@ def keys_of_node():
 
 
 def grown(path):
-    """Writes the journal of a node whose log has 4,096 entries; the directory."""
+    """Writes the journal of a node whose log has 4,095 entries; the directory."""
     keys, listed = keys_of_node()
     with KeptNode(path, Program.TALLY, listed, 1, keys, may_begin=True) as node:
         for moment in range(0, TIMERS, 256):
             if moment == ITEMS:
                 node.next_key(keys[1])
-            assert not any(node.timer_all(range(moment, moment + 256)))
+            assert not any(node.timer_all(range(moment, min(moment + 256, TIMERS))))
     return listed
 
 

@@ -33,11 +33,11 @@ BUDGETS = [
     (14063, ["docs/FORMATS.md", "docs/PROGRAMS.md", "docs/OPERATORS.md", "docs/AUDITORS.md", "CONTRIBUTING.md"]),
     # BENCHMARKS also says what can't be had, so that nobody looks for it again, and TESTS where each test is that became lines. A machine for
     # images is measured and tried there too, and restarts.
-    (6250, ["docs/BENCHMARKS.md", "docs/GATE.md", "docs/TESTS.md", "examples/README.md"]),
+    (6300, ["docs/BENCHMARKS.md", "docs/GATE.md", "docs/TESTS.md", "examples/README.md"]),
 ]
 # Pages that have more: how many words, and why.
 LONGER = {
-    "README.md": (1640, "it shows a proved program that takes minutes, beside the one that takes hours"),
+    "README.md": (1700, "it shows a proved program that takes minutes, beside the one that takes hours"),
     "docs/DECISIONS.md": (5900, "a reason that is not written down is sought again, and each format or crate that goes leaves one"),
     "docs/DEPLOYING.md": (1875, "what an operator does after each kind of fault is looked up in one place, and in need"),
 }
