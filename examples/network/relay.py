@@ -206,13 +206,14 @@ class Relay:
             self.refused += 1
 
     async def hand_on(self):
-        """Hands the statements that it keeps to a witness, who has them when he says so."""
+        """Hands the statements that it keeps to a witness, who has those that it says it has, and has refused the others."""
         items = list(self.statements)[:STATEMENTS]
         if not items:
             return
         body = b"".join(map(protocol.with_length, items))
-        if await self.link.ask(self.random.choice(self.told["witnesses"]), protocol.TAKE, body, "statements") is not None:
-            self.is_handed_on(items)
+        answer = await self.link.ask(self.random.choice(self.told["witnesses"]), protocol.TAKE, body, "statements")
+        if answer is not None:
+            self.is_handed_on([item for item, is_taken in zip(items, answer) if is_taken])
             for item in items:
                 self.statements.pop(item, None)
 

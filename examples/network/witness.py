@@ -57,14 +57,15 @@ class Witness:
         return b""
 
     def take_all(self, items):
-        """Takes items as one group; what is refused is no evidence, and is dropped."""
-        for item, is_new in zip(items, self.store.take_all(items)):
+        """Takes items as one group; what is refused is no evidence, and is dropped. The answer has a byte for each item: 1 if the store has it."""
+        told = self.store.take_all(items)
+        for item, is_new in zip(items, told):
             if isinstance(is_new, Refusal):
                 self.refused += 1
             else:
                 self.taken += is_new
                 self.notice(item)
-        return b""
+        return bytes(not isinstance(is_new, Refusal) for is_new in told)
 
     def take(self, item):
         """Takes an item, and keeps in mind what it tells."""

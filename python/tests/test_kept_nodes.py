@@ -548,6 +548,21 @@ def test_a_node_that_is_killed_signs_each_leaf_once_and_keeps_what_it_answered(p
             assert witness.indication(1).name == "TRUSTED"
 
 
+def test_an_acknowledgement_of_another_message_of_its_number_is_not_recorded(path):
+    with KeptNode(path, Program.TALLY, WORK, 0, [SENDER], may_begin=True) as node, Node(WORK, 0, SENDER, Program.TALLY) as other:
+        node.timer(1)
+        other.timer(2)
+        [seq] = other.waiting()
+        assert node.waiting() == [seq] and node.message(seq) != other.message(seq)
+        with Node(WORK, 1, WORKERS[0], Program.TALLY) as receiver:
+            ack = receiver.answer(other.message(seq))
+        before = path.read_bytes()
+        assert refusal_of(node.accept_ack, ack) == 38
+        assert path.read_bytes() == before and node.waiting() == [seq]
+        other.accept_ack(ack)
+        assert other.waiting() == []
+
+
 # ---- the library's own view of a journal
 
 

@@ -113,7 +113,7 @@ def taken(items):
 def test_a_killed_witness_exposes_whom_it_exposed(begin):
     acks = two_histories()
     witness = begin()
-    assert witness.asked(protocol.TAKE, taken(acks)) == b""
+    assert witness.asked(protocol.TAKE, taken(acks)) == bytes([1]) * len(acks)
     witness.killed()
     again = begin()
     assert again.said()["1"] == "exposed" and has(again, acks)
@@ -133,7 +133,7 @@ def test_a_killed_witness_has_the_challenge_that_it_answered(begin):
 def test_a_killed_witness_has_what_it_got_by_exchange(begin):
     ports = free_port(), free_port()
     one, other = begin("one", *ports), begin("other", *ports[::-1])
-    assert one.asked(protocol.TAKE, taken(two_histories())) == b""
+    assert set(one.asked(protocol.TAKE, taken(two_histories()))) == {1}
     until = time.monotonic() + SECONDS
     while other.said()["1"] != "exposed":
         assert time.monotonic() < until
@@ -144,14 +144,14 @@ def test_a_killed_witness_has_what_it_got_by_exchange(begin):
 def test_what_was_torn_is_cut_off_and_the_rest_stays(begin, tmp_path):
     first, second = two_histories()
     witness = begin()
-    assert witness.asked(protocol.TAKE, taken([first])) == b""
+    assert witness.asked(protocol.TAKE, taken([first])) == bytes([1])
     witness.killed()
     whole = (tmp_path / "kept").read_bytes()
     for torn in (b"\0\0", second):
         (tmp_path / "kept").write_bytes(whole + torn)
         witness = begin()
         assert witness.said()["1"] != "exposed"
-        assert witness.asked(protocol.TAKE, taken([second])) == b""
+        assert witness.asked(protocol.TAKE, taken([second])) == bytes([1])
         witness.killed()
         assert {first, second} < set(texts_in(tmp_path / "kept"))
         again = begin()
@@ -162,7 +162,7 @@ def test_what_was_torn_is_cut_off_and_the_rest_stays(begin, tmp_path):
 def test_what_is_no_evidence_is_dropped_and_the_rest_is_taken(begin, tmp_path):
     acks = two_histories()
     witness = begin()
-    assert witness.asked(protocol.TAKE, taken([acks[0], b"", acks[1][:-1], acks[1]])) == b""
+    assert witness.asked(protocol.TAKE, taken([acks[0], b"", acks[1][:-1], acks[1]])) == bytes([1, 0, 0, 1])
     assert json.loads(witness.asked(protocol.REPORT))["refused"] == 2 and has(witness, acks) and set(acks) < set(texts_in(tmp_path / "kept"))
     with pytest.raises(JournalInUse):
         KeptStore(tmp_path / "kept", Program.MAILBOX, LISTED)

@@ -362,8 +362,13 @@ class KeptNode(Kept, Node):
                 self._checked(ack)
             except Refusal as refusal:
                 raise Refusal(refusal.number if refusal.number == MEMORY else BAD_ACK) from refusal
-            if int.from_bytes(ack[9:17], "big") not in self.waiting():
+            seq = int.from_bytes(ack[9:17], "big")
+            if seq not in self.waiting():
                 return super().accept_ack(ack)
+            message = self.message(seq)
+            if ack[1 : len(message)] != message[1:]:
+                # The record lacks the message, so an acknowledgement of another one must not be recorded.
+                raise Refusal(BAD_ACK)
             with self._given(record) as at:
                 call("node_accept_ack", at, ack, len(ack))
 
